@@ -20,12 +20,12 @@ pub const ERASED_EC: [u8; 64] = *b"UBI#\x01\0\0\0\
     \0\0\0\0\0\0\0\x01\0\0\0\x40\0\0\0\x80\x12\x34\x56\x78\
     \0\0\0\0\0\0\0\0\0\0\0\0\0\0\0\0\0\0\0\0\0\0\0\0\0\0\0\0\0\0\0\0\xf8\xe5\xd1\x5f";
 
-/// Those of other geometries, with counter 0 and no image: where both headers lie in one page of 256 bytes, and where the data
-/// begin where no page has them begin.
+/// That of another geometry, with counter 0 and no image: where both headers lie in one page of 256 bytes.
 pub const SHARED_EC: [u8; 64] = *b"UBI#\x01\0\0\0\
     \0\0\0\0\0\0\0\0\0\0\0\x40\0\0\x01\0\0\0\0\0\
     \0\0\0\0\0\0\0\0\0\0\0\0\0\0\0\0\0\0\0\0\0\0\0\0\0\0\0\0\0\0\0\0\x5d\xda\xa7\x4c";
 
+/// The same where the data begin where no page has them begin.
 pub const NO_PAGE_EC: [u8; 64] = *b"UBI#\x01\0\0\0\
     \0\0\0\0\0\0\0\0\0\0\0\x40\0\0\0\xc0\0\0\0\0\
     \0\0\0\0\0\0\0\0\0\0\0\0\0\0\0\0\0\0\0\0\0\0\0\0\0\0\0\0\0\0\0\0\x24\xd2\xc7\x71";
@@ -35,46 +35,20 @@ pub const VERSION_2: [u8; 64] = *b"UBI#\x02\0\0\0\
     \0\0\0\0\0\0\0\0\0\0\0\x40\0\0\0\x80\x12\x34\x56\x78\
     \0\0\0\0\0\0\0\0\0\0\0\0\0\0\0\0\0\0\0\0\0\0\0\0\0\0\0\0\0\0\0\0\x7d\xcc\xcd\x6a";
 
-/// The headers of the two copies of the volume table.
-pub const COPY_0: [u8; 64] = *b"UBI!\x01\x01\0\x05\
-    \x7f\xff\xef\xff\0\0\0\0\0\0\0\0\0\0\0\0\0\0\0\0\0\0\0\0\0\0\0\0\0\0\0\0\
-    \0\0\0\0\0\0\0\0\0\0\0\0\0\0\0\0\0\0\0\0\xb8\x25\x64\xa8";
-
-pub const COPY_1: [u8; 64] = *b"UBI!\x01\x01\0\x05\
-    \x7f\xff\xef\xff\0\0\0\x01\0\0\0\0\0\0\0\0\0\0\0\0\0\0\0\0\0\0\0\0\0\0\0\0\
-    \0\0\0\0\0\0\0\0\0\0\0\0\0\0\0\0\0\0\0\0\x1b\xb3\x4c\xe4";
-
-/// The headers of the logical eraseblocks 0, 1 and 2 of the dynamic volume 0.
+/// The header of logical eraseblock 0 of the dynamic volume 0.
 pub const LEB_0: [u8; 64] = *b"UBI!\x01\x01\0\0\
     \0\0\0\0\0\0\0\0\0\0\0\0\0\0\0\0\0\0\0\0\0\0\0\0\0\0\0\0\0\0\0\0\
     \0\0\0\0\0\0\0\0\0\0\0\0\0\0\0\0\0\0\0\0\x73\xb1\xab\x57";
 
+/// That of logical eraseblock 1.
 pub const LEB_1: [u8; 64] = *b"UBI!\x01\x01\0\0\
     \0\0\0\0\0\0\0\x01\0\0\0\0\0\0\0\0\0\0\0\0\0\0\0\0\0\0\0\0\0\0\0\0\
     \0\0\0\0\0\0\0\0\0\0\0\0\0\0\0\0\0\0\0\0\xd0\x27\x83\x1b";
 
+/// That of logical eraseblock 2.
 pub const LEB_2: [u8; 64] = *b"UBI!\x01\x01\0\0\
     \0\0\0\0\0\0\0\x02\0\0\0\0\0\0\0\0\0\0\0\0\0\0\0\0\0\0\0\0\0\0\0\0\
     \0\0\0\0\0\0\0\0\0\0\0\0\0\0\0\0\0\0\0\0\xef\xec\xfd\x8e";
-
-/// That of logical eraseblock 0 where 128 bytes are left behind the aligned ones.
-pub const ALIGNED: [u8; 64] = *b"UBI!\x01\x01\0\0\
-    \0\0\0\0\0\0\0\0\0\0\0\0\0\0\0\0\0\0\0\0\0\0\0\x80\0\0\0\0\
-    \0\0\0\0\0\0\0\0\0\0\0\0\0\0\0\0\0\0\0\0\0\0\0\0\x9e\xd3\xd6\xf9";
-
-/// The headers of the two logical eraseblocks of a static volume: of 384 bytes 0x41, and of a byte 0xFF.
-pub const WHOLE_0: [u8; 64] = *b"UBI!\x01\x02\0\0\
-    \0\0\0\0\0\0\0\0\0\0\0\0\0\0\x01\x80\0\0\0\x02\0\0\0\0\xd6\xfb\x30\x26\
-    \0\0\0\0\0\0\0\0\0\0\0\0\0\0\0\0\0\0\0\0\0\0\0\0\xaa\xd6\x69\x2c";
-
-pub const WHOLE_1: [u8; 64] = *b"UBI!\x01\x02\0\0\
-    \0\0\0\0\0\0\0\x01\0\0\0\0\0\0\0\x01\0\0\0\x02\0\0\0\0\0\xff\xff\xff\
-    \0\0\0\0\0\0\0\0\0\0\0\0\0\0\0\0\0\0\0\0\0\0\0\0\xb7\x7e\x48\xcf";
-
-/// The header of the one eraseblock of a damaged volume: one byte, whose check isn't 0.
-pub const DAMAGED: [u8; 64] = *b"UBI!\x01\x02\0\0\
-    \0\0\0\0\0\0\0\0\0\0\0\0\0\0\0\x01\0\0\0\x01\0\0\0\0\0\0\0\0\0\0\0\0\
-    \0\0\0\0\0\0\0\0\0\0\0\0\0\0\0\0\0\0\0\0\xa3\xb7\xf9\x8b";
 
 /// The header of logical eraseblock 1 of volume 0 with copy flag 2.
 pub const COPY_FLAG_2: [u8; 64] = *b"UBI!\x01\x01\x02\0\

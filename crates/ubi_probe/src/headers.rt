@@ -34,6 +34,12 @@ pub const LEB_1: VidHeader = VidHeader { lnum: 1, ..PLAIN };
 /// The header of logical eraseblock 2.
 pub const LEB_2: VidHeader = VidHeader { lnum: 2, ..PLAIN };
 
+/// The header of logical eraseblock 0 of a volume that leaves 128 bytes of each free.
+pub const PADDED: VidHeader = VidHeader {
+    data_pad: 128,
+    ..PLAIN
+};
+
 /// The header of logical eraseblock 0 as a copy of 64 bytes 0x37, with sequence number 7.
 pub const COPY: VidHeader = VidHeader {
     copy_flag: true,
@@ -41,13 +47,6 @@ pub const COPY: VidHeader = VidHeader {
     data_crc: CHECK_OF_37,
     sqnum: 7,
     ..PLAIN
-};
-
-/// The same as a copy of 64 bytes 0x39 with sequence number 9, with a check that is wrong.
-pub const WRONG_COPY: VidHeader = VidHeader {
-    data_crc: WRONG_CHECK_OF_39,
-    sqnum: 9,
-    ..COPY
 };
 
 /// The header of the first copy of the volume table.
@@ -84,15 +83,24 @@ pub const STATIC_1: VidHeader = VidHeader {
     ..STATIC_0
 };
 
-/// The headers of the two logical eraseblocks of a static volume 0 that reads 384 bytes 0x41 and a byte 0xFF.
+/// The header of the first of two logical eraseblocks of a static volume 0 that reads 384 bytes 0x41 and a byte 0xFF.
 pub const PIECE_0: VidHeader = VidHeader {
     data_crc: CHECK_OF_41,
     ..STATIC_0
 };
 
+/// The header of the second.
 pub const PIECE_1: VidHeader = VidHeader {
     lnum: 1,
     data_size: 1,
     data_crc: 0x00FF_FFFF,
     ..PIECE_0
+};
+
+/// The header of the one eraseblock of a damaged volume in a normal image: one byte, whose check isn't 0.
+pub const DAMAGED: VidHeader = VidHeader {
+    used_ebs: 1,
+    data_size: 1,
+    data_crc: 0,
+    ..STATIC_0
 };

@@ -1,5 +1,5 @@
 //! What the tests of several crates stand on: sources and writers that fail where they are told to, and count or keep what
-//! they are asked, a source that changes, and the headers, the records and the texts that images are made of.
+//! they are asked, a source that changes, and the eraseblocks, the headers, the records and the texts that images are made of.
 //!
 //! What the sources and writers answer is said by contracts, so that a test may rest on it. No library stands on this crate,
 //! only tests do.
@@ -9,6 +9,7 @@ mod changing;
 pub mod chips;
 pub mod header_bytes;
 pub mod headers;
+pub mod pebs;
 pub mod records;
 pub mod sealed;
 mod source;

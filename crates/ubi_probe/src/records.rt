@@ -109,6 +109,21 @@ pub const BEHIND: Slot = Slot {
     ..ROOT
 };
 
+/// A dynamic volume `data` of one eraseblock.
+pub const DATA: Slot = Slot {
+    reserved: 1,
+    name: b"data",
+    check: 0x7C57_61B3,
+    ..ROOT
+};
+
+/// One named `name`.
+pub const NAME: Slot = Slot {
+    name: b"name",
+    check: 0x4290_BEC3,
+    ..DATA
+};
+
 /// A static volume of 3 eraseblocks.
 pub const BOOT: Slot = Slot {
     reserved: 3,
@@ -141,7 +156,7 @@ pub const GROWING: Slot = Slot {
     ..BOOT
 };
 
-/// Dynamic volumes of one eraseblock.
+/// A dynamic volume `a` of one eraseblock.
 pub const A: Slot = Slot {
     reserved: 1,
     name_len: 1,
@@ -150,26 +165,28 @@ pub const A: Slot = Slot {
     ..ROOT
 };
 
+/// One named `b`.
 pub const B: Slot = Slot {
     name: b"b",
     check: 0x1455_0176,
     ..A
 };
 
+/// One named `c`.
 pub const C: Slot = Slot {
     name: b"c",
     check: 0x8473_D4C7,
     ..A
 };
 
-/// The first two of these with the most eraseblocks that a record can name. Two such and the table's own eraseblocks are
-/// 2^32.
+/// The first of these with the most eraseblocks that a record can name.
 pub const MOST_A: Slot = Slot {
     reserved: 0x7FFF_FFFF,
     check: 0xAD63_4FE1,
     ..A
 };
 
+/// The second. Both and the table's own eraseblocks are 2^32.
 pub const MOST_B: Slot = Slot {
     reserved: 0x7FFF_FFFF,
     check: 0xC679_3773,

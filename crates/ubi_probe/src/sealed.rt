@@ -2,30 +2,6 @@
 
 use ubi_media::{VidHeader, VolKind};
 
-/// An erase-counter header of eraseblocks of 512 bytes in pages of 64, as it stands: its counter, its image sequence number,
-/// and its check.
-#[derive(Clone, Copy)]
-pub struct SealedEc {
-    pub counter: u32,
-    pub image_seq: u32,
-    pub check: u32,
-}
-
-impl SealedEc {
-    /// The bytes of the header.
-    pub fn bytes(&self) -> [u8; 64] {
-        let mut bytes = [0u8; 64];
-        bytes[..4].copy_from_slice(b"UBI#");
-        bytes[4] = 1;
-        bytes[12..16].copy_from_slice(&self.counter.to_be_bytes());
-        bytes[19] = 64;
-        bytes[23] = 128;
-        bytes[24..28].copy_from_slice(&self.image_seq.to_be_bytes());
-        bytes[60..64].copy_from_slice(&self.check.to_be_bytes());
-        bytes
-    }
-}
-
 /// A volume-identifier header as it stands, with its check.
 #[derive(Clone, Copy)]
 pub struct SealedVid(pub VidHeader, pub u32);

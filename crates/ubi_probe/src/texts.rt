@@ -1,6 +1,6 @@
 //! Texts as bytes that each stand so many times, and what some of them say.
 
-use std::alloc::AllocError;
+use std::alloc::{AllocError, Global};
 
 /// The text that composes the volume `root` of 20 eraseblocks, whose logical eraseblocks 0, 1 and 2 hold 384 bytes 0x41, 0x42
 /// and 0x43. They stand in another order.
@@ -22,4 +22,22 @@ pub fn put_runs(bytes: &mut Vec<u8>, runs: &[(&[u8], usize)]) -> Result<(), Allo
         }
     }
     Ok(())
+}
+
+/// Bytes that each stand so many times.
+///
+/// # Errors
+///
+/// Memory ran out.
+pub fn bytes_of(alloc: Global, runs: &[(&[u8], usize)]) -> Result<Vec<u8>, AllocError> {
+    let mut bytes = Vec::new(alloc);
+    put_runs(&mut bytes, runs)?;
+    Ok(bytes)
+}
+
+/// Writes bytes over others from a place on, as far as there is room.
+pub fn overwrite(bytes: &mut [u8], at: usize, over: &[u8]) {
+    for (old, new) in bytes.iter_mut().skip(at).zip(over) {
+        *old = *new;
+    }
 }

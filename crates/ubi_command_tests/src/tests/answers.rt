@@ -9,14 +9,9 @@ use std::os::unix::fs::FileExt;
 use std::process::Abort;
 use std::test::Fail;
 use ubi_commands::{Disk, Host, Outcome, run_normalise, run_words};
-use ubi_media::{Geometry, GeometryError};
+use ubi_probe::pebs::small;
 use ubi_probe::{Failure, ProbeWriter};
 use ubi_scan::MemorySource;
-
-/// The geometry of small eraseblocks.
-pub fn small() -> Result<Geometry, GeometryError> {
-    Geometry::new(512, 64, 64, 128, 32)
-}
 
 /// Whether a command answered a text and an exit status.
 pub fn is_answer(outcome: &Outcome, (text, status): (&str, u8)) -> bool {
@@ -32,18 +27,19 @@ pub fn is_normal(alloc: Global, image: &[u8], line: (&str, u8), want: &[u8]) -> 
     Ok(is_answer(&answer, line) && answer.file.is_none() && writer.taken() == want)
 }
 
-/// Runs the words of a line over a disk, with the program's name before them.
+/// Runs the words of a line over a disk, with the program's name before them. Somebody may watch.
 pub fn run_on<D: Disk + Eprint>(
     disk: &mut D,
     alloc: Global,
     line: &str,
+    is_watched: bool,
 ) -> Result<Outcome, AllocError> {
     let mut words = Vec::new(alloc);
     words.push(String::from_str(alloc, "ubi_tool")?)?;
     for word in line.split_whitespace() {
         words.push(String::from_str(alloc, word)?)?;
     }
-    run_words(disk, alloc, words.as_slice(), false)
+    run_words(disk, alloc, words.as_slice(), is_watched)
 }
 
 /// Runs the words of a line over files, with the program's name before them.
@@ -55,7 +51,7 @@ pub fn run_line<R: Files + Eprint>(
 where
     R::File: FileExt,
 {
-    run_on(&mut Host::new(files), alloc, line)
+    run_on(&mut Host::new(files), alloc, line, false)
 }
 
 /// Asserts what the words of a line answer over files. Where they name no geometry, it is that of small eraseblocks.
@@ -68,17 +64,20 @@ pub fn assert_line<R: Files + Eprint + Abort>(
 where
     R::File: FileExt,
 {
-    let outcome = run_line(rt, alloc, with_sizes(alloc, line)?.as_str())?;
+    let outcome = run_line(rt, alloc, with_sizes(alloc, line, SMALL_SIZES)?.as_str())?;
     assert!(*rt; is_answer(&outcome, answer), "of {line}");
     Ok(())
 }
 
-/// The words of a line, and those of the geometry of small eraseblocks, where they name none and the command takes one.
-pub fn with_sizes(alloc: Global, line: &str) -> Result<String, AllocError> {
+/// The words of the geometry of small eraseblocks.
+pub const SMALL_SIZES: &str = "--peb 512 --page 64 --pebs 32";
+
+/// The words of a line, and those of a geometry, where they name none and the command takes one.
+pub fn with_sizes(alloc: Global, line: &str, sizes: &str) -> Result<String, AllocError> {
     if line.contains("--peb ") || line.starts_with("geometry ") {
         return String::from_str(alloc, line);
     }
-    format!(in alloc; "{line} --peb 512 --page 64 --pebs 32")
+    format!(in alloc; "{line} {sizes}")
 }
 
 /// What a line answers, as [`assert_line`] runs it, over files that fail as they are told to, and of which each but
@@ -89,7 +88,12 @@ pub fn run_over(
     broken: Broken,
     line: &str,
 ) -> Result<(Outcome, Vec<u8>), Fail> {
-    run_own(alloc, files, broken, with_sizes(alloc, line)?.as_str())
+    run_own(
+        alloc,
+        files,
+        broken,
+        with_sizes(alloc, line, SMALL_SIZES)?.as_str(),
+    )
 }
 
 /// The same of a line as it is: where it names no geometry, that is found.
@@ -115,20 +119,70 @@ pub fn run_own(
     }
 }
 
-/// Asserts what is answered and written so.
+/// Whether two runs answered and wrote the same.
+pub fn are_one(answer: &(Outcome, Vec<u8>), other: &(Outcome, Vec<u8>)) -> bool {
+    answer.0.text == other.0.text && answer.0.status == other.0.status && answer.1 == other.1
+}
+
+/// Asserts that the words of a line are wrong: nothing is printed and no file is opened, and standard error says why.
+pub fn assert_wrong(rt: &impl Abort, alloc: Global, line: &str, why: &str) -> Result<(), Fail> {
+    let left = Left::new(alloc);
+    let image = Contents::Spare.bytes(alloc)?;
+    let files = FakeFiles::of(image.as_slice(), Broken::Nothing, &left);
+    let outcome = run_line(
+        &files,
+        alloc,
+        with_sizes(alloc, line, SMALL_SIZES)?.as_str(),
+    )?;
+    let is_shown = left.shown.into_inner().as_str().contains(why);
+    let is_untouched = left.written.into_inner().is_empty() && left.opened.into_inner().is_empty();
+    assert!(*rt;
+        is_answer(&outcome, ("", 2)) && is_shown && is_untouched,
+        "of {line}"
+    );
+    Ok(())
+}
+
+/// Asserts what a line as it is answers and writes.
+fn assert_answer(
+    rt: &impl Abort,
+    alloc: Global,
+    files: (&[u8], &[u8]),
+    broken: Broken,
+    line: &str,
+    (text, status, output): (&[u8], u8, &[u8]),
+) -> Result<(), Fail> {
+    let (outcome, written) = run_own(alloc, files, broken, line)?;
+    let is = outcome.text.as_slice() == text && outcome.status == status;
+    assert!(*rt; is && written.as_slice() == output, "of {line}, {broken:?}");
+    Ok(())
+}
+
+/// Asserts it over files that are read at places, and over those that can't be.
+pub fn assert_own(
+    rt: &impl Abort,
+    alloc: Global,
+    files: (&[u8], &[u8]),
+    line: &str,
+    answer: (&[u8], u8, &[u8]),
+) -> Result<(), Fail> {
+    assert_answer(rt, alloc, files, Broken::Nothing, line, answer)?;
+    assert_answer(rt, alloc, files, Broken::Places, line, answer)
+}
+
+/// Asserts what a line of small eraseblocks answers and writes.
 pub fn assert_over(
     rt: &impl Abort,
     alloc: Global,
     files: (&[u8], &[u8]),
     broken: Broken,
     line: &str,
-    answer: (&str, u8),
+    (text, status): (&str, u8),
     output: &[u8],
 ) -> Result<(), Fail> {
-    let (outcome, written) = run_over(alloc, files, broken, line)?;
-    let is = is_answer(&outcome, answer) && written.as_slice() == output;
-    assert!(*rt; is, "of {line}, {broken:?}");
-    Ok(())
+    let line = with_sizes(alloc, line, SMALL_SIZES)?;
+    let answer = (text.as_bytes(), status, output);
+    assert_answer(rt, alloc, files, broken, line.as_str(), answer)
 }
 
 /// Asserts it over files that are read at places, and over those that can't be.
@@ -137,11 +191,17 @@ pub fn assert_both(
     alloc: Global,
     files: (&[u8], &[u8]),
     line: &str,
-    answer: (&str, u8),
+    (text, status): (&str, u8),
     output: &[u8],
 ) -> Result<(), Fail> {
-    assert_over(rt, alloc, files, Broken::Nothing, line, answer, output)?;
-    assert_over(rt, alloc, files, Broken::Places, line, answer, output)
+    let line = with_sizes(alloc, line, SMALL_SIZES)?;
+    assert_own(
+        rt,
+        alloc,
+        files,
+        line.as_str(),
+        (text.as_bytes(), status, output),
+    )
 }
 
 /// A line over files that each hold an image, but `new.bin`, which holds other bytes.

@@ -1,13 +1,17 @@
 //! Eraseblocks that are listed as bad: which ones a word lists, what is read where they are, and what is planned beside them.
 
-use super::answers::{Run, assert_over, assert_runs, is_answer, run_line, run_over};
-use super::contents::{Contents, overwrite};
-use super::fake::{Broken, FakeFiles, Left};
-use super::pebs::{A, B, C, ERASED, FIRST, FREE, OLD, Peb, SECOND, TORN};
+use super::answers::{
+    Run, SMALL_SIZES, assert_over, assert_own, assert_runs, assert_wrong, is_answer, run_over,
+};
+use super::contents::Contents;
+use super::fake::Broken;
+use super::shown::{CHANGED, CHANGED_IN_BLANK};
 use std::alloc::Global;
 use std::process::Abort;
 use std::test::Fail;
 use ubi_probe::header_bytes::{COPY_OF_64, ERASED_EC};
+use ubi_probe::pebs::{A, B, C, ERASED, FIRST, FREE, OLD, Peb, SECOND, TORN};
+use ubi_probe::texts::overwrite;
 
 /// Words that list eraseblocks, and of the first five eraseblocks whether each is listed.
 static LISTS: [(&str, &str); 16] = [
@@ -80,31 +84,13 @@ static NO_LISTS: [&str; 20] = [
     "99999999999999999999999999",
 ];
 
-/// Asserts that the words of a line are wrong: nothing is printed and no file is written, and standard error says why.
-fn assert_wrong(rt: &impl Abort, alloc: Global, line: &str, why: &str) -> Result<(), Fail> {
-    let left = Left::new(alloc);
-    let image = Contents::Spare.bytes(alloc)?;
-    let files = FakeFiles::of(image.as_slice(), Broken::Nothing, &left);
-    let line = format!(in alloc; "{line} --peb 512 --page 64 --pebs 32")?;
-    let outcome = run_line(&files, alloc, line.as_str())?;
-    let is_shown = left.shown.into_inner().as_str().contains(why);
-    let is_untouched = left.written.into_inner().is_empty() && left.opened.into_inner().is_empty();
-    let is = is_answer(&outcome, ("", 2)) && is_shown && is_untouched;
-    assert!(*rt; is, "of {line}");
-    Ok(())
-}
-
 #[test]
 fn takes_no_word_that_is_no_list(rt: HostRuntime) -> Result<(), Fail> {
     let alloc = rt.alloc();
     for word in NO_LISTS {
         let line = format!(in alloc; "list a.img --bad={word}")?;
-        assert_wrong(
-            &rt,
-            alloc,
-            line.as_str(),
-            "'--bad <LIST>' takes numbers of eraseblocks",
-        )?;
+        let why = "'--bad <LIST>' takes numbers of eraseblocks";
+        assert_wrong(&rt, alloc, line.as_str(), why)?;
     }
     let line = "change a.img --id 0 --lnum 1 --from a.img --out b --blank=no";
     assert_wrong(&rt, alloc, line, "'--blank' takes the word keep")?;
@@ -198,14 +184,10 @@ fn assert_seen(
     line: &str,
 ) -> Result<(), Fail> {
     let new = [0x61; 64];
-    let listed = format!(in alloc; "{line} --bad {list}")?;
     let (want, output) = run_over(alloc, (seen, &new), Broken::Nothing, line)?;
-    for broken in [Broken::Nothing, Broken::Places] {
-        let (answer, written) = run_over(alloc, (image, &new), broken, listed.as_str())?;
-        let is = answer.text == want.text && answer.status == want.status && written == output;
-        assert!(*rt; is, "of {listed}, {broken:?}");
-    }
-    Ok(())
+    let listed = format!(in alloc; "{line} --bad {list} {SMALL_SIZES}")?;
+    let answer = (want.text.as_slice(), want.status, output.as_slice());
+    assert_own(rt, alloc, (image, &new), listed.as_str(), answer)
 }
 
 #[test]
@@ -229,11 +211,7 @@ const NOT_YET: Run = Run {
     image: Contents::Spares,
     new: NEW,
     line: "change a.img --id 0 --lnum 1 --from new.bin --out b.img --stop 0",
-    answer: (
-        "steps 4\nprogram block=5 page=1\nprogram block=5 page=2\n\
-            erase block=3\nprogram block=3 page=0\n",
-        0,
-    ),
+    answer: (CHANGED, 0),
     output: Contents::Spares,
 };
 
@@ -249,11 +227,7 @@ const IN_NEXT: Run = Run {
 
 /// The same in a Blank one.
 const IN_BLANK: Run = Run {
-    answer: (
-        "steps 6\nerase block=5\nprogram block=5 page=0\nprogram block=5 page=1\n\
-            program block=5 page=2\nerase block=3\nprogram block=3 page=0\n",
-        0,
-    ),
+    answer: (CHANGED_IN_BLANK, 0),
     ..NOT_YET
 };
 

@@ -3,9 +3,7 @@
 use super::answers::{assert_over, is_answer, run_over};
 use super::contents::{Contents, EMPTY};
 use super::fake::Broken;
-use std::alloc::Global;
 use std::io::ErrorKind;
-use std::process::Abort;
 use std::test::Fail;
 
 /// The config of the volume `root`, whose contents are those of `new.bin`.
@@ -47,18 +45,6 @@ static WAYS: [(Broken, (&str, u8), usize); 14] = [
     (Broken::Write(700), UNWRITTEN, 700),
     (Broken::WriteOnce(1600), UNWRITTEN, 1600),
 ];
-
-#[test]
-fn builds_of_files_or_tells_which_fails(rt: HostRuntime) -> Result<(), Fail> {
-    let alloc = rt.alloc();
-    let (content, image) = (CONTENT.bytes(alloc)?, Contents::NormalRoot.bytes(alloc)?);
-    for (broken, answer, count) in &WAYS {
-        let written = image.as_slice().get(..*count).ok_or("short")?;
-        let files = (CONFIG, content.as_slice());
-        assert_over(&rt, alloc, files, *broken, LINE, *answer, written)?;
-    }
-    Ok(())
-}
 
 /// Configs of two volumes, of which one's file is `new.bin`, and how many bytes are written until a read of that fails. The other
 /// file holds what the config does.
@@ -163,29 +149,19 @@ static REFUSED: [(&[u8], Contents, (&str, u8)); 14] = [
     ),
 ];
 
-/// Asserts that a config is refused so, and nothing written.
-fn assert_refused(
-    rt: &impl Abort,
-    alloc: Global,
-    config: &[u8],
-    content: Contents,
-    answer: (&str, u8),
-) -> Result<(), Fail> {
-    let content = content.bytes(alloc)?;
-    let files = (config, content.as_slice());
-    let (outcome, written) = run_over(alloc, files, Broken::Nothing, LINE)?;
-    assert!(*rt;
-        is_answer(&outcome, answer) && written.is_empty(),
-        "{}",
-        answer.0
-    );
-    Ok(())
-}
-
 #[test]
-fn tells_why_a_config_is_refused(rt: HostRuntime) -> Result<(), Fail> {
+fn builds_of_files_or_tells_why_not(rt: HostRuntime) -> Result<(), Fail> {
+    let alloc = rt.alloc();
+    let (content, image) = (CONTENT.bytes(alloc)?, Contents::NormalRoot.bytes(alloc)?);
+    for (broken, answer, count) in &WAYS {
+        let written = image.as_slice().get(..*count).ok_or("short")?;
+        let files = (CONFIG, content.as_slice());
+        assert_over(&rt, alloc, files, *broken, LINE, *answer, written)?;
+    }
     for (config, content, answer) in &REFUSED {
-        assert_refused(&rt, rt.alloc(), config, *content, *answer)?;
+        let content = content.bytes(alloc)?;
+        let files = (*config, content.as_slice());
+        assert_over(&rt, alloc, files, Broken::Nothing, LINE, *answer, &[])?;
     }
     Ok(())
 }

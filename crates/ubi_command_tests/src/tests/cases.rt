@@ -1,9 +1,8 @@
 //! Images with what they are normalised to, over every sort of source.
 
-use super::answers::{is_answer, is_normal, run_over, small};
-use super::contents::{Contents, EMPTY};
+use super::answers::{is_answer, is_normal, run_over};
+use super::contents::Contents;
 use super::fake::Broken;
-use super::pebs::Peb;
 use std::alloc::Global;
 use std::fs;
 use std::fs::Files;
@@ -12,6 +11,7 @@ use std::process::Abort;
 use std::test::Fail;
 use ubi_compose::normalise_to;
 use ubi_media::Refusal;
+use ubi_probe::pebs::{Peb, small, small_image};
 use ubi_probe::{Failure, ProbeSource, ProbeWriter};
 use ubi_scan::{BlockSource, FileSource, StreamError};
 use ubi_volume::attach_places;
@@ -37,32 +37,11 @@ pub struct Case {
 }
 
 impl Case {
-    /// Its image.
-    fn image(&self) -> Contents {
-        Contents::Pebs(self.pebs, self.over)
-    }
-
-    /// Its line and the exit status.
-    fn line(&self) -> (&'static str, u8) {
+    /// Its line and the exit status, and what is written.
+    fn answer(&self) -> ((&'static str, u8), &'static [Peb]) {
         match self.answer {
-            Answer::Normal(line, _) => (line, 0),
-            Answer::Refused(line, _) => (line, 1),
-        }
-    }
-
-    /// What is written.
-    fn normal(&self) -> Contents {
-        match self.answer {
-            Answer::Normal(_, pebs) => Contents::Pebs(pebs, &[]),
-            Answer::Refused(..) => EMPTY,
-        }
-    }
-
-    /// Whether a source is normalised to so many bytes, or refused for its cause.
-    fn is_answer(&self, answer: Result<u64, StreamError>, written: usize) -> bool {
-        match self.answer {
-            Answer::Normal(..) => answer == Ok(written as u64),
-            Answer::Refused(_, cause) => answer == Err(StreamError::Refused(cause)),
+            Answer::Normal(line, pebs) => ((line, 0), pebs),
+            Answer::Refused(line, _) => ((line, 1), &[]),
         }
     }
 
@@ -74,8 +53,12 @@ impl Case {
         want: &[u8],
     ) -> Result<bool, Fail> {
         let mut writer = ProbeWriter::new(alloc, 4096, 100, Failure::Nothing)?;
-        let answer = normalise_to(alloc, &small()?, source, &mut writer);
-        Ok(self.is_answer(answer, want.len()) && writer.taken() == want)
+        let answer = match self.answer {
+            Answer::Normal(..) => Ok(want.len() as u64),
+            Answer::Refused(_, cause) => Err(StreamError::Refused(cause)),
+        };
+        let is = normalise_to(alloc, &small()?, source, &mut writer) == answer;
+        Ok(is && writer.taken() == want)
     }
 
     /// Whether it is so where reads are counted. Each begins and ends in one eraseblock, and there are 7 of each at
@@ -146,12 +129,13 @@ fn is_everywhere<R: Files>(
 where
     R::File: FileExt,
 {
+    let (line, _) = case.answer();
     Ok(
         case.is_read_little(alloc, image, want)?
             && case.is_checked(alloc, image)?
             && case.is_file(rt, alloc, path, image, want)?
-            && is_given(alloc, image, case.line(), want)?
-            && (want.is_empty() || is_normal(alloc, want, case.line(), want)?),
+            && is_given(alloc, image, line, want)?
+            && (want.is_empty() || is_normal(alloc, want, line, want)?),
     )
 }
 
@@ -166,7 +150,9 @@ where
     R::File: FileExt,
 {
     for case in cases {
-        let (image, want) = (case.image().bytes(alloc)?, case.normal().bytes(alloc)?);
+        let (_, normal) = case.answer();
+        let image = Contents::Pebs(case.pebs, case.over).bytes(alloc)?;
+        let want = small_image(alloc, normal)?;
         let is = is_everywhere(rt, alloc, path, case, (image.as_slice(), want.as_slice()))?;
         assert!(*rt; is, "{}", case.what);
     }

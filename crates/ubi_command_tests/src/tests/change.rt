@@ -3,15 +3,26 @@
 use super::answers::assert_over;
 use super::contents::{Contents, EMPTY};
 use super::fake::Broken;
-use super::pebs::{
-    A, B, C, C_LAST, C_LAST_BUT_1, COUNTED_OLD, ERASED, FIRST, FREE, RIGHT, SECOND, WORN_OUT_B,
-    WRONG_9,
-};
 use super::plans::{Plan, Reading, assert_plans};
+use super::shown::{CHANGED, CHANGED_IN_BLANK};
 use std::alloc::Global;
 use std::process::Abort;
 use std::test::Fail;
-use ubi_probe::header_bytes::{COPY_0, COPY_1, COPY_OF_64, ERASED_EC, LEB_0, OTHER_EC};
+use ubi_probe::header_bytes::{COPY_OF_64, ERASED_EC, OTHER_EC};
+use ubi_probe::pebs::{
+    A, B, C, C_LAST, C_LAST_BUT_1, COPY_0, COPY_1, Data, ERASED, Ec, FIRST, FREE, IMAGE, LEB_0,
+    NEW, NEW_FREE, Peb, RIGHT, SECOND, Vid, WRONG_9,
+};
+use ubi_probe::records::ROOT;
+
+/// A member with erase counter 4 in no image, and logical eraseblock 1 in an eraseblock that can't be erased any more.
+const COUNTED_OLD: Peb = Peb(Ec::Of(4, 0), Vid::Leb(0, 0, 5), Data::Fill(b'5', 384));
+
+const WORN_OUT_B: Peb = Peb(
+    Ec::Of(0x7FFF_FFFF, IMAGE),
+    Vid::Leb(0, 1, 0),
+    Data::Fill(b'B', 384),
+);
 
 /// Logical eraseblock 1 of `root` is changed by two pages.
 const TWO_PAGES: Plan = Plan {
@@ -57,8 +68,7 @@ const PAGE_OF_61: Contents = Contents::Runs(&[(b"a", 64)]);
 /// It is changed by one page, so that the text has 64 bytes 0x61, and 0xFF behind them.
 const ONE_PAGE: Plan = Plan {
     new: PAGE_OF_61,
-    lines: "steps 4\nprogram block=5 page=1\nprogram block=5 page=2\n\
-        erase block=3\nprogram block=3 page=0\n",
+    lines: CHANGED,
     turn: 2,
     count: 4,
     steps: &[
@@ -85,6 +95,7 @@ const ONE_PAGE_READ: &[Reading] = &[Reading {
     ),
 }];
 
+/// The turn comes with the last page that isn't blank.
 static TURNS: [Plan; 5] = [
     TWO_PAGES,
     ONE_PAGE,
@@ -141,51 +152,13 @@ static TURNS: [Plan; 5] = [
     },
 ];
 
-/// Eraseblocks of 1,024 bytes whose headers share the first of their 4 pages: a table of four slots with the volume
-/// `root`, its logical eraseblock 0, and a clean free one.
-const WIDE: Contents = Contents::Runs(&[
-    (WIDE_EC, 1),
-    (&COPY_0, 1),
-    (b"\xFF", 128),
-    (b"\0\0\0\x14\0\0\0\x01\0\0\0\0\x01\0\0\x04root", 1),
-    (b"\0", 148),
-    (b"\x71\xDF\xB1\x1D", 1),
-    (b"\0", 168),
-    (b"\xF1\x16\xC3\x6B", 1),
-    (b"\0", 168),
-    (b"\xF1\x16\xC3\x6B", 1),
-    (b"\0", 168),
-    (b"\xF1\x16\xC3\x6B", 1),
-    (b"\xFF", 80),
-    (WIDE_EC, 1),
-    (&COPY_1, 1),
-    (b"\xFF", 128),
-    (b"\0\0\0\x14\0\0\0\x01\0\0\0\0\x01\0\0\x04root", 1),
-    (b"\0", 148),
-    (b"\x71\xDF\xB1\x1D", 1),
-    (b"\0", 168),
-    (b"\xF1\x16\xC3\x6B", 1),
-    (b"\0", 168),
-    (b"\xF1\x16\xC3\x6B", 1),
-    (b"\0", 168),
-    (b"\xF1\x16\xC3\x6B", 1),
-    (b"\xFF", 80),
-    (WIDE_EC, 1),
-    (&LEB_0, 1),
-    (b"\xFF", 128),
-    (b"A", 768),
-    (WIDE_EC, 1),
-    (b"\xFF", 960),
+/// A table of four slots with the volume `root`, its logical eraseblock 0, and a clean free eraseblock.
+const WIDE: Contents = Contents::Wide(&[
+    Peb(NEW, COPY_0, Data::Table(&[ROOT])),
+    Peb(NEW, COPY_1, Data::Table(&[ROOT])),
+    Peb(NEW, LEB_0, Data::Fill(b'A', 768)),
+    NEW_FREE,
 ]);
-
-const WIDE_EC: &[u8] = b"UBI#\x01\0\0\0\
-    \0\0\0\0\0\0\0\0\0\0\0\x40\0\0\x01\0\0\0\0\0\
-    \0\0\0\0\0\0\0\0\0\0\0\0\0\0\0\0\0\0\0\0\0\0\0\0\0\0\0\0\0\0\0\0\x5D\xDA\xA7\x4C";
-
-#[test]
-fn turns_at_the_last_page_that_is_not_blank(rt: HostRuntime) -> Result<(), Fail> {
-    assert_plans(&rt, rt.alloc(), &TURNS)
-}
 
 /// The image whose only eraseblock with a number, 8, is that of logical eraseblock 1, and behind it a clean free one.
 /// The old eraseblock stays, so that it is stale.
@@ -204,6 +177,7 @@ const NAMED_ONCE: Plan = Plan {
     ..ONE_PAGE
 };
 
+/// What must not be erased is left.
 static LEFT: [Plan; 3] = [
     NAMED_ONCE,
     // The free eraseblock is blank, and is made ready before.
@@ -233,11 +207,6 @@ static LEFT: [Plan; 3] = [
     },
 ];
 
-#[test]
-fn leaves_what_must_not_be_erased(rt: HostRuntime) -> Result<(), Fail> {
-    assert_plans(&rt, rt.alloc(), &LEFT)
-}
-
 /// The header of logical eraseblock 7, and that of a copy of it that is 64 bytes 0x61.
 const PLAIN_7: &[u8] = b"UBI!\x01\x01\0\0\
     \0\0\0\0\0\0\0\x07\0\0\0\0\0\0\0\0\0\0\0\0\0\0\0\0\0\0\0\0\
@@ -247,12 +216,12 @@ const COPY_7: &[u8] = b"UBI!\x01\x01\x01\0\
     \0\0\0\0\0\0\0\x07\0\0\0\0\0\0\0\x40\0\0\0\0\0\0\0\0\x76\x4B\x9A\xAA\
     \0\0\0\0\0\0\0\0\0\0\0\x02\0\0\0\0\0\0\0\0\0\0\0\0\x12\xC3\x42\x72";
 
+/// An eraseblock is taken that is free.
 static FOUND: [Plan; 4] = [
     // A blank eraseblock is made ready.
     Plan {
         image: Contents::Pebs(&[FIRST, SECOND, A, B, C, ERASED], &[]),
-        lines: "steps 6\nerase block=5\nprogram block=5 page=0\nprogram block=5 page=1\n\
-            program block=5 page=2\nerase block=3\nprogram block=3 page=0\n",
+        lines: CHANGED_IN_BLANK,
         turn: 4,
         count: 6,
         steps: &[],
@@ -320,8 +289,11 @@ const LAST_NUMBER: Contents = Contents::Pebs(&[FIRST, SECOND, A, B, C_LAST_BUT_1
 const NO_NUMBER: Contents = Contents::Pebs(&[FIRST, SECOND, A, B, C_LAST, FREE], &[]);
 
 #[test]
-fn takes_an_eraseblock_that_is_free(rt: HostRuntime) -> Result<(), Fail> {
-    assert_plans(&rt, rt.alloc(), &FOUND)
+fn changes_at_a_turn(rt: HostRuntime) -> Result<(), Fail> {
+    for plans in [TURNS.as_slice(), LEFT.as_slice(), FOUND.as_slice()] {
+        assert_plans(&rt, rt.alloc(), plans)?;
+    }
+    Ok(())
 }
 
 /// A change that isn't planned: the image, what it is changed to, the words of the place, and the line.
@@ -425,32 +397,32 @@ static REFUSED: [Refused; 16] = [
 ];
 
 /// Asserts that a change isn't planned, whether or not it is to be cut.
-fn assert_refused(
-    rt: &impl Abort,
-    alloc: Global,
-    files: (&[u8], &[u8]),
-    case: &Refused,
-) -> Result<(), Fail> {
-    let words = format!(in alloc; "change a.img {} --from new.bin --out b.img", case.place)?;
-    let cut = format!(in alloc; "{words} --stop 0")?;
-    let answer = (case.line, 1);
-    assert_over(
-        rt,
-        alloc,
-        files,
-        Broken::Nothing,
-        words.as_str(),
-        answer,
-        &[],
-    )?;
-    assert_over(rt, alloc, files, Broken::Nothing, cut.as_str(), answer, &[])
+fn assert_refused(rt: &impl Abort, alloc: Global, case: &Refused) -> Result<(), Fail> {
+    let (image, new) = (case.image.bytes(alloc)?, case.new.bytes(alloc)?);
+    let files = (image.as_slice(), new.as_slice());
+    for cut in ["", " --stop 0"] {
+        let line = format!(in alloc;
+            "change a.img {} --from new.bin --out b.img{cut}",
+            case.place
+        )?;
+        let answer = (case.line, 1);
+        assert_over(
+            rt,
+            alloc,
+            files,
+            Broken::Nothing,
+            line.as_str(),
+            answer,
+            &[],
+        )?;
+    }
+    Ok(())
 }
 
 #[test]
 fn refuses_changes(rt: HostRuntime) -> Result<(), Fail> {
     for case in &REFUSED {
-        let (image, new) = (case.image.bytes(rt.alloc())?, case.new.bytes(rt.alloc())?);
-        assert_refused(&rt, rt.alloc(), (image.as_slice(), new.as_slice()), case)?;
+        assert_refused(&rt, rt.alloc(), case)?;
     }
     Ok(())
 }

@@ -1,14 +1,6 @@
 //! Sources that change while they are read.
 
-use super::answers::small;
-use super::contents::Contents;
-use super::pebs::{
-    A, B, C, ERASED, FIRST, FIRST_BOOT, FIRST_OF_5, FIRST_UPDATING, NEWER_0, NEWER_1, OLD, Peb,
-    RIGHT, SECOND, SECOND_BOOT, SECOND_OF_6, SECOND_UPDATING, TEXT_0, TEXT_1, TORN, WRONG_6,
-    WRONG_9,
-};
 use std::alloc::Global;
-use std::process::Abort;
 use std::test::Fail;
 use ubi_change::Avoided;
 use ubi_commands::{
@@ -16,6 +8,11 @@ use ubi_commands::{
     run_rename, run_rename_from, run_same, run_same_from,
 };
 use ubi_compose::normalise_to;
+use ubi_probe::pebs::{
+    A, B, BOOT_0, BOOT_1, C, ERASED, FIRST, FIRST_BOOT, FIRST_OF_5, FIRST_UPDATING, NEWER_BOOT_0,
+    NEWER_BOOT_1, OLD, Peb, RIGHT, SECOND, SECOND_BOOT, SECOND_OF_6, SECOND_UPDATING, TORN,
+    WRONG_6, WRONG_9, small, small_image,
+};
 use ubi_probe::{ChangingSource, Failure, ProbeWriter};
 use ubi_scan::{MemorySource, StreamError};
 use ubi_volume::{Places, attach_places};
@@ -66,20 +63,27 @@ static CHANGES: [(&[Peb], &[Peb]); 8] = [
         &[FIRST, SECOND, WRONG_9, WRONG_6, OLD],
     ),
     (
-        &[FIRST_BOOT, SECOND_BOOT, TEXT_0, TEXT_1],
-        &[FIRST_BOOT, SECOND_BOOT, TEXT_1, TEXT_0],
+        &[FIRST_BOOT, SECOND_BOOT, BOOT_0, BOOT_1],
+        &[FIRST_BOOT, SECOND_BOOT, BOOT_1, BOOT_0],
     ),
     (
-        &[FIRST_BOOT, SECOND_BOOT, NEWER_0, TEXT_0, TEXT_1, NEWER_1],
+        &[
+            FIRST_BOOT,
+            SECOND_BOOT,
+            NEWER_BOOT_0,
+            BOOT_0,
+            BOOT_1,
+            NEWER_BOOT_1,
+        ],
         &[FIRST_BOOT, SECOND_BOOT, FIRST_OF_5, SECOND_OF_6, A, B],
     ),
     (
-        &[FIRST_BOOT, SECOND_BOOT, TEXT_0, TEXT_1],
+        &[FIRST_BOOT, SECOND_BOOT, BOOT_0, BOOT_1],
         &[FIRST, SECOND, A, B],
     ),
     (
         &[FIRST_UPDATING, SECOND_UPDATING, FIRST_OF_5, SECOND_OF_6],
-        &[FIRST_BOOT, SECOND_BOOT, TEXT_0, TEXT_1],
+        &[FIRST_BOOT, SECOND_BOOT, BOOT_0, BOOT_1],
     ),
 ];
 
@@ -211,15 +215,15 @@ static EDITED: [(&[Peb], &[Peb]); 4] = [
         &[
             FIRST_BOOT,
             SECOND_BOOT,
-            TEXT_0,
-            TEXT_1,
+            BOOT_0,
+            BOOT_1,
             ERASED,
             ERASED,
             TORN,
         ],
     ),
     (
-        &[FIRST_BOOT, SECOND_BOOT, TEXT_0, TEXT_1, ERASED, ERASED],
+        &[FIRST_BOOT, SECOND_BOOT, BOOT_0, BOOT_1, ERASED, ERASED],
         &[FIRST, SECOND, A, B, C, ERASED],
     ),
     (
@@ -228,58 +232,34 @@ static EDITED: [(&[Peb], &[Peb]); 4] = [
     ),
 ];
 
-/// What is asked of a source that changes.
-#[derive(Clone, Copy)]
-enum Work {
-    /// To be changed and renamed.
-    Edit,
-    /// To be told of.
-    Answer,
-}
-
-impl Work {
-    /// Whether it has an answer after so many reads.
-    fn is_done(self, alloc: Global, first: &[u8], then: &[u8], left: u64) -> Result<bool, Fail> {
-        match self {
-            Work::Edit => is_edited(alloc, first, then, left),
-            Work::Answer => are_answered(alloc, first, then, left),
-        }
-    }
-
-    /// A number of reads below which a source changes. From there on it is as one that doesn't: no eraseblock is read more than
-    /// 12 times to be edited, and more than 7 times to be told of.
-    fn most(self) -> u64 {
-        match self {
-            Work::Edit => 100,
-            Work::Answer => 50,
-        }
-    }
-}
-
-/// Asserts it of images, each after each number of reads.
-fn assert_done(
-    rt: &impl Abort,
-    alloc: Global,
-    work: Work,
-    changes: &[(&'static [Peb], &'static [Peb])],
-) -> Result<(), Fail> {
-    for (first, then) in changes {
-        let first = Contents::Pebs(first, &[]).bytes(alloc)?;
-        let then = Contents::Pebs(then, &[]).bytes(alloc)?;
-        for left in 0..work.most() {
-            let is = work.is_done(alloc, first.as_slice(), then.as_slice(), left)?;
-            assert!(*rt; is, "after {left} reads");
+/// To be edited no eraseblock is read more than 12 times, so that after 99 reads it is as of one that doesn't change.
+#[test]
+fn edits_a_source_that_changes(rt: HostRuntime) -> Result<(), Fail> {
+    for (first, then) in &EDITED {
+        let (first, then) = (
+            small_image(rt.alloc(), first)?,
+            small_image(rt.alloc(), then)?,
+        );
+        for left in 0..100 {
+            let is = is_edited(rt.alloc(), first.as_slice(), then.as_slice(), left)?;
+            assert!(rt; is, "after {left} reads");
         }
     }
     Ok(())
 }
 
-#[test]
-fn edits_a_source_that_changes(rt: HostRuntime) -> Result<(), Fail> {
-    assert_done(&rt, rt.alloc(), Work::Edit, &EDITED)
-}
-
+/// To be told of none is read more than 7 times.
 #[test]
 fn answers_of_a_source_that_changes(rt: HostRuntime) -> Result<(), Fail> {
-    assert_done(&rt, rt.alloc(), Work::Answer, &CHANGES)
+    for (first, then) in &CHANGES {
+        let (first, then) = (
+            small_image(rt.alloc(), first)?,
+            small_image(rt.alloc(), then)?,
+        );
+        for left in 0..50 {
+            let is = are_answered(rt.alloc(), first.as_slice(), then.as_slice(), left)?;
+            assert!(rt; is, "after {left} reads");
+        }
+    }
+    Ok(())
 }

@@ -3,9 +3,9 @@
 use super::answers::{Run, assert_over, assert_runs};
 use super::contents::{Contents, EMPTY};
 use super::fake::Broken;
-use super::pebs::{ERASED, Ec, Peb, ROOT_FIRST, ROOT_SECOND};
 use std::test::Fail;
 use ubi_probe::header_bytes::EC;
+use ubi_probe::pebs::{ROOT_FIRST, ROOT_SECOND, UNNAMED_FREE as S};
 use ubi_probe::texts::ROOT_TEXT;
 
 /// A text without a line.
@@ -88,16 +88,6 @@ static COMPOSED: [Run; 10] = [
     },
 ];
 
-#[test]
-fn composes_texts(rt: HostRuntime) -> Result<(), Fail> {
-    assert_runs(&rt, rt.alloc(), &COMPOSED)
-}
-
-const S: Peb = Peb {
-    ec: Ec::Unnamed,
-    ..ERASED
-};
-
 /// A text whose image has room for 30 spare eraseblocks.
 const FULL: Run = Run {
     image: Contents::Runs(&[(b"volume 0 dynamic 20 1 00 root", 1)]),
@@ -158,11 +148,6 @@ static ROOM: [Run; 3] = [
         ..FULL
     },
 ];
-
-#[test]
-fn refuses_what_has_no_room(rt: HostRuntime) -> Result<(), Fail> {
-    assert_runs(&rt, rt.alloc(), &ROOM)
-}
 
 /// Texts that aren't composed, each with its first cause.
 static REFUSED: [(&str, &str); 16] = [
@@ -226,22 +211,6 @@ static REFUSED: [(&str, &str); 16] = [
     ),
 ];
 
-#[test]
-fn names_what_is_wrong_with_a_text(rt: HostRuntime) -> Result<(), Fail> {
-    for (text, line) in &REFUSED {
-        assert_over(
-            &rt,
-            rt.alloc(),
-            (text.as_bytes(), &[]),
-            Broken::Nothing,
-            "compose a.txt --out b.img",
-            (line, 1),
-            &[],
-        )?;
-    }
-    Ok(())
-}
-
 /// A logical eraseblock that has one byte more than it may have.
 const LONG: Run = Run {
     image: Contents::Runs(&[
@@ -284,6 +253,14 @@ static LONG_LINES: [Run; 4] = [
 ];
 
 #[test]
-fn refuses_what_is_too_long(rt: HostRuntime) -> Result<(), Fail> {
-    assert_runs(&rt, rt.alloc(), &LONG_LINES)
+fn composes_texts_or_tells_why_not(rt: HostRuntime) -> Result<(), Fail> {
+    for runs in [COMPOSED.as_slice(), ROOM.as_slice(), LONG_LINES.as_slice()] {
+        assert_runs(&rt, rt.alloc(), runs)?;
+    }
+    for (text, line) in &REFUSED {
+        let (files, broken): ((&[u8], &[u8]), Broken) = ((text.as_bytes(), &[]), Broken::Nothing);
+        let compose = "compose a.txt --out b.img";
+        assert_over(&rt, rt.alloc(), files, broken, compose, (line, 1), &[])?;
+    }
+    Ok(())
 }

@@ -1,24 +1,74 @@
 //! What files hold: images, texts and others.
 
-use super::answers::small;
-use super::pebs::{
-    A, ALIGNED_FIRST, ALIGNED_SECOND, ALIGNED_ZEROED, B, BEYOND, BOOT_FIRST, BOOT_SECOND, C,
-    DROPPED, EMPTY_B, ERASED, FIRST, FIRST_ALIGNED, FIRST_BOOT, FIRST_DATA, FIRST_MARKED,
-    FIRST_NAME, FIRST_PLAIN, FIRST_STRANGE, FIRST_UPDATING, FREE, NORMAL_7, NORMAL_A, NORMAL_AB,
-    NORMAL_ALIGNED, NORMAL_B, NORMAL_C, NORMAL_DAMAGED, NORMAL_FREE, NORMAL_TEXT_0, NORMAL_TEXT_1,
-    OLD, Peb, RIGHT, ROOT_FIRST, ROOT_SECOND, SECOND, SECOND_ALIGNED, SECOND_BOOT, SECOND_DATA,
-    SECOND_MARKED, SECOND_NAME, SECOND_PLAIN, SECOND_STRANGE, SECOND_UPDATING, TEXT_0, TEXT_1,
-    UNCHECKED, UNCHECKED_0, UNCHECKED_1, UNCHECKED_2, UNCHECKED_3, UNCHECKED_4, UNLIKE,
-    UNNAMED_EMPTY_D, UNNAMED_FIRST, UNNAMED_FREE, UNNAMED_SECOND, UNREAD_13, UPDATING_FIRST,
-    UPDATING_SECOND, WORN_A, WORN_B, WORN_C, WORN_FIRST, WORN_SECOND, WRONG_9, put_pebs,
-    put_unnumbered,
-};
 use std::alloc::Global;
 use std::test::Fail;
+use ubi_media::Geometry;
 use ubi_probe::chips::Chip;
 use ubi_probe::header_bytes::OTHER_EC;
-use ubi_probe::records::SMALL_ROOT;
-use ubi_probe::texts::put_runs;
+use ubi_probe::pebs::{
+    A, ALIGNED_FIRST, ALIGNED_SECOND, ALIGNED_ZEROED, B, BEYOND, BOOT_0, BOOT_1, BOOT_FIRST,
+    BOOT_SECOND, C, DROPPED, Data, ERASED, Ec, FIRST, FIRST_ALIGNED, FIRST_BOOT, FIRST_DATA,
+    FIRST_MARKED, FIRST_NAME, FIRST_UPDATING, FREE, LEB_0, LEB_1, NAMED, NO_DATA, NORMAL_A,
+    NORMAL_ALIGNED, NORMAL_B, NORMAL_BOOT_0, NORMAL_BOOT_1, NORMAL_C, NORMAL_DAMAGED, NORMAL_FIRST,
+    NORMAL_SECOND, OLD, Peb, RIGHT, ROOT_FIRST, ROOT_SECOND, SECOND, SECOND_ALIGNED, SECOND_BOOT,
+    SECOND_DATA, SECOND_MARKED, SECOND_NAME, SECOND_UPDATING, STATIC_BEYOND, UNNAMED_FREE,
+    UPDATING_FIRST, UPDATING_SECOND, Vid, WORN_A, WORN_B, WORN_C, WORN_FIRST, WORN_SECOND, WRONG_9,
+    image_of, small, small_image, unnumbered_of,
+};
+use ubi_probe::records::{ROOT as RECORD, SMALL_ROOT, Slot};
+use ubi_probe::texts::{bytes_of, overwrite};
+
+/// Copies of tables: of names that are shown otherwise than they stand.
+const FIRST_PLAIN: Peb = Peb(NAMED, Vid::Table(0, 0), Data::Table(&[PLAIN_SLOT]));
+
+const SECOND_PLAIN: Peb = Peb(NAMED, Vid::Table(1, 0), Data::Table(&[PLAIN_SLOT]));
+
+const FIRST_STRANGE: Peb = Peb(NAMED, Vid::Table(0, 0), Data::Table(&[STRANGE_SLOT]));
+
+const SECOND_STRANGE: Peb = Peb(NAMED, Vid::Table(1, 0), Data::Table(&[STRANGE_SLOT]));
+
+/// The volume `root` with a name that has bytes that are shown as they stand, and a space and a backslash that aren't; and one
+/// that has bytes that are shown by their digits. Another program worked out the checks.
+const PLAIN_SLOT: Slot = Slot {
+    name: b" \\~!",
+    flags: 0xA5,
+    check: 0xC46F_0634,
+    ..RECORD
+};
+
+const STRANGE_SLOT: Slot = Slot {
+    name: b"\x1F\x7F\xFF\"",
+    check: 0x585A_D454,
+    ..RECORD
+};
+
+/// A copy without its check; logical eraseblock 1 without data; the same without an erase-counter header, with sequence number
+/// 13; and logical eraseblock 3 in no image.
+const UNCHECKED: Peb = Peb(NAMED, Vid::Copy(0, 64, 0, 9), Data::Fill(b'9', 64));
+
+const EMPTY_B: Peb = Peb(NAMED, Vid::Leb(0, 1, 0), NO_DATA);
+
+const UNREAD_13: Peb = Peb(Ec::Blank, Vid::Leb(0, 1, 13), NO_DATA);
+
+const UNNAMED_EMPTY_D: Peb = Peb(Ec::Unnamed, Vid::Leb(0, 3, 0), NO_DATA);
+
+/// Pieces of a static volume without their check, by how many they say that there are.
+const UNCHECKED_0: Peb = Peb(NAMED, Vid::Static(0, 5, 384, 0), Data::Fill(b'A', 384));
+
+const UNCHECKED_1: Peb = Peb(NAMED, Vid::Static(1, 6, 384, 0), Data::Fill(b'A', 384));
+
+const UNCHECKED_2: Peb = Peb(NAMED, Vid::Static(2, 5, 384, 0), Data::Fill(b'A', 384));
+
+const UNCHECKED_3: Peb = Peb(NAMED, Vid::Static(3, 7, 384, 0), Data::Fill(b'A', 384));
+
+const UNCHECKED_4: Peb = Peb(NAMED, Vid::Static(4, 5, 384, 0), Data::Fill(b'A', 384));
+
+/// Eraseblocks of normal images: a free one, and logical eraseblocks with few bytes.
+const NORMAL_FREE: Peb = Peb(Ec::Normal, Vid::Blank, NO_DATA);
+
+const NORMAL_7: Peb = Peb(Ec::Normal, LEB_0, Data::Runs(&[(b"7", 1)]));
+
+const NORMAL_AB: Peb = Peb(Ec::Normal, LEB_1, Data::Runs(&[(b"ab", 1)]));
 
 /// What a file holds.
 #[derive(Clone, Copy)]
@@ -34,6 +84,8 @@ pub enum Contents {
     /// These eraseblocks where they name no image; and the same with bytes that stand over theirs.
     Unnumbered(&'static [Peb]),
     UnnumberedBut(&'static [Peb], &'static [(usize, &'static [u8])]),
+    /// Eraseblocks of 1,024 bytes whose headers share the first of their 4 pages.
+    Wide(&'static [Peb]),
     /// Three blank eraseblocks, and bytes that are one too few for one.
     Blank,
     Odd,
@@ -139,7 +191,7 @@ impl Contents {
             Contents::AlignedRoot => ALIGNED_ROOT,
             Contents::NormalNothing => NORMAL_NOTHING,
             Contents::NormalRoot => NORMAL_ROOT,
-            Contents::NormalFirst => NORMAL_FIRST,
+            Contents::NormalFirst => NORMAL_SEVEN,
             Contents::NormalSpare => NORMAL_SPARE,
             Contents::NormalAlignedRoot => NORMAL_ALIGNED_ROOT,
             Contents::NormalBoot => NORMAL_BOOT,
@@ -151,36 +203,25 @@ impl Contents {
 
     /// The bytes.
     pub fn bytes(&self, alloc: Global) -> Result<Vec<u8>, Fail> {
-        let mut bytes = Vec::new(alloc);
-        match self.parts() {
-            Contents::Pebs(pebs, over) => {
-                put_pebs(&mut bytes, &small()?, pebs)?;
-                put_over(bytes.as_mut_slice(), over);
+        let (mut bytes, over): (Vec<u8>, &[(usize, &[u8])]) = match self.parts() {
+            Contents::Pebs(pebs, over) => (small_image(alloc, pebs)?, over),
+            Contents::Unnumbered(pebs) => (unnumbered_of(alloc, &small()?, pebs)?, &[]),
+            Contents::UnnumberedBut(pebs, over) => (unnumbered_of(alloc, &small()?, pebs)?, over),
+            Contents::Wide(pebs) => {
+                let geometry = Geometry::new(1024, 256, 64, 256, 32)?;
+                (image_of(alloc, &geometry, pebs)?, &[])
             }
-            Contents::Unnumbered(pebs) => put_unnumbered(&mut bytes, &small()?, pebs)?,
-            Contents::UnnumberedBut(pebs, over) => {
-                put_unnumbered(&mut bytes, &small()?, pebs)?;
-                put_over(bytes.as_mut_slice(), over);
-            }
-            Contents::Runs(runs) => put_runs(&mut bytes, runs)?,
-            Contents::First(runs, len) => {
-                put_runs(&mut bytes, runs)?;
-                bytes.truncate(len);
-            }
-            Contents::Chip(chip, len) => {
-                bytes = chip.image(alloc, &SMALL_ROOT)?;
-                bytes.truncate(len);
+            Contents::Runs(runs) | Contents::First(runs, _) => (bytes_of(alloc, runs)?, &[]),
+            Contents::Chip(chip, _) => {
+                (chip.image(alloc, &chip.geometry()?, &[SMALL_ROOT])?, &[])
             }
             _ => return Err("a name of a name".into()),
+        };
+        if let Contents::First(_, len) | Contents::Chip(_, len) = *self {
+            bytes.truncate(len);
         }
+        put_over(bytes.as_mut_slice(), over);
         Ok(bytes)
-    }
-}
-
-/// Writes bytes over others from a place on.
-pub fn overwrite(bytes: &mut [u8], at: usize, over: &[u8]) {
-    for (old, new) in bytes.iter_mut().skip(at).zip(over) {
-        *old = *new;
     }
 }
 
@@ -238,7 +279,15 @@ static RIVALS: Contents = Contents::Unnumbered(&[FIRST, SECOND, OLD, RIGHT, WRON
 
 static MIXED: Contents = Contents::UnnumberedBut(
     &[
-        FIRST, SECOND, OLD, UNCHECKED, BEYOND, UNLIKE, EMPTY_B, DROPPED, FREE,
+        FIRST,
+        SECOND,
+        OLD,
+        UNCHECKED,
+        BEYOND,
+        STATIC_BEYOND,
+        EMPTY_B,
+        DROPPED,
+        FREE,
     ],
     &[(3136, b"u"), (4096, b"u")],
 );
@@ -250,7 +299,7 @@ static MIXED_MORE: Contents = Contents::UnnumberedBut(
         OLD,
         UNCHECKED,
         BEYOND,
-        UNLIKE,
+        STATIC_BEYOND,
         EMPTY_B,
         DROPPED,
         FREE,
@@ -284,9 +333,9 @@ static UPDATING: Contents = Contents::Unnumbered(&[
 
 static EMPTY_BOOT: Contents = Contents::Unnumbered(&[FIRST_BOOT, SECOND_BOOT]);
 
-static DAMAGED_BOOT: Contents = Contents::Unnumbered(&[FIRST_BOOT, SECOND_BOOT, TEXT_0]);
+static DAMAGED_BOOT: Contents = Contents::Unnumbered(&[FIRST_BOOT, SECOND_BOOT, BOOT_0]);
 
-static WHOLE_BOOT: Contents = Contents::Unnumbered(&[FIRST_BOOT, SECOND_BOOT, TEXT_0, TEXT_1]);
+static WHOLE_BOOT: Contents = Contents::Unnumbered(&[FIRST_BOOT, SECOND_BOOT, BOOT_0, BOOT_1]);
 
 static ALIGNED_ROOT: Contents = Contents::Unnumbered(&[
     FIRST_ALIGNED,
@@ -294,14 +343,14 @@ static ALIGNED_ROOT: Contents = Contents::Unnumbered(&[
     ALIGNED_ZEROED,
 ]);
 
-static NORMAL_NOTHING: Contents = Contents::Pebs(&[UNNAMED_FIRST, UNNAMED_SECOND], &[]);
+static NORMAL_NOTHING: Contents = Contents::Pebs(&[NORMAL_FIRST, NORMAL_SECOND], &[]);
 
 static NORMAL_ROOT: Contents = Contents::Pebs(
     &[ROOT_FIRST, ROOT_SECOND, NORMAL_A, NORMAL_B, NORMAL_C],
     &[],
 );
 
-static NORMAL_FIRST: Contents = Contents::Unnumbered(&[ROOT_FIRST, ROOT_SECOND, NORMAL_7]);
+static NORMAL_SEVEN: Contents = Contents::Unnumbered(&[ROOT_FIRST, ROOT_SECOND, NORMAL_7]);
 
 static NORMAL_SPARE: Contents = Contents::Pebs(
     &[ROOT_FIRST, ROOT_SECOND, NORMAL_AB, NORMAL_FREE],
@@ -317,8 +366,8 @@ static NORMAL_ALIGNED_ROOT: Contents = Contents::Unnumbered(&[
 static NORMAL_BOOT: Contents = Contents::Unnumbered(&[
     BOOT_FIRST,
     BOOT_SECOND,
-    NORMAL_TEXT_0,
-    NORMAL_TEXT_1,
+    NORMAL_BOOT_0,
+    NORMAL_BOOT_1,
 ]);
 
 static NORMAL_DAMAGED_BOOT: Contents = Contents::Unnumbered(&[

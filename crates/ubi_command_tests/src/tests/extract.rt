@@ -1,11 +1,12 @@
 //! The command `extract`.
 
-use super::answers::{assert_both, small};
+use super::answers::assert_both;
 use super::contents::{Contents, EMPTY};
 use std::alloc::Global;
 use std::io::ErrorKind;
 use std::test::Fail;
 use ubi_commands::{ToolError, VolumeKey, run_extract};
+use ubi_probe::pebs::small;
 use ubi_probe::{Failure, ProbeWriter};
 
 /// An image, the words that name a volume, what is answered, and what is written.

@@ -4,13 +4,17 @@ use super::answers::assert_over;
 use super::contents::{Contents, EMPTY};
 use super::fake::Broken;
 use super::geometry::SMALL;
-use super::pebs::{A, B, C, FIRST, FREE, ORPHAN, SECOND};
 use super::rename::LINES;
+use super::shown::{BLANK_SHOWN, CHANGED};
 use std::alloc::Global;
 use std::io::ErrorKind;
 use std::process::Abort;
 use std::test::Fail;
 use ubi_probe::header_bytes::COPY_OF_64;
+use ubi_probe::pebs::{A, B, C, Data, FIRST, FREE, NAMED, Peb, SECOND, Vid};
+
+/// A logical eraseblock of a volume 5 that no table has.
+const ORPHAN: Peb = Peb(NAMED, Vid::Leb(5, 0, 0), Data::Fill(b'b', 384));
 
 /// A line over an image, and ways in which its files fail: of each the answer, and how many bytes of the output are
 /// written.
@@ -48,23 +52,6 @@ const LISTED: (&str, u8) = (
     "geometry peb=512 page=64 vid=64 data=128 leb=384 slots=2 pebs=32\nvolumes 0\n",
     0,
 );
-
-const SHOWN: (&str, u8) = (
-    "ec blank ffffffffffffffffffffffffffffffffffffffffffffffffffffffffffffffff\
-        ffffffffffffffffffffffffffffffffffffffffffffffffffffffffffffffff\n\
-        vid blank ffffffffffffffffffffffffffffffffffffffffffffffffffffffffffffffff\
-        ffffffffffffffffffffffffffffffffffffffffffffffffffffffffffffffff\n",
-    0,
-);
-
-/// What `change` and `rename` answer of the images with spare eraseblocks.
-const CHANGED: (&str, u8) = (
-    "steps 4\nprogram block=5 page=1\nprogram block=5 page=2\n\
-        erase block=3\nprogram block=3 page=0\n",
-    0,
-);
-
-const RENAMED: (&str, u8) = (LINES, 0);
 
 /// Commands that write nothing. A file is read at places, or whole where it can't be; one that was cut short since it
 /// was opened fails where its bytes are missing.
@@ -128,11 +115,11 @@ static READERS: [Failing; 7] = [
         image: Contents::Blank,
         line: "show a.img --block 1",
         ways: &[
-            (Broken::Nothing, SHOWN, 0),
-            (Broken::Whole, SHOWN, 0),
-            (Broken::Places, SHOWN, 0),
+            (Broken::Nothing, (BLANK_SHOWN, 0), 0),
+            (Broken::Whole, (BLANK_SHOWN, 0), 0),
+            (Broken::Places, (BLANK_SHOWN, 0), 0),
             (Broken::OpenRead, UNREAD, 0),
-            (Broken::Read(ErrorKind::Other, 640), SHOWN, 0),
+            (Broken::Read(ErrorKind::Other, 640), (BLANK_SHOWN, 0), 0),
             (Broken::Read(ErrorKind::Other, 639), UNREAD, 0),
             (Broken::Read(ErrorKind::Interrupted, 512), UNREAD, 0),
         ],
@@ -267,9 +254,9 @@ static WRITERS: [Failing; 12] = [
         image: Contents::Pebs(&[FIRST, SECOND, A, B, C, FREE, ORPHAN], &[]),
         line: "change a.img --id 0 --lnum 1 --from new.bin --out b.img --stop 1",
         ways: &[
-            (Broken::Nothing, CHANGED, 3584),
-            (Broken::Short(100), CHANGED, 3584),
-            (Broken::Places, CHANGED, 3584),
+            (Broken::Nothing, (CHANGED, 0), 3584),
+            (Broken::Short(100), (CHANGED, 0), 3584),
+            (Broken::Places, (CHANGED, 0), 3584),
             (Broken::OpenRead, UNREAD, 0),
             (Broken::Read(ErrorKind::Other, 64), UNREAD_NEW, 0),
             (Broken::Read(ErrorKind::Other, 65), UNREAD, 0),
@@ -288,9 +275,9 @@ static WRITERS: [Failing; 12] = [
         image: Contents::Pebs(&[FIRST, SECOND, A, B, C, FREE, FREE, ORPHAN], &[]),
         line: "rename a.img --id 0 --name data --out b.img --stop 0",
         ways: &[
-            (Broken::Nothing, RENAMED, 4096),
-            (Broken::Short(100), RENAMED, 4096),
-            (Broken::Places, RENAMED, 4096),
+            (Broken::Nothing, (LINES, 0), 4096),
+            (Broken::Short(100), (LINES, 0), 4096),
+            (Broken::Places, (LINES, 0), 4096),
             (Broken::OpenRead, UNREAD, 0),
             (Broken::Read(ErrorKind::Other, 3711), UNREAD, 0),
             (Broken::Read(ErrorKind::Other, 3712), UNREAD, 3584),
@@ -349,42 +336,23 @@ static ONTO: [Failing; 4] = [
     },
 ];
 
-/// Asserts what is answered and written in each way.
-fn assert_ways(
-    rt: &impl Abort,
-    alloc: Global,
-    files: (&[u8], &[u8]),
-    case: &Failing,
-    output: &[u8],
-) -> Result<(), Fail> {
+/// Asserts what is answered and written in each way. `new.bin` holds 64 bytes 0x61.
+fn assert_failing(rt: &impl Abort, alloc: Global, case: &Failing) -> Result<(), Fail> {
+    let (image, output) = (case.image.bytes(alloc)?, case.output.bytes(alloc)?);
+    let files: (&[u8], &[u8]) = (image.as_slice(), &[0x61; 64]);
     for (broken, answer, count) in case.ways {
-        let written = output.get(..*count).ok_or("short")?;
+        let written = output.as_slice().get(..*count).ok_or("short")?;
         assert_over(rt, alloc, files, *broken, case.line, *answer, written)?;
     }
     Ok(())
 }
 
-/// The same of some lines. `new.bin` holds 64 bytes 0x61.
-fn assert_failing(rt: &impl Abort, alloc: Global, failing: &[Failing]) -> Result<(), Fail> {
-    for case in failing {
-        let (image, output) = (case.image.bytes(alloc)?, case.output.bytes(alloc)?);
-        let files: (&[u8], &[u8]) = (image.as_slice(), &[0x61; 64]);
-        assert_ways(rt, alloc, files, case, output.as_slice())?;
+#[test]
+fn tells_of_files_that_fail(rt: HostRuntime) -> Result<(), Fail> {
+    for cases in [READERS.as_slice(), WRITERS.as_slice(), ONTO.as_slice()] {
+        for case in cases {
+            assert_failing(&rt, rt.alloc(), case)?;
+        }
     }
     Ok(())
-}
-
-#[test]
-fn tells_of_files_that_cannot_be_read(rt: HostRuntime) -> Result<(), Fail> {
-    assert_failing(&rt, rt.alloc(), &READERS)
-}
-
-#[test]
-fn tells_of_files_that_cannot_be_written(rt: HostRuntime) -> Result<(), Fail> {
-    assert_failing(&rt, rt.alloc(), &WRITERS)
-}
-
-#[test]
-fn reads_whole_what_may_be_the_output(rt: HostRuntime) -> Result<(), Fail> {
-    assert_failing(&rt, rt.alloc(), &ONTO)
 }

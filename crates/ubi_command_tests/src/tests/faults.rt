@@ -1,13 +1,38 @@
 //! Images that are refused for a fault of an eraseblock, of the table or of a volume.
 
 use super::cases::{Answer, Case, assert_cases};
-use super::pebs::{
-    A, ALIGNMENT_0, B, C, COMPAT_0, COMPAT_2, COMPAT_4, COMPAT_5, Ec, FIRST, FREE, OLD, OTHER_B,
-    OVERFULL, SECOND, SEVEN, STATIC_A, THIRD, Vid,
-};
 use std::test::Fail;
-use ubi_media::{EcFault, RecFault, Refusal, VidFault};
+use ubi_media::{EcFault, RecFault, Refusal, VidFault, VidHeader};
 use ubi_probe::header_bytes::{COPY_FLAG_2, VERSION_2};
+use ubi_probe::headers::TABLE_1;
+use ubi_probe::pebs::{
+    A, B, C, Data, Ec, FIRST, FIRST_ALIGNMENT_0, FIRST_OVERFULL, FREE, NAMED, NO_DATA, OLD, Peb,
+    SECOND, STATIC_A, Vid,
+};
+use ubi_probe::records::ROOT;
+
+/// An eraseblock of another image; copies of the table with compatibility 0, and with number 2; and logical eraseblock 0 with
+/// sequence number 7.
+const OTHER_B: Peb = Peb(Ec::Of(0, 8), Vid::Leb(0, 1, 0), Data::Fill(b'B', 384));
+
+const COMPAT_0: Peb = Peb(NAMED, Vid::Of(UNTYPED_TABLE), Data::Table(&[ROOT]));
+
+const THIRD: Peb = Peb(NAMED, Vid::Table(2, 0), Data::Table(&[ROOT]));
+
+const SEVEN: Peb = Peb(NAMED, Vid::Leb(0, 0, 7), Data::Fill(b'A', 384));
+
+/// The header of copy 1 of the table with compatibility 0.
+const UNTYPED_TABLE: VidHeader = VidHeader {
+    compat: 0,
+    ..TABLE_1
+};
+
+/// Eraseblocks of another internal volume, by their compatibility.
+const COMPAT_2: Peb = Peb(NAMED, Vid::Internal(2, 0), NO_DATA);
+
+const COMPAT_4: Peb = Peb(NAMED, Vid::Internal(4, 0), NO_DATA);
+
+const COMPAT_5: Peb = Peb(NAMED, Vid::Internal(5, 0), NO_DATA);
 
 /// The image of the volume `root` with an erase-counter header of version 2.
 const VERSION: Case = Case {
@@ -142,7 +167,7 @@ static CASES: [Case; 17] = [
     },
     Case {
         what: "an alignment 0",
-        pebs: &[ALIGNMENT_0, SECOND, A, B, C],
+        pebs: &[FIRST_ALIGNMENT_0, SECOND, A, B, C],
         over: &[],
         answer: Answer::Refused(
             "refused T3 Record block=0 slot=0 Alignment\n",
@@ -162,7 +187,7 @@ static CASES: [Case; 17] = [
     },
     Case {
         what: "a volume of more eraseblocks than there are",
-        pebs: &[OVERFULL, SECOND, A, B, C],
+        pebs: &[FIRST_OVERFULL, SECOND, A, B, C],
         over: &[],
         answer: Answer::Refused("refused T5 NoSpace\n", Refusal::NoSpace),
         checked: &[],

@@ -1,37 +1,28 @@
 //! The commands over real files: what these hold then, and that no output is opened where the work is refused.
 
+use super::answers::SMALL_SIZES;
 use super::contents::{Contents, EMPTY};
 use super::geometry::SMALL;
-use super::pebs::{
-    A, B, C, FIRST, FIRST_DATA, FREE, SECOND, SECOND_DATA, UNNAMED_FIRST, UNNAMED_SECOND,
-};
 use super::rename::LINES;
 use super::sessions::{Session, assert_session};
+use super::shown::{CHANGED, DATA_LISTED, ROOT_CHECKED, ROOT_LISTED, TWO_LISTED, TWO_RENAMED};
 use std::test::Fail;
 use ubi_probe::header_bytes::{COPY_OF_64, ERASED_EC, OTHER_EC};
+use ubi_probe::pebs::{
+    A, B, C, FIRST, FIRST_DATA, FREE, NORMAL_FIRST, NORMAL_SECOND, SECOND, SECOND_DATA,
+};
 
 /// Commands that write nothing. A file that can't be read comes before the work, and the first of two first.
 static READERS: [Session; 2] = [
     Session {
+        sizes: SMALL_SIZES,
         before: &[("named_in.img", Contents::Root)],
         lines: &[
             ("geometry named_in.img", SMALL, 0),
             ("geometry unnamed.img", "cannot read unnamed.img\n", 1),
             ("geometry .", "cannot read .\n", 1),
-            (
-                "list named_in.img",
-                "geometry peb=512 page=64 vid=64 data=128 leb=384 slots=2 pebs=32\n\
-                    volume 0 dynamic reserved=20 alignment=1 usable=384 flags=00 lebs=3 name=root\n\
-                    volumes 1\n",
-                0,
-            ),
-            (
-                "check named_in.img",
-                "blocks 5\nblank 0\nfree 0\ntable 2\nused 3\nstale 0\norphan 0\n\
-                    dropped 0\ncorrupt 0\ngarbage 0\ntop sqnum 0\nimage seq 305419896\n\
-                    mean counter 0\naccepted\n",
-                0,
-            ),
+            ("list named_in.img", ROOT_LISTED, 0),
+            ("check named_in.img", ROOT_CHECKED, 0),
             ("show named_in.img --block 5", "refused B1 Block\n", 1),
             ("list unnamed.img", "cannot read unnamed.img\n", 1),
             ("check unnamed.img", "cannot read unnamed.img\n", 1),
@@ -41,6 +32,7 @@ static READERS: [Session; 2] = [
         absent: "unnamed.img",
     },
     Session {
+        sizes: SMALL_SIZES,
         before: &[
             ("same_root.img", Contents::Root),
             ("same_turned.img", Contents::Reversed),
@@ -89,6 +81,7 @@ const LONGER: Contents = Contents::Runs(&[(b"\0", 8192)]);
 const AS_IT_WAS: Contents = Contents::Runs(&[(b"as it was", 1)]);
 
 static NORMALISED: Session = Session {
+    sizes: SMALL_SIZES,
     before: &[
         ("blank_in.img", Contents::Blank),
         ("faulty_in.img", Contents::Faulty),
@@ -150,6 +143,7 @@ const PATH_NAMES: Contents = Contents::Runs(&[(
 
 /// Folders that are made, that are there, and that can't be made.
 static UNPACKED: Session = Session {
+    sizes: SMALL_SIZES,
     before: &[
         ("unpack_in.img", Contents::Root),
         ("unpack_marked.img", Contents::Updating),
@@ -234,6 +228,7 @@ static UNPACKED: Session = Session {
 };
 
 static EXTRACTED: Session = Session {
+    sizes: SMALL_SIZES,
     before: &[
         ("extract_in.img", Contents::Root),
         ("extract_none.img", Contents::EmptyBoot),
@@ -290,6 +285,7 @@ static EXTRACTED: Session = Session {
 };
 
 static COMPOSED: Session = Session {
+    sizes: SMALL_SIZES,
     before: &[
         (
             "compose_in.txt",
@@ -409,7 +405,7 @@ static COMPOSED: Session = Session {
         (
             "eight.img",
             Contents::Pebs(
-                &[UNNAMED_FIRST, UNNAMED_SECOND],
+                &[NORMAL_FIRST, NORMAL_SECOND],
                 &[(0, &OTHER_EC), (512, &OTHER_EC)],
             ),
         ),
@@ -417,12 +413,9 @@ static COMPOSED: Session = Session {
     absent: "uncomposed.img",
 };
 
-/// The lines of the plan of the changes.
-const CHANGED: &str = "steps 4\nprogram block=5 page=1\nprogram block=5 page=2\n\
-    erase block=3\nprogram block=3 page=0\n";
-
 /// The image is opened first, and the new bytes are read before it is.
 static CHANGES: Session = Session {
+    sizes: SMALL_SIZES,
     before: &[
         ("change_in.img", Contents::Spare),
         (
@@ -506,6 +499,7 @@ const FULL: Contents = Contents::Pebs(&[FIRST_DATA, SECOND_DATA, A, B, C, FREE],
 
 /// The image is opened first, and the name is looked at before it is read.
 static RENAMED: Session = Session {
+    sizes: SMALL_SIZES,
     before: &[
         ("to_name.img", Contents::Spares),
         ("two_names.img", Contents::WithName),
@@ -534,13 +528,7 @@ static RENAMED: Session = Session {
             LINES,
             0,
         ),
-        (
-            "list renamed.img",
-            "geometry peb=512 page=64 vid=64 data=128 leb=384 slots=2 pebs=32\n\
-                volume 0 dynamic reserved=20 alignment=1 usable=384 flags=00 lebs=3 name=data\n\
-                volumes 1\n",
-            0,
-        ),
+        ("list renamed.img", DATA_LISTED, 0),
         (
             "extract renamed.img --id 0 --out renamed.bin",
             "bytes 7680\n",
@@ -551,27 +539,13 @@ static RENAMED: Session = Session {
             LINES,
             0,
         ),
-        (
-            "list renamed_second.img",
-            "geometry peb=512 page=64 vid=64 data=128 leb=384 slots=2 pebs=32\n\
-                volume 0 dynamic reserved=20 alignment=1 usable=384 flags=00 lebs=3 name=root\n\
-                volume 1 dynamic reserved=1 alignment=1 usable=384 flags=00 lebs=0 name=name\n\
-                volumes 2\n",
-            0,
-        ),
+        ("list renamed_second.img", TWO_LISTED, 0),
         (
             "rename two_names.img --id 1 --name data --out renamed_second.img --stop 7",
             LINES,
             0,
         ),
-        (
-            "list renamed_second.img",
-            "geometry peb=512 page=64 vid=64 data=128 leb=384 slots=2 pebs=32\n\
-                volume 0 dynamic reserved=20 alignment=1 usable=384 flags=00 lebs=3 name=root\n\
-                volume 1 dynamic reserved=1 alignment=1 usable=384 flags=00 lebs=0 name=data\n\
-                volumes 2\n",
-            0,
-        ),
+        ("list renamed_second.img", TWO_RENAMED, 0),
         (
             "rename gone.img --id 0 --name a\\ --out unnamed.img",
             "cannot read gone.img\n",
@@ -624,19 +598,11 @@ static RENAMED: Session = Session {
 
 /// A longer file is cut, and where the work is refused no file is opened.
 #[test]
-fn writes_what_is_normalised_and_extracted(rt: HostRuntime) -> Result<(), Fail> {
+fn writes_what_is_asked_for(rt: HostRuntime) -> Result<(), Fail> {
     assert_session(&rt, rt.alloc(), &NORMALISED)?;
     assert_session(&rt, rt.alloc(), &EXTRACTED)?;
-    assert_session(&rt, rt.alloc(), &UNPACKED)
-}
-
-#[test]
-fn writes_what_is_composed(rt: HostRuntime) -> Result<(), Fail> {
-    assert_session(&rt, rt.alloc(), &COMPOSED)
-}
-
-#[test]
-fn writes_what_is_changed_and_renamed(rt: HostRuntime) -> Result<(), Fail> {
+    assert_session(&rt, rt.alloc(), &UNPACKED)?;
+    assert_session(&rt, rt.alloc(), &COMPOSED)?;
     assert_session(&rt, rt.alloc(), &CHANGES)?;
     assert_session(&rt, rt.alloc(), &RENAMED)
 }

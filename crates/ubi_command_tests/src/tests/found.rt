@@ -1,6 +1,6 @@
 //! Dumps of which no number is typed: how they are read is found in their own headers.
 
-use super::answers::{is_answer, run_over, run_own};
+use super::answers::{assert_own, is_answer, run_over, run_own};
 use super::contents::Contents;
 use super::fake::Broken;
 use super::geometry::TOLD;
@@ -9,40 +9,19 @@ use std::alloc::Global;
 use std::io::ErrorKind;
 use std::process::Abort;
 use std::test::Fail;
-use ubi_commands::Outcome;
 use ubi_probe::chips::PAGES;
 
 /// Where an image of small eraseblocks lies: nothing tells out-of-band bytes of it.
-static SMALL_LAYS: [Lay; 5] = [
-    Lay {
-        before: 0,
-        oob: 0,
-        behind: 0,
-    },
-    Lay {
-        before: 512,
-        oob: 0,
-        behind: 0,
-    },
-    Lay {
-        before: 0,
-        oob: 0,
-        behind: 700,
-    },
-    Lay {
-        before: 64,
-        oob: 0,
-        behind: 1,
-    },
-    Lay {
-        before: 20_032,
-        oob: 0,
-        behind: 20_000,
-    },
+const SMALL_LAYS: [Lay; 5] = [
+    Lay(0, 0, 0),
+    Lay(512, 0, 0),
+    Lay(0, 0, 700),
+    Lay(64, 0, 1),
+    Lay(20_032, 0, 20_000),
 ];
 
 /// Lines over a dump that is told, for which as many words are left out as can be.
-static LINES: [&str; 15] = [
+const LINES: [&str; 15] = [
     "list a.img",
     "check a.img",
     "check a.img --bad 0,4-9",
@@ -60,10 +39,23 @@ static LINES: [&str; 15] = [
     "same a.img a.img",
 ];
 
-/// Whether two runs answered and wrote the same.
-fn are_one(answer: &(Outcome, Vec<u8>), other: &(Outcome, Vec<u8>)) -> bool {
-    answer.0.text == other.0.text && answer.0.status == other.0.status && answer.1 == other.1
-}
+/// Where a chip's image lies, with out-of-band bytes behind each page or without.
+const CHIP_LAYS: [Lay; 5] = [
+    Lay(0, 0, 0),
+    Lay(65_536, 0, 5000),
+    Lay(0, 64, 0),
+    Lay(0, 128, 0),
+    Lay(70_400, 64, 70_001),
+];
+
+/// Lines over a chip's dump.
+const CHIP_LINES: [&str; 5] = [
+    "list a.img",
+    "check a.img --bad 3",
+    "extract a.img --id 0 --out b.img",
+    "normalise a.img --out b.img",
+    "same a.img a.img",
+];
 
 /// Asserts that a line without a geometry answers and writes of a file, read at places and whole, what it does of the image in it with
 /// the words of its geometry.
@@ -75,76 +67,42 @@ fn assert_found(
     words: &str,
 ) -> Result<(), Fail> {
     let named = format!(in alloc; "{line} {words} --pebs 32")?;
-    let want = run_over(alloc, (image, &[]), Broken::Nothing, named.as_str())?;
+    let (want, output) = run_over(alloc, (image, &[]), Broken::Nothing, named.as_str())?;
     let line = format!(in alloc; "{line} --pebs 32")?;
-    for broken in [Broken::Nothing, Broken::Places] {
-        let answer = run_own(alloc, (file, &[]), broken, line.as_str())?;
-        assert!(*rt; are_one(&answer, &want), "of {line}, {broken:?}");
-    }
-    Ok(())
+    let answer = (want.text.as_slice(), want.status, output.as_slice());
+    assert_own(rt, alloc, (file, &[]), line.as_str(), answer)
 }
+
+/// An image, the size of its pages, where it lies, and lines over it.
+type Found = (Contents, usize, &'static [Lay], &'static [&'static str]);
+
+/// The words of the geometry of each.
+static FOUND: [(Found, &str); 2] = [
+    (
+        (Contents::Spares, 64, &SMALL_LAYS, &LINES),
+        "--peb 512 --page 64",
+    ),
+    (
+        (
+            Contents::Chip(PAGES, 524_288),
+            2048,
+            &CHIP_LAYS,
+            &CHIP_LINES,
+        ),
+        "--peb 131072 --page 2048",
+    ),
+];
 
 #[test]
 fn finds_an_image_wherever_it_lies(rt: HostRuntime) -> Result<(), Fail> {
     let alloc = rt.alloc();
-    let image = Contents::Spares.bytes(alloc)?;
-    for lay in &SMALL_LAYS {
-        let file = lay.file(alloc, image.as_slice(), 64)?;
-        let files = (file.as_slice(), image.as_slice());
-        for line in LINES {
-            assert_found(&rt, alloc, files, line, "--peb 512 --page 64")?;
-        }
-    }
-    Ok(())
-}
-
-/// Where a chip's image lies, with out-of-band bytes behind each page or without.
-static CHIP_LAYS: [Lay; 5] = [
-    Lay {
-        before: 0,
-        oob: 0,
-        behind: 0,
-    },
-    Lay {
-        before: 65_536,
-        oob: 0,
-        behind: 5000,
-    },
-    Lay {
-        before: 0,
-        oob: 64,
-        behind: 0,
-    },
-    Lay {
-        before: 0,
-        oob: 128,
-        behind: 0,
-    },
-    Lay {
-        before: 70_400,
-        oob: 64,
-        behind: 70_001,
-    },
-];
-
-/// Lines over a chip's dump.
-static CHIP_LINES: [&str; 5] = [
-    "list a.img",
-    "check a.img --bad 3",
-    "extract a.img --id 0 --out b.img",
-    "normalise a.img --out b.img",
-    "same a.img a.img",
-];
-
-#[test]
-fn finds_a_chip_and_its_out_of_band_bytes(rt: HostRuntime) -> Result<(), Fail> {
-    let alloc = rt.alloc();
-    let image = Contents::Chip(PAGES, 524_288).bytes(alloc)?;
-    for lay in &CHIP_LAYS {
-        let file = lay.file(alloc, image.as_slice(), 2048)?;
-        let files = (file.as_slice(), image.as_slice());
-        for line in CHIP_LINES {
-            assert_found(&rt, alloc, files, line, "--peb 131072 --page 2048")?;
+    for ((contents, page, lays, lines), words) in &FOUND {
+        let image = contents.bytes(alloc)?;
+        for lay in *lays {
+            let file = lay.file(alloc, image.as_slice(), *page)?;
+            for line in *lines {
+                assert_found(&rt, alloc, (file.as_slice(), image.as_slice()), line, words)?;
+            }
         }
     }
     Ok(())
@@ -173,12 +131,8 @@ fn refuses_what_tells_nothing(rt: HostRuntime) -> Result<(), Fail> {
         let file = contents.bytes(alloc)?;
         for (line, side) in UNTOLD_LINES {
             let want = format!(in alloc; "{side}{text}")?;
-            for broken in [Broken::Nothing, Broken::Places] {
-                let files = (file.as_slice(), told.as_slice());
-                let (answer, written) = run_own(alloc, files, broken, line)?;
-                let is = is_answer(&answer, (want.as_str(), 1)) && written.is_empty();
-                assert!(rt; is, "of {line}, {want}, {broken:?}");
-            }
+            let files = (file.as_slice(), told.as_slice());
+            assert_own(&rt, alloc, files, line, (want.as_str().as_bytes(), 1, &[]))?;
         }
     }
     Ok(())
@@ -226,21 +180,14 @@ fn looks_in_a_part_alone(rt: HostRuntime) -> Result<(), Fail> {
     let image = Contents::Spares.bytes(alloc)?;
     let file = BEHIND_512.file(alloc, image.as_slice(), 64)?;
     let files = (file.as_slice(), image.as_slice());
-    for (line, answer) in &PARTS {
-        for broken in [Broken::Nothing, Broken::Places] {
-            let (outcome, _) = run_own(alloc, files, broken, line)?;
-            assert!(rt; is_answer(&outcome, *answer), "of {line}, {broken:?}");
-        }
+    for (line, (text, status)) in &PARTS {
+        assert_own(&rt, alloc, files, line, (text.as_bytes(), *status, &[]))?;
     }
     Ok(())
 }
 
 /// Behind a boot loader.
-const BEHIND_512: Lay = Lay {
-    before: 512,
-    oob: 0,
-    behind: 0,
-};
+const BEHIND_512: Lay = Lay(512, 0, 0);
 
 /// Lines over two files, the image of small eraseblocks and that of a chip, and what is answered.
 static PAIRS: [(&str, (&str, u8)); 4] = [
@@ -264,49 +211,49 @@ static PAIRS: [(&str, (&str, u8)); 4] = [
     ("same new.bin new.bin", ("same\n", 0)),
 ];
 
+/// The same of images that mean the same, one of which is plain, and one with out-of-band bytes or behind others; and of two that
+/// don't.
+static PLAIN: [(Contents, (Contents, usize, Lay), &str, u8); 3] = [
+    (CHIP, (CHIP, 2048, BETWEEN), "same\n", 0),
+    (
+        Contents::Root,
+        (Contents::Spares, 64, BEHIND_512),
+        "same\n",
+        0,
+    ),
+    (
+        Contents::Root,
+        (Contents::Unnamed, 64, Lay(0, 0, 0)),
+        "different\n",
+        1,
+    ),
+];
+
+/// The chip's image, and where it lies between other bytes.
+const CHIP: Contents = Contents::Chip(PAGES, 524_288);
+
+const BETWEEN: Lay = Lay(640, 64, 3);
+
 #[test]
 fn compares_by_the_geometry_of_each(rt: HostRuntime) -> Result<(), Fail> {
     let alloc = rt.alloc();
-    let image = Contents::Root.bytes(alloc)?;
-    let chip = Contents::Chip(PAGES, 524_288).bytes(alloc)?;
-    let lay = Lay {
-        before: 640,
-        oob: 64,
-        behind: 3,
-    };
-    let dump = lay.file(alloc, chip.as_slice(), 2048)?;
-    let spares = Contents::Spares.bytes(alloc)?;
-    let other = Contents::Unnamed.bytes(alloc)?;
-    for (line, answer) in &PAIRS {
-        assert_pair(
+    let (image, chip) = (Contents::Root.bytes(alloc)?, CHIP.bytes(alloc)?);
+    let dump = BETWEEN.file(alloc, chip.as_slice(), 2048)?;
+    let files = (image.as_slice(), dump.as_slice());
+    for (line, (text, status)) in &PAIRS {
+        assert_own(&rt, alloc, files, line, (text.as_bytes(), *status, &[]))?;
+    }
+    for (plain, (other, page, lay), text, status) in &PLAIN {
+        let (plain, other) = (plain.bytes(alloc)?, other.bytes(alloc)?);
+        let other = lay.file(alloc, other.as_slice(), *page)?;
+        let files = (plain.as_slice(), other.as_slice());
+        assert_own(
             &rt,
             alloc,
-            (image.as_slice(), dump.as_slice()),
-            line,
-            *answer,
+            files,
+            "same a.img new.bin",
+            (text.as_bytes(), *status, &[]),
         )?;
-    }
-    // One that is plain, and one with out-of-band bytes between other bytes.
-    let files = (chip.as_slice(), dump.as_slice());
-    assert_pair(&rt, alloc, files, "same a.img new.bin", ("same\n", 0))?;
-    let moved = BEHIND_512.file(alloc, spares.as_slice(), 64)?;
-    let files = (image.as_slice(), moved.as_slice());
-    assert_pair(&rt, alloc, files, "same a.img new.bin", ("same\n", 0))?;
-    let files = (image.as_slice(), other.as_slice());
-    assert_pair(&rt, alloc, files, "same a.img new.bin", ("different\n", 1))
-}
-
-/// Asserts what a line without a geometry answers over two files, read at places and whole.
-fn assert_pair(
-    rt: &impl Abort,
-    alloc: Global,
-    files: (&[u8], &[u8]),
-    line: &str,
-    answer: (&str, u8),
-) -> Result<(), Fail> {
-    for broken in [Broken::Nothing, Broken::Places] {
-        let (outcome, _) = run_own(alloc, files, broken, line)?;
-        assert!(*rt; is_answer(&outcome, answer), "of {line}, {broken:?}");
     }
     Ok(())
 }

@@ -3,13 +3,13 @@
 use super::answers::{assert_both, is_answer, run_over};
 use super::contents::{Contents, EMPTY};
 use super::fake::Broken;
-use super::pebs::{A, ERASED, Ec, FIRST, Peb, SECOND};
 use super::views::Lay;
 use std::str;
 use std::test::Fail;
 use ubi_commands::run_geometry;
 use ubi_probe::chips::PAGES;
 use ubi_probe::header_bytes::{EC, LEB_0, LEB_1, LEB_2, NO_PAGE_EC, OTHER_EC, SHARED_EC};
+use ubi_probe::pebs::{A, Data, ERASED, Ec, FIRST, Peb, SECOND, Vid};
 
 /// What is told of images of small eraseblocks: pages of 64 and of 128 bytes fit.
 pub const SMALL: &str =
@@ -20,10 +20,7 @@ const FIRST_1024: &str = "--peb 512 --page 64 --vid 64 --data 128 --start 0 --le
     --peb 512 --page 128 --vid 64 --data 128 --start 0 --length 1024\n";
 
 /// An eraseblock with no header of which anything can be read.
-const CORRUPT: Peb = Peb {
-    ec: Ec::Corrupt,
-    ..A
-};
+const CORRUPT: Peb = Peb(Ec::Corrupt, Vid::Leb(0, 0, 0), Data::Fill(b'A', 384));
 
 /// Three eraseblocks of 1,024 bytes, of which each has both headers in one page, and something where its half would begin.
 const SHARED: Contents = Contents::Runs(&[
@@ -146,111 +143,49 @@ fn tells_geometries_or_why_there_are_none(rt: HostRuntime) -> Result<(), Fail> {
     Ok(())
 }
 
-/// Where an image lies in a file, and the words of a part of that, if any; and what is told of it.
-struct Laid {
-    lay: Lay,
-    part: &'static str,
-    told: &'static str,
-}
-
-/// Files with the image of small eraseblocks, of 2,560 bytes.
-static SMALL_LAID: [Laid; 12] = [
+/// Files with the image of small eraseblocks, of 2,560 bytes: where it lies, the words of a part of the file, if any, and what is
+/// told.
+static SMALL_LAID: [(Lay, &str, &str); 12] = [
     // The file is the image.
-    Laid {
-        lay: ALONE,
-        part: "",
-        told: "",
-    },
-    Laid {
-        lay: ALONE,
-        part: "--start 0",
-        told: "",
-    },
+    (Lay(0, 0, 0), "", ""),
+    (Lay(0, 0, 0), "--start 0", ""),
     // The words say how long the part is.
-    Laid {
-        lay: ALONE,
-        part: "--length 2560",
-        told: " --start 0 --length 2560",
-    },
+    (Lay(0, 0, 0), "--length 2560", " --start 0 --length 2560"),
     // A boot loader in front, junk behind, and both.
-    Laid {
-        lay: BEHIND_1024,
-        part: "",
-        told: " --start 1024 --length 2560",
-    },
-    Laid {
-        lay: BEFORE_300,
-        part: "",
-        told: " --start 0 --length 2560",
-    },
-    Laid {
-        lay: BETWEEN,
-        part: "",
-        told: " --start 64 --length 2560",
-    },
+    (Lay(1024, 0, 0), "", " --start 1024 --length 2560"),
+    (Lay(0, 0, 300), "", " --start 0 --length 2560"),
+    (Lay(64, 0, 1), "", " --start 64 --length 2560"),
     // Of a part, from where it begins on.
-    Laid {
-        lay: BEHIND_1024,
-        part: "--start 1024",
-        told: " --start 1024 --length 2560",
-    },
-    Laid {
-        lay: BEHIND_1024,
-        part: "--start 512",
-        told: " --start 1024 --length 2560",
-    },
-    Laid {
-        lay: BEHIND_1024,
-        part: "--start 960 --length 2624",
-        told: " --start 1024 --length 2560",
-    },
-    Laid {
-        lay: BEFORE_300,
-        part: "--length 2560",
-        told: " --start 0 --length 2560",
-    },
-    Laid {
-        lay: BETWEEN,
-        part: "--start 64 --length 2560",
-        told: " --start 64 --length 2560",
-    },
+    (
+        Lay(1024, 0, 0),
+        "--start 1024",
+        " --start 1024 --length 2560",
+    ),
+    (
+        Lay(1024, 0, 0),
+        "--start 512",
+        " --start 1024 --length 2560",
+    ),
+    (
+        Lay(1024, 0, 0),
+        "--start 960 --length 2624",
+        " --start 1024 --length 2560",
+    ),
+    (Lay(0, 0, 300), "--length 2560", " --start 0 --length 2560"),
+    (
+        Lay(64, 0, 1),
+        "--start 64 --length 2560",
+        " --start 64 --length 2560",
+    ),
     // No place of a header is a multiple of 64 in the file, and each is one in the part.
-    Laid {
-        lay: BEHIND_1,
-        part: "--start 1",
-        told: " --start 1 --length 2560",
-    },
+    (Lay(1, 0, 0), "--start 1", " --start 1 --length 2560"),
 ];
-
-const ALONE: Lay = Lay {
-    before: 0,
-    oob: 0,
-    behind: 0,
-};
-
-const BEHIND_1: Lay = Lay { before: 1, ..ALONE };
-
-const BEHIND_1024: Lay = Lay {
-    before: 1024,
-    ..ALONE
-};
-
-const BEFORE_300: Lay = Lay {
-    behind: 300,
-    ..ALONE
-};
-
-const BETWEEN: Lay = Lay {
-    before: 64,
-    oob: 0,
-    behind: 1,
-};
 
 #[test]
 fn tells_where_an_image_lies(rt: HostRuntime) -> Result<(), Fail> {
     let alloc = rt.alloc();
     let image = Contents::Root.bytes(alloc)?;
-    for Laid { lay, part, told } in &SMALL_LAID {
+    for (lay, part, told) in &SMALL_LAID {
         let file = lay.file(alloc, image.as_slice(), 64)?;
         let files: (&[u8], &[u8]) = (file.as_slice(), &[]);
         let line = format!(in alloc; "geometry a.img {part}")?;
@@ -262,39 +197,46 @@ fn tells_where_an_image_lies(rt: HostRuntime) -> Result<(), Fail> {
     Ok(())
 }
 
-/// Files with the image of a chip, of 64 pages of 2 KiB an eraseblock, each with 64 out-of-band bytes behind it.
-static CHIP_LAID: [(Lay, &str); 4] = [
+/// Files with the image of a chip, of 64 pages of 2 KiB an eraseblock, each with 64 out-of-band bytes behind it: where it lies, how
+/// many bytes of the file there are at most, and what is told. Of the last one the last eraseblock, which begins 405,504 bytes behind
+/// the boot loader, was cut off: its number counts the out-of-band bytes.
+static CHIP_LAID: [(Lay, usize, (&str, u8)); 5] = [
     (
-        Lay {
-            before: 0,
-            oob: 64,
-            behind: 0,
-        },
-        "--peb 131072 --page 2048 --vid 2048 --data 4096 --oob 64\n",
+        Lay(0, 64, 0),
+        usize::MAX,
+        (
+            "--peb 131072 --page 2048 --vid 2048 --data 4096 --oob 64\n",
+            0,
+        ),
     ),
     (
-        Lay {
-            before: 65_536,
-            oob: 64,
-            behind: 0,
-        },
-        "--peb 131072 --page 2048 --vid 2048 --data 4096 --oob 64 --start 65536 --length 540672\n",
+        Lay(65_536, 64, 0),
+        usize::MAX,
+        (
+            "--peb 131072 --page 2048 --vid 2048 --data 4096 --oob 64 --start 65536 --length 540672\n",
+            0,
+        ),
     ),
     (
-        Lay {
-            before: 0,
-            oob: 64,
-            behind: 4096,
-        },
-        "--peb 131072 --page 2048 --vid 2048 --data 4096 --oob 64 --start 0 --length 540672\n",
+        Lay(0, 64, 4096),
+        usize::MAX,
+        (
+            "--peb 131072 --page 2048 --vid 2048 --data 4096 --oob 64 --start 0 --length 540672\n",
+            0,
+        ),
     ),
     (
-        Lay {
-            before: 64,
-            oob: 64,
-            behind: 1,
-        },
-        "--peb 131072 --page 2048 --vid 2048 --data 4096 --oob 64 --start 64 --length 540672\n",
+        Lay(64, 64, 1),
+        usize::MAX,
+        (
+            "--peb 131072 --page 2048 --vid 2048 --data 4096 --oob 64 --start 64 --length 540672\n",
+            0,
+        ),
+    ),
+    (
+        Lay(65_536, 64, 0),
+        65_536 + 405_504 + 135_167,
+        ("refused F3 Length peb=135168 rest=135167\n", 1),
     ),
 ];
 
@@ -302,30 +244,13 @@ static CHIP_LAID: [(Lay, &str); 4] = [
 fn tells_out_of_band_bytes(rt: HostRuntime) -> Result<(), Fail> {
     let alloc = rt.alloc();
     let image = Contents::Chip(PAGES, 524_288).bytes(alloc)?;
-    for (lay, told) in &CHIP_LAID {
-        let file = lay.file(alloc, image.as_slice(), 2048)?;
+    for (lay, most, told) in &CHIP_LAID {
+        let mut file = lay.file(alloc, image.as_slice(), 2048)?;
+        file.truncate(*most);
         let files: (&[u8], &[u8]) = (file.as_slice(), &[]);
-        assert_both(&rt, alloc, files, "geometry a.img", (told, 0), &[])?;
+        assert_both(&rt, alloc, files, "geometry a.img", *told, &[])?;
     }
     Ok(())
-}
-
-/// A dump with out-of-band bytes that was cut off: its number counts those.
-#[test]
-fn refuses_what_was_cut_off(rt: HostRuntime) -> Result<(), Fail> {
-    let alloc = rt.alloc();
-    let image = Contents::Chip(PAGES, 524_288).bytes(alloc)?;
-    let lay = Lay {
-        before: 65_536,
-        oob: 64,
-        behind: 0,
-    };
-    let mut file = lay.file(alloc, image.as_slice(), 2048)?;
-    // Its last eraseblock begins 405,504 bytes behind the boot loader.
-    file.truncate(65_536 + 405_504 + 135_167);
-    let files: (&[u8], &[u8]) = (file.as_slice(), &[]);
-    let told = ("refused F3 Length peb=135168 rest=135167\n", 1);
-    assert_both(&rt, alloc, files, "geometry a.img", told, &[])
 }
 
 /// What is told of a file in which an image lies, given to `list`, shows that image.
@@ -333,11 +258,7 @@ fn refuses_what_was_cut_off(rt: HostRuntime) -> Result<(), Fail> {
 fn lists_what_is_told(rt: HostRuntime) -> Result<(), Fail> {
     let alloc = rt.alloc();
     let image = Contents::Chip(PAGES, 524_288).bytes(alloc)?;
-    let lay = Lay {
-        before: 65_536,
-        oob: 64,
-        behind: 4096,
-    };
+    let lay = Lay(65_536, 64, 4096);
     let file = lay.file(alloc, image.as_slice(), 2048)?;
     let files: (&[u8], &[u8]) = (file.as_slice(), &[]);
     let (told, _) = run_over(alloc, files, Broken::Nothing, "geometry a.img")?;

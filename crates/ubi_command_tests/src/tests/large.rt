@@ -4,6 +4,7 @@
 use super::answers::assert_line;
 use super::contents::{Contents, EMPTY};
 use super::sessions::{Session, assert_session};
+use super::shown::BLANK_SHOWN;
 use std::fs;
 use std::fs::{File, OpenFile};
 use std::os::unix::fs::FileExt;
@@ -14,10 +15,11 @@ use ubi_probe::chips::{PAGE_EC, PAGES, SUBPAGES};
 /// logical eraseblocks, and a spare eraseblock, which its normal image hasn't.
 static CHIPS: [Session; 2] = [
     Session {
+        sizes: "--peb 131072 --page 2048 --pebs 64",
         before: BEFORE,
         lines: &[
             (
-                "compose chip.txt --out chip.img --spares 1 --seq 305419896 --peb 131072 --page 2048 --pebs 64",
+                "compose chip.txt --out chip.img --spares 1 --seq 305419896",
                 "blocks 4\n",
                 0,
             ),
@@ -27,19 +29,15 @@ static CHIPS: [Session; 2] = [
                 0,
             ),
             (
-                "list chip.img --peb 131072 --page 2048 --pebs 64",
+                "list chip.img",
                 "geometry peb=131072 page=2048 vid=2048 data=4096 leb=126976 slots=128 pebs=64\n\
                     volume 0 dynamic reserved=3 alignment=1 usable=126976 flags=00 lebs=1 name=root\n\
                     volumes 1\n",
                 0,
             ),
+            ("check chip.img", CHECKED, 0),
             (
-                "check chip.img --peb 131072 --page 2048 --pebs 64",
-                CHECKED,
-                0,
-            ),
-            (
-                "show chip.img --block 3 --peb 131072 --page 2048 --pebs 64",
+                "show chip.img --block 3",
                 "ec valid 55424923010000000000000000000000000008000000100012345678\
                     0000000000000000000000000000000000000000000000000000000000000000f0ef3182\n\
                     vid blank ffffffffffffffffffffffffffffffffffffffffffffffffffffffffffffffff\
@@ -47,67 +45,52 @@ static CHIPS: [Session; 2] = [
                 0,
             ),
             (
-                "extract chip.img --id 0 --out chip.bin --peb 131072 --page 2048 --pebs 64",
+                "extract chip.img --id 0 --out chip.bin",
                 "bytes 380928\n",
                 0,
             ),
             (
-                "unpack chip.img --out chip_volumes --peb 131072 --page 2048 --pebs 64",
+                "unpack chip.img --out chip_volumes",
                 "volume 0 bytes=380928 name=root\n",
                 0,
             ),
+            ("normalise chip.img --out chip_normal.img", "blocks 3\n", 0),
+            ("same chip.img chip_normal.img", "same\n", 0),
             (
-                "normalise chip.img --out chip_normal.img --peb 131072 --page 2048 --pebs 64",
-                "blocks 3\n",
-                0,
-            ),
-            (
-                "same chip.img chip_normal.img --peb 131072 --page 2048 --pebs 64",
-                "same\n",
-                0,
-            ),
-            (
-                "change chip.img --id 0 --lnum 1 --from chip.new --out chip_changed.img --peb 131072 --page 2048 --pebs 64",
+                "change chip.img --id 0 --lnum 1 --from chip.new --out chip_changed.img",
                 "steps 4\nprogram block=3 page=1\nprogram block=3 page=2\n\
                     erase block=2\nprogram block=2 page=0\n",
                 0,
             ),
             (
-                "extract chip_changed.img --id 0 --out chip_changed.bin --peb 131072 --page 2048 --pebs 64",
+                "extract chip_changed.img --id 0 --out chip_changed.bin",
                 "bytes 380928\n",
                 0,
             ),
             (
-                "compose chip.txt --out chip_spares.img --spares 2 --seq 305419896 --peb 131072 --page 2048 --pebs 64",
+                "compose chip.txt --out chip_spares.img --spares 2 --seq 305419896",
                 "blocks 5\n",
                 0,
             ),
             (
-                "change chip_spares.img --id 0 --lnum 1 --from chip.new --out chip_beside.img --pages chip.pages --bad 3,60-63 --blank keep --peb 131072 --page 2048 --pebs 64",
+                "change chip_spares.img --id 0 --lnum 1 --from chip.new --out chip_beside.img --pages chip.pages --bad 3,60-63 --blank keep",
                 "steps 4\nprogram block=4 page=1\nprogram block=4 page=2\n\
                     erase block=2\nprogram block=2 page=0\n",
                 0,
             ),
             (
-                "extract chip_beside.img --id 0 --out chip_beside.bin --bad 3,60-63 --peb 131072 --page 2048 --pebs 64",
+                "extract chip_beside.img --id 0 --out chip_beside.bin --bad 3,60-63",
                 "bytes 380928\n",
                 0,
             ),
+            ("show chip_spares.img --block 3 --bad 3", BLANK_SHOWN, 0),
             (
-                "show chip_spares.img --block 3 --bad 3 --peb 131072 --page 2048 --pebs 64",
-                "ec blank ffffffffffffffffffffffffffffffffffffffffffffffffffffffffffffffff\
-                    ffffffffffffffffffffffffffffffffffffffffffffffffffffffffffffffff\n\
-                    vid blank ffffffffffffffffffffffffffffffffffffffffffffffffffffffffffffffff\
-                    ffffffffffffffffffffffffffffffffffffffffffffffffffffffffffffffff\n",
-                0,
-            ),
-            (
-                "change chip_spares.img --id 0 --lnum 1 --from chip.new --out chip_refused.img --pages chip_refused.pages --bad 3-4 --peb 131072 --page 2048 --pebs 64",
+                "change chip_spares.img --id 0 --lnum 1 --from chip.new --out chip_refused.img --pages chip_refused.pages --bad 3-4",
                 "refused K9 NoFree\n",
                 1,
             ),
             (
-                "rename chip_spares.img --id 0 --name data --out chip_renamed.img --peb 131072 --page 2048 --pebs 64",
+                "rename chip_spares.img --id 0 --name data --out chip_renamed.img",
                 "steps 28\n\
                     program block=3 page=1\nprogram block=3 page=2\nprogram block=3 page=3\nprogram block=3 page=4\n\
                     program block=3 page=5\nprogram block=3 page=6\nprogram block=3 page=7\nprogram block=3 page=8\n\
@@ -120,14 +103,14 @@ static CHIPS: [Session; 2] = [
                 0,
             ),
             (
-                "list chip_renamed.img --peb 131072 --page 2048 --pebs 64",
+                "list chip_renamed.img",
                 "geometry peb=131072 page=2048 vid=2048 data=4096 leb=126976 slots=128 pebs=64\n\
                     volume 0 dynamic reserved=3 alignment=1 usable=126976 flags=00 lebs=1 name=data\n\
                     volumes 1\n",
                 0,
             ),
             (
-                "extract chip_renamed.img --id 0 --out chip_renamed.bin --peb 131072 --page 2048 --pebs 64",
+                "extract chip_renamed.img --id 0 --out chip_renamed.bin",
                 "bytes 380928\n",
                 0,
             ),
@@ -154,10 +137,11 @@ static CHIPS: [Session; 2] = [
         absent: "chip_refused.pages",
     },
     Session {
+        sizes: "--peb 131072 --page 2048 --vid 512 --data 2048 --pebs 64",
         before: BEFORE,
         lines: &[
             (
-                "compose chip.txt --out chip.img --spares 1 --seq 305419896 --peb 131072 --page 2048 --vid 512 --data 2048 --pebs 64",
+                "compose chip.txt --out chip.img --spares 1 --seq 305419896",
                 "blocks 4\n",
                 0,
             ),
@@ -167,19 +151,15 @@ static CHIPS: [Session; 2] = [
                 0,
             ),
             (
-                "list chip.img --peb 131072 --page 2048 --vid 512 --data 2048 --pebs 64",
+                "list chip.img",
                 "geometry peb=131072 page=2048 vid=512 data=2048 leb=129024 slots=128 pebs=64\n\
                     volume 0 dynamic reserved=3 alignment=1 usable=129024 flags=00 lebs=1 name=root\n\
                     volumes 1\n",
                 0,
             ),
+            ("check chip.img", CHECKED, 0),
             (
-                "check chip.img --peb 131072 --page 2048 --vid 512 --data 2048 --pebs 64",
-                CHECKED,
-                0,
-            ),
-            (
-                "show chip.img --block 3 --peb 131072 --page 2048 --vid 512 --data 2048 --pebs 64",
+                "show chip.img --block 3",
                 "ec valid 55424923010000000000000000000000000002000000080012345678\
                     000000000000000000000000000000000000000000000000000000000000000062a50353\n\
                     vid blank ffffffffffffffffffffffffffffffffffffffffffffffffffffffffffffffff\
@@ -187,38 +167,30 @@ static CHIPS: [Session; 2] = [
                 0,
             ),
             (
-                "extract chip.img --id 0 --out chip.bin --peb 131072 --page 2048 --vid 512 --data 2048 --pebs 64",
+                "extract chip.img --id 0 --out chip.bin",
                 "bytes 387072\n",
                 0,
             ),
+            ("normalise chip.img --out chip_normal.img", "blocks 3\n", 0),
+            ("same chip.img chip_normal.img", "same\n", 0),
             (
-                "normalise chip.img --out chip_normal.img --peb 131072 --page 2048 --vid 512 --data 2048 --pebs 64",
-                "blocks 3\n",
-                0,
-            ),
-            (
-                "same chip.img chip_normal.img --peb 131072 --page 2048 --vid 512 --data 2048 --pebs 64",
-                "same\n",
-                0,
-            ),
-            (
-                "change chip.img --id 0 --lnum 1 --from chip.new --out chip_changed.img --peb 131072 --page 2048 --vid 512 --data 2048 --pebs 64",
+                "change chip.img --id 0 --lnum 1 --from chip.new --out chip_changed.img",
                 "steps 4\nprogram block=3 page=0\nprogram block=3 page=1\n\
                     erase block=2\nprogram block=2 page=0\n",
                 0,
             ),
             (
-                "extract chip_changed.img --id 0 --out chip_changed.bin --peb 131072 --page 2048 --vid 512 --data 2048 --pebs 64",
+                "extract chip_changed.img --id 0 --out chip_changed.bin",
                 "bytes 387072\n",
                 0,
             ),
             (
-                "compose chip.txt --out chip_spares.img --spares 2 --seq 305419896 --peb 131072 --page 2048 --vid 512 --data 2048 --pebs 64",
+                "compose chip.txt --out chip_spares.img --spares 2 --seq 305419896",
                 "blocks 5\n",
                 0,
             ),
             (
-                "rename chip_spares.img --id 0 --name data --out chip_renamed.img --peb 131072 --page 2048 --vid 512 --data 2048 --pebs 64",
+                "rename chip_spares.img --id 0 --name data --out chip_renamed.img",
                 "steps 28\n\
                     program block=3 page=0\nprogram block=3 page=1\nprogram block=3 page=2\nprogram block=3 page=3\n\
                     program block=3 page=4\nprogram block=3 page=5\nprogram block=3 page=6\nprogram block=3 page=7\n\
@@ -231,14 +203,14 @@ static CHIPS: [Session; 2] = [
                 0,
             ),
             (
-                "list chip_renamed.img --peb 131072 --page 2048 --vid 512 --data 2048 --pebs 64",
+                "list chip_renamed.img",
                 "geometry peb=131072 page=2048 vid=512 data=2048 leb=129024 slots=128 pebs=64\n\
                     volume 0 dynamic reserved=3 alignment=1 usable=129024 flags=00 lebs=1 name=data\n\
                     volumes 1\n",
                 0,
             ),
             (
-                "extract chip_renamed.img --id 0 --out chip_renamed.bin --peb 131072 --page 2048 --vid 512 --data 2048 --pebs 64",
+                "extract chip_renamed.img --id 0 --out chip_renamed.bin",
                 "bytes 387072\n",
                 0,
             ),
@@ -321,10 +293,7 @@ static FAR: [(&str, &str, u8); 4] = [
     // What is listed there is blank, and what is listed beside it isn't.
     (
         "show far.img --block 2400 --bad 2399,2400 --peb 2097152 --page 2048",
-        "ec blank ffffffffffffffffffffffffffffffffffffffffffffffffffffffffffffffff\
-            ffffffffffffffffffffffffffffffffffffffffffffffffffffffffffffffff\n\
-            vid blank ffffffffffffffffffffffffffffffffffffffffffffffffffffffffffffffff\
-            ffffffffffffffffffffffffffffffffffffffffffffffffffffffffffffffff\n",
+        BLANK_SHOWN,
         0,
     ),
     (

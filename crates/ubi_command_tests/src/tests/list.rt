@@ -2,11 +2,15 @@
 
 use super::answers::assert_both;
 use super::contents::Contents;
-use super::pebs::{
-    A, A_BEYOND, B, C, EMPTY_D, FIRST, FIRST_UPDATING, Peb, SECOND, SECOND_UPDATING, STATIC_A,
-};
 use std::test::Fail;
 use ubi_probe::header_bytes::EC;
+use ubi_probe::pebs::{
+    A, B, C, Data, EMPTY_D, FIRST, FIRST_UPDATING, NAMED, Peb, SECOND, SECOND_UPDATING, STATIC_A,
+    Vid,
+};
+
+/// Logical eraseblock 20, which `root` doesn't reserve.
+const A_BEYOND: Peb = Peb(NAMED, Vid::Leb(0, 20, 0), Data::Fill(b'A', 384));
 
 /// The image of `root` with a logical eraseblock that is blank, which isn't counted, and one that the volume doesn't
 /// reserve.

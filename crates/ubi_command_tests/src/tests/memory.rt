@@ -3,15 +3,13 @@
 //! The script bench/second/refuse.sh refuses each growth of memory of these tests in turn, and looks for the line that
 //! is printed here.
 
-use super::answers::{run_line, small};
+use super::answers::run_line;
 use super::build::CONFIG;
 use super::fake::{Broken, FakeFiles, Left};
 use super::geometry::SMALL;
 use super::opened::opens_right;
-use super::pebs::{
-    NORMAL_A, NORMAL_B, NORMAL_C, Peb, ROOT_FIRST, ROOT_SECOND, UNNAMED_FREE, put_pebs,
-};
 use super::rename::LINES;
+use super::shown::{CHANGED, ROOT_CHECKED, ROOT_LISTED, ROOT_SHOWN};
 use std::alloc::{AllocError, Global};
 use std::process::Abort;
 use std::test::Fail;
@@ -20,7 +18,10 @@ use ubi_commands::{
     run_list, run_normalise, run_rename, run_same, run_show,
 };
 use ubi_media::Geometry;
-use ubi_probe::texts::put_runs;
+use ubi_probe::pebs::{
+    NORMAL_A, NORMAL_B, NORMAL_C, Peb, ROOT_FIRST, ROOT_SECOND, UNNAMED_FREE, image_of, small,
+};
+use ubi_probe::texts::bytes_of;
 use ubi_scan::MemorySource;
 
 /// A text of a dynamic and a static volume, with an eraseblock each.
@@ -40,21 +41,6 @@ const SPARES: &[Peb] = &[
 
 /// What its volume reads.
 const TEXT: &[(&[u8], usize)] = &[(b"A", 384), (b"B", 384), (b"C", 384), (b"\xFF", 6528)];
-
-/// What is told of these images.
-const LISTED: &str = "geometry peb=512 page=64 vid=64 data=128 leb=384 slots=2 pebs=32\n\
-    volume 0 dynamic reserved=20 alignment=1 usable=384 flags=00 lebs=3 name=root\nvolumes 1\n";
-
-const CHECKED: &str = "blocks 5\nblank 0\nfree 0\ntable 2\nused 3\nstale 0\norphan 0\ndropped 0\n\
-    corrupt 0\ngarbage 0\ntop sqnum 0\nimage seq 305419896\nmean counter 0\naccepted\n";
-
-const SHOWN: &str = "ec valid 5542492301000000000000000000000000000040000000801234567800000000\
-    000000000000000000000000000000000000000000000000000000005b73f913\n\
-    vid valid 5542492101010000000000000000000200000000000000000000000000000000\
-    00000000000000000000000000000000000000000000000000000000efecfd8e\n";
-
-const CHANGED: &str = "steps 4\nprogram block=5 page=1\nprogram block=5 page=2\n\
-    erase block=3\nprogram block=3 page=0\n";
 
 /// Whether a command answered a text. Else memory ran out.
 fn is_told(rt: &impl Abort, answer: Result<Outcome, AllocError>, text: &str) -> bool {
@@ -119,8 +105,7 @@ fn is_normalised(rt: &impl Abort, alloc: Global, geometry: &Geometry, image: &[u
 
 /// The first bytes of the image.
 fn image(alloc: Global, geometry: &Geometry, len: usize) -> Result<Vec<u8>, AllocError> {
-    let mut bytes = Vec::new(alloc);
-    put_pebs(&mut bytes, geometry, SPARES)?;
+    let mut bytes = image_of(alloc, geometry, SPARES)?;
     bytes.truncate(len);
     Ok(bytes)
 }
@@ -128,16 +113,15 @@ fn image(alloc: Global, geometry: &Geometry, len: usize) -> Result<Vec<u8>, Allo
 /// Whether each command answered. Else memory ran out.
 fn tells_all(rt: &impl Abort, alloc: Global, geometry: &Geometry) -> Result<bool, AllocError> {
     let (root, spare) = (image(alloc, geometry, 2560)?, image(alloc, geometry, 3072)?);
-    let (spares, mut text) = (image(alloc, geometry, 3584)?, Vec::new(alloc));
-    put_runs(&mut text, TEXT)?;
+    let (spares, text) = (image(alloc, geometry, 3584)?, bytes_of(alloc, TEXT)?);
     let (image, spare) = (root.as_slice(), spare.as_slice());
     let changed = run_change(alloc, geometry, spare, 0, 1, &[0x61; 64], None);
     let renamed = run_rename(alloc, geometry, spares.as_slice(), 0, b"data", None);
     let told = [
         is_told(rt, run_geometry(alloc, image), SMALL),
-        is_told(rt, run_list(alloc, geometry, image), LISTED),
-        is_told(rt, run_check(alloc, geometry, image), CHECKED),
-        is_told(rt, run_show(alloc, geometry, image, 4), SHOWN),
+        is_told(rt, run_list(alloc, geometry, image), ROOT_LISTED),
+        is_told(rt, run_check(alloc, geometry, image), ROOT_CHECKED),
+        is_told(rt, run_show(alloc, geometry, image, 4), ROOT_SHOWN),
         is_extracted(rt, alloc, geometry, image, text.as_slice()),
         is_normalised(rt, alloc, geometry, image),
         is_told(rt, run_same(alloc, geometry, image, image), "same\n"),
@@ -159,8 +143,8 @@ fn tells_all_or_runs_out_of_memory(rt: HostRuntime) -> Result<(), Fail> {
 /// The words of a command, how many bytes of the image they are over, what is answered, and how many bytes are written.
 static WORDS: [(&str, usize, &str, usize); 10] = [
     ("geometry a", 2560, SMALL, 0),
-    ("list a --peb 512 --page 64 --pebs 32", 2560, LISTED, 0),
-    ("show a --block 4 --peb 512 --page 64", 2560, SHOWN, 0),
+    ("list a --peb 512 --page 64 --pebs 32", 2560, ROOT_LISTED, 0),
+    ("show a --block 4 --peb 512 --page 64", 2560, ROOT_SHOWN, 0),
     (
         "extract a --id 0 --out b --peb 512 --page 64",
         2560,

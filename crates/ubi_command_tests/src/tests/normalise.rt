@@ -1,23 +1,60 @@
 //! The command `normalise`: which bytes images are normalised to, and how much is read for it.
 
-use super::answers::small;
 use super::cases::{Answer, Case, assert_cases, is_given};
-use super::pebs::{
-    A, ALIGNED_A, ALIGNED_FIRST, ALIGNED_SECOND, ALIGNED_ZEROED, B, BEYOND, BOOT_FIRST,
-    BOOT_SECOND, C, DROPPED, EMPTY_D, ERASED, FIFTH_OF_5, FIRST, FIRST_ALIGNED, FIRST_BOOT,
-    FIRST_OF_5, FIRST_UPDATING, FOURTH_OF_7, FREE, GARBAGE, NEWER_0, NEWER_1, NORMAL_34, NORMAL_35,
-    NORMAL_37, NORMAL_A, NORMAL_ALIGNED, NORMAL_B, NORMAL_C, NORMAL_DAMAGED, NORMAL_TEXT_0,
-    NORMAL_TEXT_1, OLD, OLDER, RIGHT, ROOT_FIRST, ROOT_SECOND, SECOND, SECOND_ALIGNED, SECOND_BOOT,
-    SECOND_OF_6, SECOND_UPDATING, TEXT_0, TEXT_1, THIRD_OF_5, TORN, UNLIKE, UNNAMED_FIRST,
-    UNNAMED_SECOND, UNREAD, UPDATING_FIRST, UPDATING_SECOND, WORN_A, WORN_B, WORN_C, WORN_FIRST,
-    WORN_SECOND, WRONG_4, WRONG_6, WRONG_9,
-};
 use std::alloc::Global;
 use std::test::Fail;
 use ubi_compose::normalise_to;
 use ubi_media::Refusal;
+use ubi_probe::headers::{CHECK_OF_41, WRONG_CHECK_OF_39};
+use ubi_probe::pebs::{
+    A, ALIGNED_A, ALIGNED_FIRST, ALIGNED_SECOND, ALIGNED_ZEROED, B, BEYOND, BOOT_0, BOOT_1,
+    BOOT_FIRST, BOOT_SECOND, C, DROPPED, Data, EMPTY_D, ERASED, Ec, FIRST, FIRST_ALIGNED,
+    FIRST_BOOT, FIRST_OF_5, FIRST_UPDATING, FREE, GARBAGE, LEB_0, NAMED, NEWER_BOOT_0,
+    NEWER_BOOT_1, NORMAL_A, NORMAL_ALIGNED, NORMAL_B, NORMAL_BOOT_0, NORMAL_BOOT_1, NORMAL_C,
+    NORMAL_DAMAGED, NORMAL_FIRST, NORMAL_SECOND, OLD, Peb, RIGHT, ROOT_FIRST, ROOT_SECOND, SECOND,
+    SECOND_ALIGNED, SECOND_BOOT, SECOND_OF_6, SECOND_UPDATING, STATIC_BEYOND, TORN, UPDATING_FIRST,
+    UPDATING_SECOND, Vid, WORN_A, WORN_B, WORN_C, WORN_FIRST, WORN_SECOND, WRONG_6, WRONG_9, small,
+};
 use ubi_probe::{Failure, ProbeSource, ProbeWriter};
 use ubi_scan::StreamError;
+
+/// Members of logical eraseblock 0: no copy, and a copy whose check is wrong.
+const OLDER: Peb = Peb(NAMED, Vid::Leb(0, 0, 6), Data::Fill(b'6', 384));
+
+const WRONG_4: Peb = Peb(
+    NAMED,
+    Vid::Copy(0, 64, WRONG_CHECK_OF_39, 4),
+    Data::Fill(b'4', 64),
+);
+
+/// A logical eraseblock whose erase-counter header is blank.
+const UNREAD: Peb = Peb(Ec::Blank, Vid::Leb(0, 1, 0), Data::Fill(b'B', 384));
+
+/// Pieces of a static volume, by how many they say that there are.
+const THIRD_OF_5: Peb = Peb(
+    NAMED,
+    Vid::Static(2, 5, 384, CHECK_OF_41),
+    Data::Fill(b'A', 384),
+);
+
+const FOURTH_OF_7: Peb = Peb(
+    NAMED,
+    Vid::Static(3, 7, 384, CHECK_OF_41),
+    Data::Fill(b'A', 384),
+);
+
+const FIFTH_OF_5: Peb = Peb(
+    NAMED,
+    Vid::Static(4, 5, 384, CHECK_OF_41),
+    Data::Fill(b'A', 384),
+);
+
+/// Logical eraseblock 0 of a normal image with what wins it: 64 bytes 0x37, 384 bytes 0x35, or 64 bytes of a copy that is wrong.
+const NORMAL_37: Peb = Peb(Ec::Normal, LEB_0, Data::Fill(b'7', 64));
+
+const NORMAL_35: Peb = Peb(Ec::Normal, LEB_0, Data::Fill(b'5', 384));
+
+const NORMAL_34: Peb = Peb(Ec::Normal, LEB_0, Data::Fill(b'4', 64));
 
 /// An image of the volume `root`, with logical eraseblocks 0, 1 and 2.
 const ROOT: Case = Case {
@@ -35,7 +72,7 @@ const ROOT: Case = Case {
 const NOTHING: Case = Case {
     what: "blank eraseblocks",
     pebs: &[ERASED, ERASED, ERASED],
-    answer: Answer::Normal("blocks 2\n", &[UNNAMED_FIRST, UNNAMED_SECOND]),
+    answer: Answer::Normal("blocks 2\n", &[NORMAL_FIRST, NORMAL_SECOND]),
     checked: &[],
     ..ROOT
 };
@@ -60,11 +97,11 @@ const WON_BY_34: Case = Case {
 /// One of the volume `boot`, which reads 384 bytes 0x41 and a byte 0xFF.
 const BOOT: Case = Case {
     what: "a static volume",
-    pebs: &[FIRST_BOOT, SECOND_BOOT, TEXT_0, TEXT_1],
+    pebs: &[FIRST_BOOT, SECOND_BOOT, BOOT_0, BOOT_1],
     over: &[],
     answer: Answer::Normal(
         "blocks 4\n",
-        &[BOOT_FIRST, BOOT_SECOND, NORMAL_TEXT_0, NORMAL_TEXT_1],
+        &[BOOT_FIRST, BOOT_SECOND, NORMAL_BOOT_0, NORMAL_BOOT_1],
     ),
     checked: &[],
 };
@@ -72,7 +109,7 @@ const BOOT: Case = Case {
 /// One of it where it is damaged.
 const DAMAGED: Case = Case {
     what: "a static volume without its end",
-    pebs: &[FIRST_BOOT, SECOND_BOOT, TEXT_0],
+    pebs: &[FIRST_BOOT, SECOND_BOOT, BOOT_0],
     answer: Answer::Normal("blocks 3\n", &[BOOT_FIRST, BOOT_SECOND, NORMAL_DAMAGED]),
     ..BOOT
 };
@@ -91,7 +128,7 @@ const ALIGNED: Case = Case {
 /// One without volumes whose copy 0 of the table has another byte.
 const OTHER_BYTE: Case = Case {
     what: "another byte in an erase-counter header of the table",
-    pebs: &[UNNAMED_FIRST, UNNAMED_SECOND],
+    pebs: &[NORMAL_FIRST, NORMAL_SECOND],
     over: &[(24, &[0x55])],
     ..NOTHING
 };
@@ -142,7 +179,7 @@ static TABLES: [Case; 10] = [
     },
     Case {
         what: "copy 0 of the table alone",
-        pebs: &[UNNAMED_FIRST],
+        pebs: &[NORMAL_FIRST],
         ..NOTHING
     },
     OTHER_BYTE,
@@ -172,11 +209,6 @@ static TABLES: [Case; 10] = [
         ..OTHER_BYTE
     },
 ];
-
-#[test]
-fn takes_the_copy_of_the_table_that_decides(rt: HostRuntime) -> Result<(), Fail> {
-    assert_cases(&rt, rt.alloc(), "tables.img", &TABLES)
-}
 
 /// Members of one logical eraseblock.
 static MEMBERS: [Case; 10] = [
@@ -242,11 +274,6 @@ static MEMBERS: [Case; 10] = [
     },
 ];
 
-#[test]
-fn normalises_what_wins(rt: HostRuntime) -> Result<(), Fail> {
-    assert_cases(&rt, rt.alloc(), "members.img", &MEMBERS)
-}
-
 /// Volumes of every sort.
 static VOLUMES: [Case; 13] = [
     ROOT,
@@ -259,7 +286,14 @@ static VOLUMES: [Case; 13] = [
     BOOT,
     Case {
         what: "two copies of each logical eraseblock of a static volume",
-        pebs: &[FIRST_BOOT, SECOND_BOOT, NEWER_0, TEXT_0, TEXT_1, NEWER_1],
+        pebs: &[
+            FIRST_BOOT,
+            SECOND_BOOT,
+            NEWER_BOOT_0,
+            BOOT_0,
+            BOOT_1,
+            NEWER_BOOT_1,
+        ],
         ..BOOT
     },
     DAMAGED,
@@ -290,15 +324,29 @@ static VOLUMES: [Case; 13] = [
     Case {
         what: "an eraseblock of each state",
         pebs: &[
-            FIRST, SECOND, OLD, WRONG_9, BEYOND, UNLIKE, UNREAD, DROPPED, FREE, GARBAGE, TORN,
+            FIRST,
+            SECOND,
+            OLD,
+            WRONG_9,
+            BEYOND,
+            STATIC_BEYOND,
+            UNREAD,
+            DROPPED,
+            FREE,
+            GARBAGE,
+            TORN,
         ],
         ..WON_BY_35
     },
 ];
 
+/// The copy of the table that decides, the member that wins, and volumes of every sort.
 #[test]
-fn normalises_volumes(rt: HostRuntime) -> Result<(), Fail> {
-    assert_cases(&rt, rt.alloc(), "volumes.img", &VOLUMES)
+fn normalises_images(rt: HostRuntime) -> Result<(), Fail> {
+    for cases in [TABLES.as_slice(), MEMBERS.as_slice(), VOLUMES.as_slice()] {
+        assert_cases(&rt, rt.alloc(), "normalised.img", cases)?;
+    }
+    Ok(())
 }
 
 /// How many bytes there are, and the line and the cause for which they are no image.

@@ -1,17 +1,16 @@
 //! The command `normalise` over sources and writers that fail, and over files that are linked, piped or endless.
 
-use super::answers::{assert_line, small};
+use super::answers::assert_line;
 use super::contents::Contents;
 use std::alloc::Global;
-use std::fs::Files;
 use std::io::{ErrorKind, Write};
-use std::os::unix::fs::{FileExt, symlink};
+use std::os::unix::fs::symlink;
 use std::os::unix::io::AsRawFd;
-use std::process::Abort;
 use std::test::Fail;
 use std::{fs, io};
 use ubi_commands::{ToolError, run_normalise};
 use ubi_compose::normalise_to;
+use ubi_probe::pebs::small;
 use ubi_probe::{Failure, ProbeSource, ProbeWriter};
 use ubi_scan::{BlockSource, FileSource, MemorySource, StreamError};
 
@@ -58,24 +57,25 @@ fn is_told(alloc: Global, image: &[u8], at: u64, p: u32, written: &[u8]) -> Resu
     Ok(answer == Err(StreamError::Read(p, count)) && writer.taken() == written)
 }
 
-/// Asserts what is answered and written of an image whose reads fail in turn, up to one more than there are.
-fn assert_reads(rt: &impl Abort, alloc: Global, (image, want): (&[u8], &[u8])) -> Result<(), Fail> {
-    for (at, p, count) in READS {
-        let written = want.get(..count).ok_or("short")?;
-        let mut source = ProbeSource::new(alloc, &small()?, image, at)?;
-        let is = is_run(alloc, &mut source, Err(ToolError::Read), written)?;
-        assert!(*rt; is && is_told(alloc, image, at, p, written)?, "read {at}");
-    }
-    let mut source = ProbeSource::new(alloc, &small()?, image, 10)?;
-    assert!(*rt; is_run(alloc, &mut source, Ok(b"blocks 5\n"), want)?);
-    Ok(())
-}
-
 #[test]
 fn tells_of_a_read_that_fails(rt: HostRuntime) -> Result<(), Fail> {
-    let image = Contents::Root.bytes(rt.alloc())?;
-    let want = Contents::NormalRoot.bytes(rt.alloc())?;
-    assert_reads(&rt, rt.alloc(), (image.as_slice(), want.as_slice()))
+    let alloc = rt.alloc();
+    let (image, want) = (
+        Contents::Root.bytes(alloc)?,
+        Contents::NormalRoot.bytes(alloc)?,
+    );
+    for (at, p, count) in READS {
+        let written = want.as_slice().get(..count).ok_or("short")?;
+        let mut source = ProbeSource::new(alloc, &small()?, image.as_slice(), at)?;
+        let is = is_run(alloc, &mut source, Err(ToolError::Read), written)?;
+        assert!(rt;
+            is && is_told(alloc, image.as_slice(), at, p, written)?,
+            "read {at}"
+        );
+    }
+    let mut source = ProbeSource::new(alloc, &small()?, image.as_slice(), 10)?;
+    assert!(rt; is_run(alloc, &mut source, Ok(b"blocks 5\n"), want.as_slice())?);
+    Ok(())
 }
 
 /// Whether a writer that takes so many bytes at once and fails once it has so many is told with their number, and has
@@ -126,54 +126,34 @@ static CUTS: [(Contents, Contents, &[Cut]); 2] = [
     ),
 ];
 
-/// Asserts each cut of an image.
-fn assert_cuts(
-    rt: &impl Abort,
-    alloc: Global,
-    over: (&[u8], &[u8]),
-    cuts: &[Cut],
-) -> Result<(), Fail> {
-    for (least, most, failure, at_once) in cuts {
-        for room in *least..most.saturating_add(1) {
-            let is = is_cut(alloc, over, room, (*failure, *at_once))?;
-            assert!(*rt; is, "after {room} bytes");
+#[test]
+fn tells_of_a_write_that_fails(rt: HostRuntime) -> Result<(), Fail> {
+    let alloc = rt.alloc();
+    for (image, want, cuts) in &CUTS {
+        let (image, want) = (image.bytes(alloc)?, want.bytes(alloc)?);
+        for (least, most, failure, at_once) in *cuts {
+            for room in *least..most.saturating_add(1) {
+                let over = (image.as_slice(), want.as_slice());
+                let is = is_cut(alloc, over, room, (*failure, *at_once))?;
+                assert!(rt; is, "after {room} bytes");
+            }
         }
     }
     Ok(())
 }
 
 #[test]
-fn tells_of_a_write_that_fails(rt: HostRuntime) -> Result<(), Fail> {
-    for (image, want, cuts) in &CUTS {
-        let (image, want) = (image.bytes(rt.alloc())?, want.bytes(rt.alloc())?);
-        assert_cuts(&rt, rt.alloc(), (image.as_slice(), want.as_slice()), cuts)?;
-    }
-    Ok(())
-}
-
-/// Asserts what is answered and written of a file, and once it was cut short while it is open.
-fn assert_cut<R: Files + Abort>(
-    rt: &R,
-    alloc: Global,
-    image: &[u8],
-    want: &[u8],
-) -> Result<(), Fail>
-where
-    R::File: FileExt,
-{
-    fs::write(rt, "cut.img", image)?;
-    let mut source = FileSource::open(rt, "cut.img")?;
-    assert!(*rt; is_run(alloc, &mut source, Ok(b"blocks 5\n"), want)?);
-    fs::write(rt, "cut.img", [0xFF; 1024].as_slice())?;
-    assert!(*rt; is_run(alloc, &mut source, Err(ToolError::Read), &[])?);
-    Ok(())
-}
-
-#[test]
 fn tells_of_a_file_that_is_cut_short(rt: HostRuntime) -> Result<(), Fail> {
-    let image = Contents::Root.bytes(rt.alloc())?;
-    let want = Contents::NormalRoot.bytes(rt.alloc())?;
-    assert_cut(&rt, rt.alloc(), image.as_slice(), want.as_slice())?;
+    let alloc = rt.alloc();
+    let (image, want) = (
+        Contents::Root.bytes(alloc)?,
+        Contents::NormalRoot.bytes(alloc)?,
+    );
+    fs::write(&rt, "cut.img", image.as_slice())?;
+    let mut source = FileSource::open(&rt, "cut.img")?;
+    assert!(rt; is_run(alloc, &mut source, Ok(b"blocks 5\n"), want.as_slice())?);
+    fs::write(&rt, "cut.img", [0xFF; 1024].as_slice())?;
+    assert!(rt; is_run(alloc, &mut source, Err(ToolError::Read), &[])?);
     fs::remove_file(&rt, "cut.img")?;
     Ok(())
 }
@@ -186,27 +166,6 @@ static ONTO: [&str; 4] = [
     "normalise onto_itself.img --out pointing.img",
 ];
 
-/// Asserts that each line answers, and what the image holds then.
-fn assert_onto<R: Files + Alloc + Eprint + Abort>(
-    rt: &R,
-    alloc: Global,
-    image: &[u8],
-    want: &[u8],
-) -> Result<(), Fail>
-where
-    R::File: FileExt,
-{
-    for line in ONTO {
-        fs::write(rt, "onto_itself.img", image)?;
-        assert_line(rt, alloc, line, ("blocks 5\n", 0))?;
-        assert!(*rt;
-            fs::read(rt, "onto_itself.img")?.as_slice() == want,
-            "of {line}"
-        );
-    }
-    Ok(())
-}
-
 #[test]
 fn normalises_a_file_onto_itself(rt: HostRuntime) -> Result<(), Fail> {
     fs::write(&rt, "onto_itself.img", b"".as_slice())?;
@@ -214,7 +173,12 @@ fn normalises_a_file_onto_itself(rt: HostRuntime) -> Result<(), Fail> {
     symlink(&rt, "onto_itself.img", "pointing.img")?;
     let image = Contents::Root.bytes(rt.alloc())?;
     let want = Contents::NormalRoot.bytes(rt.alloc())?;
-    assert_onto(&rt, rt.alloc(), image.as_slice(), want.as_slice())?;
+    for line in ONTO {
+        fs::write(&rt, "onto_itself.img", image.as_slice())?;
+        assert_line(&rt, rt.alloc(), line, ("blocks 5\n", 0))?;
+        let is = fs::read(&rt, "onto_itself.img")? == want;
+        assert!(rt; is, "of {line}");
+    }
     for path in ["onto_itself.img", "linked.img", "pointing.img"] {
         fs::remove_file(&rt, path)?;
     }

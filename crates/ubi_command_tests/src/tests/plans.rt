@@ -1,11 +1,12 @@
 //! Plans that are cut after each of their steps: which bytes are written, and what these mean.
 
 use super::answers::{is_answer, run_over};
-use super::contents::{Contents, overwrite};
+use super::contents::Contents;
 use super::fake::Broken;
 use std::alloc::Global;
 use std::process::Abort;
 use std::test::Fail;
+use ubi_probe::texts::overwrite;
 
 /// A line over an image, and what it prints and writes before a plan turns that, and from then on.
 #[derive(Clone, Copy)]

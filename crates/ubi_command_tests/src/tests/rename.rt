@@ -1,15 +1,17 @@
 //! The command `rename`: the bytes of each cut, the names that these have, and what is refused.
 
-use super::answers::{is_answer, small};
+use super::answers::is_answer;
 use super::contents::{Contents, EMPTY};
-use super::pebs::{
-    A, B, C, C_LAST, C_LAST_BUT_1, C_LAST_BUT_2, FIRST, FIRST_NAME, FREE, SECOND, SECOND_NAME,
-};
 use super::plans::{Plan, Reading, assert_plans};
+use super::shown::{DATA_LISTED, ROOT_LISTED, TWO_LISTED, TWO_RENAMED};
 use std::alloc::Global;
 use std::test::Fail;
 use ubi_commands::run_rename;
 use ubi_probe::header_bytes::ERASED_EC;
+use ubi_probe::pebs::{
+    A, B, C, C_LAST, C_LAST_BUT_1, C_LAST_BUT_2, FIRST, FIRST_NAME, FREE, SECOND, SECOND_NAME,
+    small,
+};
 
 /// The lines of the plan that renames a volume of an image with two spare eraseblocks.
 pub const LINES: &str = "steps 18\n\
@@ -23,12 +25,7 @@ pub const LINES: &str = "steps 18\n\
     program block=1 page=0\n";
 
 /// What is listed of the image, and what its volume reads.
-const OLD: (&str, Contents) = (
-    "geometry peb=512 page=64 vid=64 data=128 leb=384 slots=2 pebs=32\n\
-        volume 0 dynamic reserved=20 alignment=1 usable=384 flags=00 lebs=3 name=root\n\
-        volumes 1\n",
-    EMPTY,
-);
+const OLD: (&str, Contents) = (ROOT_LISTED, EMPTY);
 
 const TEXT: Reading = Reading {
     line: "extract a.img --id 0 --out b.img",
@@ -67,12 +64,7 @@ const TO_DATA: Plan = Plan {
         Reading {
             line: "list a.img",
             old: OLD,
-            new: (
-                "geometry peb=512 page=64 vid=64 data=128 leb=384 slots=2 pebs=32\n\
-                    volume 0 dynamic reserved=20 alignment=1 usable=384 flags=00 lebs=3 name=data\n\
-                    volumes 1\n",
-                EMPTY,
-            ),
+            new: (DATA_LISTED, EMPTY),
         },
         TEXT,
     ],
@@ -146,20 +138,8 @@ static PLANS: [Plan; 5] = [
         readings: &[
             Reading {
                 line: "list a.img",
-                old: (
-                    "geometry peb=512 page=64 vid=64 data=128 leb=384 slots=2 pebs=32\n\
-                        volume 0 dynamic reserved=20 alignment=1 usable=384 flags=00 lebs=3 name=root\n\
-                        volume 1 dynamic reserved=1 alignment=1 usable=384 flags=00 lebs=0 name=name\n\
-                        volumes 2\n",
-                    EMPTY,
-                ),
-                new: (
-                    "geometry peb=512 page=64 vid=64 data=128 leb=384 slots=2 pebs=32\n\
-                        volume 0 dynamic reserved=20 alignment=1 usable=384 flags=00 lebs=3 name=root\n\
-                        volume 1 dynamic reserved=1 alignment=1 usable=384 flags=00 lebs=0 name=data\n\
-                        volumes 2\n",
-                    EMPTY,
-                ),
+                old: (TWO_LISTED, EMPTY),
+                new: (TWO_RENAMED, EMPTY),
             },
             TEXT,
         ],

@@ -1,12 +1,13 @@
 //! The command `same`.
 
-use super::answers::{assert_both, small};
+use super::answers::assert_both;
 use super::contents::Contents;
 use std::alloc::Global;
 use std::process::Abort;
 use std::test::Fail;
 use ubi_commands::{SidesError, run_same_from};
 use ubi_probe::ProbeSource;
+use ubi_probe::pebs::small;
 
 /// Images that mean the same. The last five are what composing makes of texts, and damaged ones.
 static THE_SAME: [(Contents, Contents); 8] = [

@@ -1,6 +1,6 @@
 //! Lines over real files.
 
-use super::answers::assert_line;
+use super::answers::{assert_line, with_sizes};
 use super::contents::Contents;
 use std::alloc::Global;
 use std::fs;
@@ -12,6 +12,8 @@ use std::test::Fail;
 /// Files that are there before, lines with what they print and with which status, and files that are there then.
 #[derive(Clone, Copy)]
 pub struct Session {
+    /// The words of the geometry, which each line has that takes them.
+    pub sizes: &'static str,
     pub before: &'static [(&'static str, Contents)],
     pub lines: &'static [(&'static str, &'static str, u8)],
     pub after: &'static [(&'static str, Contents)],
@@ -55,7 +57,8 @@ where
 {
     write_files(rt, alloc, session.before)?;
     for (line, text, status) in session.lines {
-        assert_line(rt, alloc, line, (text, *status))?;
+        let line = with_sizes(alloc, line, session.sizes)?;
+        assert_line(rt, alloc, line.as_str(), (text, *status))?;
     }
     let hold = hold(rt, alloc, session.after)? && !fs::exists(rt, session.absent)?;
     assert!(*rt; hold, "where {} isn't there", session.absent);

@@ -2,21 +2,16 @@
 
 use super::answers::{Run, assert_runs};
 use super::contents::{Contents, EMPTY};
-use super::pebs::{A, B, C, FIRST, SECOND};
+use super::shown::{BLANK_SHOWN, ROOT_SHOWN};
 use std::test::Fail;
 use ubi_probe::header_bytes::{COPY_FLAG_2, VERSION_2};
+use ubi_probe::pebs::{A, B, C, FIRST, SECOND};
 
 const SHOW: Run = Run {
     image: Contents::Blank,
     new: EMPTY,
     line: "show a.img --block 0",
-    answer: (
-        "ec blank ffffffffffffffffffffffffffffffffffffffffffffffffffffffffffffffff\
-            ffffffffffffffffffffffffffffffffffffffffffffffffffffffffffffffff\n\
-            vid blank ffffffffffffffffffffffffffffffffffffffffffffffffffffffffffffffff\
-            ffffffffffffffffffffffffffffffffffffffffffffffffffffffffffffffff\n",
-        0,
-    ),
+    answer: (BLANK_SHOWN, 0),
     output: EMPTY,
 };
 
@@ -24,13 +19,7 @@ const SHOW: Run = Run {
 const VALID: Run = Run {
     image: Contents::Root,
     line: "show a.img --block 4",
-    answer: (
-        "ec valid 5542492301000000000000000000000000000040000000801234567800000000\
-            000000000000000000000000000000000000000000000000000000005b73f913\n\
-            vid valid 5542492101010000000000000000000200000000000000000000000000000000\
-            00000000000000000000000000000000000000000000000000000000efecfd8e\n",
-        0,
-    ),
+    answer: (ROOT_SHOWN, 0),
     ..SHOW
 };
 
@@ -69,11 +58,6 @@ static SHOWN: [Run; 4] = [
     },
 ];
 
-#[test]
-fn shows_what_a_header_is(rt: HostRuntime) -> Result<(), Fail> {
-    assert_runs(&rt, rt.alloc(), &SHOWN)
-}
-
 /// An eraseblock that isn't there, and files that are no image.
 const NO_BLOCK: Run = Run {
     line: "show a.img --block 3",
@@ -106,6 +90,7 @@ static REFUSED: [Run; 5] = [
 ];
 
 #[test]
-fn refuses_a_block_that_is_not_there(rt: HostRuntime) -> Result<(), Fail> {
+fn shows_what_a_header_is_or_that_there_is_no_eraseblock(rt: HostRuntime) -> Result<(), Fail> {
+    assert_runs(&rt, rt.alloc(), &SHOWN)?;
     assert_runs(&rt, rt.alloc(), &REFUSED)
 }

@@ -3,7 +3,7 @@
 
 ghost use Rattle.std.specs.Prelude.{Some, option_map, refl};
 
-use super::answers::{is_answer, run_on, with_sizes};
+use super::answers::{SMALL_SIZES, is_answer, run_on, with_sizes};
 use super::build::CONTENT;
 use super::contents::Contents;
 use super::geometry::SMALL;
@@ -173,193 +173,195 @@ impl Eprint for Telling<'_> {
     }
 }
 
-/// A line, what it answers of the image of `root`, and what its output and the file in its folder hold then, if they are
-/// there.
-static LINES: [(&str, (&str, u8), Option<Contents>, Option<Contents>); 19] = [
-    ("geometry told.img", (SMALL, 0), None, None),
+/// What a line leaves: nothing, an output, or a file in the folder.
+#[derive(Clone, Copy)]
+enum Kept {
+    Nothing,
+    Out(Contents),
+    Unpacked(Contents),
+}
+
+/// A line, what it answers, and what it leaves.
+type Line = (&'static str, (&'static str, u8), Kept);
+
+/// Lines over the image of `root`.
+static LINES: [Line; 19] = [
+    ("geometry told.img", (SMALL, 0), Kept::Nothing),
     (
         "geometry kept.img",
         ("cannot read kept.img\n", 1),
-        None,
-        None,
+        Kept::Nothing,
     ),
-    ("check kept.img", ("cannot read kept.img\n", 1), None, None),
+    (
+        "check kept.img",
+        ("cannot read kept.img\n", 1),
+        Kept::Nothing,
+    ),
     (
         "normalise told.img --out kept.img",
         ("blocks 5\n", 0),
-        Some(Contents::Root),
-        None,
+        Kept::Out(Contents::Root),
     ),
     (
         "normalise told.img --out told.img",
         ("cannot write told.img\n", 1),
-        None,
-        None,
+        Kept::Nothing,
     ),
     (
         "extract told.img --id 0 --out kept.img",
         ("bytes 7680\n", 0),
-        Some(Contents::RootText),
-        None,
+        Kept::Out(Contents::RootText),
     ),
     (
         "extract told.img --id 1 --out kept.img",
         ("refused L1 NoVolume\n", 1),
-        None,
-        None,
+        Kept::Nothing,
     ),
     (
         "unpack told.img --out made",
         ("volume 0 bytes=7680 name=root\n", 0),
-        None,
-        Some(Contents::RootText),
+        Kept::Unpacked(Contents::RootText),
     ),
     (
         "unpack told.img --out other",
         ("cannot write other\n", 1),
-        None,
-        None,
+        Kept::Nothing,
     ),
     (
         "unpack kept.img --out made",
         ("cannot read kept.img\n", 1),
-        None,
-        None,
+        Kept::Nothing,
     ),
-    ("same told.img told.img", ("same\n", 0), None, None),
+    ("same told.img told.img", ("same\n", 0), Kept::Nothing),
     // The part lies beyond the end, or isn't whole pages.
     (
         "geometry told.img --start 2561",
         ("refused F7 Part bytes=2560\n", 1),
-        None,
-        None,
+        Kept::Nothing,
     ),
     (
         "normalise told.img --out kept.img --length 2561",
         ("refused F7 Part bytes=2560\n", 1),
-        None,
-        None,
+        Kept::Nothing,
     ),
     (
         "normalise told.img --out told.img --oob 1",
         ("refused F8 Pages rest=25\n", 1),
-        None,
-        None,
+        Kept::Nothing,
     ),
     (
         "normalise told.img --out kept.img --length 2560",
         ("blocks 5\n", 0),
-        Some(Contents::Root),
-        None,
+        Kept::Out(Contents::Root),
     ),
     // Of a device somebody has to list the bad eraseblocks, or that there is none.
     (
         "rename /dev/mtd0 --id 0 --name data --out kept.img",
         ("", 2),
-        None,
-        None,
+        Kept::Nothing,
     ),
     (
         "change /dev/mtd0 --id 0 --lnum 0 --from told.img --out kept.img",
         ("", 2),
-        None,
-        None,
+        Kept::Nothing,
     ),
     (
         "rename /dev/mtd0 --id 0 --name data --out kept.img --bad=",
         ("cannot read /dev/mtd0\n", 1),
-        None,
-        None,
+        Kept::Nothing,
     ),
     (
         "same told.img other.img",
         ("cannot read other.img\n", 1),
-        None,
-        None,
+        Kept::Nothing,
     ),
 ];
-
-/// What a file holds, if it is there.
-fn bytes_of(alloc: Global, contents: Option<Contents>) -> Result<Option<Vec<u8>>, Fail> {
-    match contents {
-        Some(contents) => Ok(Some(contents.bytes(alloc)?)),
-        None => Ok(None),
-    }
-}
-
-#[test]
-fn answers_of_the_named_files(rt: HostRuntime) -> Result<(), Fail> {
-    let alloc = rt.alloc();
-    let image = Contents::Root.bytes(alloc)?;
-    for (line, answer, output, unpacked) in &LINES {
-        let mut disk = Telling {
-            alloc,
-            image: Some(image.as_slice()),
-            config: None,
-            out: None,
-            unpacked: None,
-            opened: String::new(alloc),
-        };
-        let outcome = run_on(&mut disk, alloc, with_sizes(alloc, line)?.as_str())?;
-        assert!(rt; is_answer(&outcome, *answer), "of {line}");
-        assert!(rt; disk.out == bytes_of(alloc, *output)?, "of {line}");
-        assert!(rt; disk.unpacked == bytes_of(alloc, *unpacked)?, "of {line}");
-        let is_unwritten = disk.out.is_none() && disk.unpacked.is_none();
-        let is_right = opens_right(line, &outcome, is_unwritten, disk.opened.as_str());
-        assert!(rt; is_right && disk.image.is_some(), "of {line}");
-    }
-    Ok(())
-}
 
 /// The config of `root`, whose contents are those of the image file.
 const ROOT_CONFIG: &[u8] =
     b"[root]\nmode=ubi\nvol_id=0\nvol_name=root\nvol_size=7680\nimage=told.img\n";
 
-/// A line, what it answers of that config, and what its output holds then, if it is there.
-static BUILDS: [(&str, (&str, u8), Option<Contents>); 4] = [
+/// Lines over that config.
+static BUILDS: [Line; 4] = [
     (
         "build told.ini --out kept.img --seq 305419896",
         ("blocks 5\n", 0),
-        Some(Contents::NormalRoot),
+        Kept::Out(Contents::NormalRoot),
     ),
     (
         "build told.ini --out told.img",
         ("cannot read told.img\n", 1),
-        None,
+        Kept::Nothing,
     ),
     (
         "build told.ini --out other.img",
         ("cannot write other.img\n", 1),
-        None,
+        Kept::Nothing,
     ),
     (
         "build kept.img --out kept.img",
         ("cannot read kept.img\n", 1),
-        None,
+        Kept::Nothing,
     ),
 ];
 
+/// Whether a file holds what is wanted, if it is there.
+fn holds(alloc: Global, file: &Option<Vec<u8>>, want: Option<Contents>) -> Result<bool, Fail> {
+    match (file, want) {
+        (Some(bytes), Some(want)) => Ok(*bytes == want.bytes(alloc)?),
+        (None, None) => Ok(true),
+        _ => Ok(false),
+    }
+}
+
+/// Whether a line over an image, and a config where there is one, answers and leaves what it should.
+fn is_told(
+    alloc: Global,
+    image: &[u8],
+    config: Option<&[u8]>,
+    (line, answer, kept): &Line,
+) -> Result<bool, Fail> {
+    let mut disk = Telling {
+        alloc,
+        image: Some(image),
+        config,
+        out: None,
+        unpacked: None,
+        opened: String::new(alloc),
+    };
+    let whole = with_sizes(alloc, line, SMALL_SIZES)?;
+    let outcome = run_on(&mut disk, alloc, whole.as_str(), false)?;
+    let (out, unpacked) = match *kept {
+        Kept::Nothing => (None, None),
+        Kept::Out(contents) => (Some(contents), None),
+        Kept::Unpacked(contents) => (None, Some(contents)),
+    };
+    let is_unwritten = disk.out.is_none() && disk.unpacked.is_none();
+    let is_there = disk.image.is_some() && disk.config.is_some() == config.is_some();
+    Ok(
+        is_answer(&outcome, *answer)
+            && holds(alloc, &disk.out, out)?
+            && holds(alloc, &disk.unpacked, unpacked)?
+            && opens_right(line, &outcome, is_unwritten, disk.opened.as_str())
+            && is_there,
+    )
+}
+
 #[test]
-fn builds_of_the_named_files(rt: HostRuntime) -> Result<(), Fail> {
+fn answers_and_builds_of_the_named_files(rt: HostRuntime) -> Result<(), Fail> {
     let alloc = rt.alloc();
-    let content = CONTENT.bytes(alloc)?;
-    for (line, answer, output) in &BUILDS {
-        let mut disk = Telling {
-            alloc,
-            image: Some(content.as_slice()),
-            config: Some(ROOT_CONFIG),
-            out: None,
-            unpacked: None,
-            opened: String::new(alloc),
-        };
-        let outcome = run_on(&mut disk, alloc, with_sizes(alloc, line)?.as_str())?;
-        assert!(rt; is_answer(&outcome, *answer), "of {line}");
-        assert!(rt; disk.out == bytes_of(alloc, *output)?, "of {line}");
-        let is_right = opens_right(line, &outcome, disk.out.is_none(), disk.opened.as_str());
+    let image = Contents::Root.bytes(alloc)?;
+    for line in &LINES {
         assert!(rt;
-            is_right && disk.image.is_some() && disk.config.is_some(),
-            "of {line}"
+            is_told(alloc, image.as_slice(), None, line)?,
+            "of {}",
+            line.0
         );
+    }
+    let content = CONTENT.bytes(alloc)?;
+    for line in &BUILDS {
+        let is_told = is_told(alloc, content.as_slice(), Some(ROOT_CONFIG), line)?;
+        assert!(rt; is_told, "of {}", line.0);
     }
     Ok(())
 }

@@ -1,20 +1,18 @@
 //! Views of files: parts of them, pages with out-of-band bytes behind them, and both together with bad eraseblocks.
 
-use super::answers::{assert_both, is_answer, run_line, run_over};
+use super::answers::{
+    SMALL_SIZES, are_one, assert_both, assert_over, assert_own, assert_wrong, run_over, with_sizes,
+};
 use super::contents::Contents;
-use super::fake::{Broken, FakeFiles, Left};
+use super::fake::Broken;
 use std::alloc::Global;
 use std::process::Abort;
 use std::test::Fail;
 use ubi_probe::chips::PAGES;
 
-/// Where an image lies in a file: behind so many bytes, before so many, and with so many bytes behind each page.
+/// Where an image lies in a file: behind how many bytes, with how many bytes behind each page, and before how many bytes.
 #[derive(Clone, Copy)]
-pub struct Lay {
-    pub before: usize,
-    pub oob: usize,
-    pub behind: usize,
-}
+pub struct Lay(pub usize, pub usize, pub usize);
 
 /// Adds so many bytes that are neither 0xFF nor those of a header.
 fn put_junk(bytes: &mut Vec<u8>, count: usize) -> Result<(), Fail> {
@@ -27,28 +25,30 @@ fn put_junk(bytes: &mut Vec<u8>, count: usize) -> Result<(), Fail> {
 impl Lay {
     /// The bytes of a file in which an image with pages of a size lies so.
     pub fn file(&self, alloc: Global, image: &[u8], page: usize) -> Result<Vec<u8>, Fail> {
+        let Lay(before, oob, behind) = *self;
         let mut bytes = Vec::new(alloc);
-        put_junk(&mut bytes, self.before)?;
+        put_junk(&mut bytes, before)?;
         for page in image.chunks(page.max(1)) {
             bytes.extend_from_slice(page)?;
-            put_junk(&mut bytes, self.oob)?;
+            put_junk(&mut bytes, oob)?;
         }
-        put_junk(&mut bytes, self.behind)?;
+        put_junk(&mut bytes, behind)?;
         Ok(bytes)
     }
 
     /// The words that say so, of an image of `len` bytes with pages of a size.
     fn words(&self, alloc: Global, len: usize, page: usize) -> Result<String, Fail> {
+        let Lay(before, oob, behind) = *self;
         let mut words = String::new(alloc);
-        if self.before > 0 {
-            words.push_str(format!(in alloc; " --start {}", self.before)?.as_str())?;
+        if before > 0 {
+            words.push_str(format!(in alloc; " --start {before}")?.as_str())?;
         }
-        if self.behind > 0 {
-            let raw = len.saturating_add(len.div_ceil(page.max(1)).saturating_mul(self.oob));
+        if behind > 0 {
+            let raw = len.saturating_add(len.div_ceil(page.max(1)).saturating_mul(oob));
             words.push_str(format!(in alloc; " --length {raw}")?.as_str())?;
         }
-        if self.oob > 0 {
-            words.push_str(format!(in alloc; " --oob {}", self.oob)?.as_str())?;
+        if oob > 0 {
+            words.push_str(format!(in alloc; " --oob {oob}")?.as_str())?;
         }
         Ok(words)
     }
@@ -56,51 +56,15 @@ impl Lay {
 
 /// Each option alone, and together.
 static LAYS: [Lay; 9] = [
-    Lay {
-        before: 512,
-        oob: 0,
-        behind: 0,
-    },
-    Lay {
-        before: 1,
-        oob: 0,
-        behind: 0,
-    },
-    Lay {
-        before: 0,
-        oob: 0,
-        behind: 700,
-    },
-    Lay {
-        before: 5000,
-        oob: 0,
-        behind: 1,
-    },
-    Lay {
-        before: 0,
-        oob: 1,
-        behind: 0,
-    },
-    Lay {
-        before: 0,
-        oob: 2,
-        behind: 0,
-    },
-    Lay {
-        before: 0,
-        oob: 500,
-        behind: 0,
-    },
-    Lay {
-        before: 77,
-        oob: 3,
-        behind: 129,
-    },
-    Lay {
-        before: 20_000,
-        oob: 64,
-        behind: 20_000,
-    },
+    Lay(512, 0, 0),
+    Lay(1, 0, 0),
+    Lay(0, 0, 700),
+    Lay(5000, 0, 1),
+    Lay(0, 1, 0),
+    Lay(0, 2, 0),
+    Lay(0, 500, 0),
+    Lay(77, 3, 129),
+    Lay(20_000, 64, 20_000),
 ];
 
 /// Lines over a dump, with and without bad eraseblocks.
@@ -122,39 +86,6 @@ static LINES: [&str; 15] = [
     "rename a.img --id 0 --name data --out b.img --bad 5",
 ];
 
-/// Asserts that a line answers and writes of a file in which an image lies so what it does of the image.
-fn assert_viewed(
-    rt: &impl Abort,
-    alloc: Global,
-    image: &[u8],
-    line: &str,
-    lay: &Lay,
-) -> Result<(), Fail> {
-    let new = [0x61; 64];
-    let (want, output) = run_over(alloc, (image, &new), Broken::Nothing, line)?;
-    let file = lay.file(alloc, image, 64)?;
-    let words = lay.words(alloc, image.len(), 64)?;
-    let viewed = format!(in alloc; "{line}{words}")?;
-    for broken in [Broken::Nothing, Broken::Places] {
-        let (answer, written) = run_over(alloc, (file.as_slice(), &new), broken, viewed.as_str())?;
-        let is = answer.text == want.text && answer.status == want.status && written == output;
-        assert!(*rt; is, "of {viewed}, {broken:?}");
-    }
-    Ok(())
-}
-
-#[test]
-fn sees_an_image_wherever_it_lies(rt: HostRuntime) -> Result<(), Fail> {
-    let alloc = rt.alloc();
-    let image = Contents::Spares.bytes(alloc)?;
-    for lay in &LAYS {
-        for line in LINES {
-            assert_viewed(&rt, alloc, image.as_slice(), line, lay)?;
-        }
-    }
-    Ok(())
-}
-
 /// Lines over a chip's dump, in pages of 2 KiB with 64 out-of-band bytes.
 static CHIP_LINES: [&str; 4] = [
     "list a.img --peb 131072 --page 2048 --pebs 64",
@@ -163,24 +94,37 @@ static CHIP_LINES: [&str; 4] = [
     "normalise a.img --out b.img --peb 131072 --page 2048 --pebs 64",
 ];
 
+/// Asserts that a line answers and writes of a file in which an image lies so what it does of the image. Gives the exit status.
+fn assert_viewed(
+    rt: &impl Abort,
+    alloc: Global,
+    (image, page): (&[u8], usize),
+    line: &str,
+    lay: &Lay,
+) -> Result<u8, Fail> {
+    let new = [0x61; 64];
+    let (want, output) = run_over(alloc, (image, &new), Broken::Nothing, line)?;
+    let file = lay.file(alloc, image, page)?;
+    let viewed = format!(in alloc; "{line}{}", lay.words(alloc, image.len(), page)?)?;
+    let viewed = with_sizes(alloc, viewed.as_str(), SMALL_SIZES)?;
+    let answer = (want.text.as_slice(), want.status, output.as_slice());
+    assert_own(rt, alloc, (file.as_slice(), &new), viewed.as_str(), answer)?;
+    Ok(want.status)
+}
+
 #[test]
-fn sees_a_chip_with_out_of_band_bytes(rt: HostRuntime) -> Result<(), Fail> {
+fn sees_an_image_wherever_it_lies(rt: HostRuntime) -> Result<(), Fail> {
     let alloc = rt.alloc();
-    let image = Contents::Chip(PAGES, 524_288).bytes(alloc)?;
-    let lay = Lay {
-        before: 0,
-        oob: 64,
-        behind: 0,
-    };
-    let file = lay.file(alloc, image.as_slice(), 2048)?;
-    for line in CHIP_LINES {
-        let (want, output) = run_over(alloc, (image.as_slice(), &[]), Broken::Nothing, line)?;
-        let line = format!(in alloc; "{line} --oob 64")?;
-        for broken in [Broken::Nothing, Broken::Places] {
-            let (answer, written) = run_over(alloc, (file.as_slice(), &[]), broken, line.as_str())?;
-            let is = answer.text == want.text && answer.status == want.status && written == output;
-            assert!(rt; is && answer.status == 0, "of {line}, {broken:?}");
+    let image = Contents::Spares.bytes(alloc)?;
+    for lay in &LAYS {
+        for line in LINES {
+            assert_viewed(&rt, alloc, (image.as_slice(), 64), line, lay)?;
         }
+    }
+    let image = Contents::Chip(PAGES, 524_288).bytes(alloc)?;
+    for line in CHIP_LINES {
+        let status = assert_viewed(&rt, alloc, (image.as_slice(), 2048), line, &Lay(0, 64, 0))?;
+        assert!(rt; status == 0, "of {line}");
     }
     Ok(())
 }
@@ -270,11 +214,7 @@ fn refuses_what_a_file_has_not(rt: HostRuntime) -> Result<(), Fail> {
 fn reads_no_more_than_a_device_has(rt: HostRuntime) -> Result<(), Fail> {
     let alloc = rt.alloc();
     let image = Contents::Spares.bytes(alloc)?;
-    let lay = Lay {
-        before: 3,
-        oob: 2,
-        behind: 0,
-    };
+    let lay = Lay(3, 2, 0);
     let file = lay.file(alloc, image.as_slice(), 64)?;
     let files: (&[u8], &[u8]) = (file.as_slice(), &[]);
     let too_many = ("refused S2 TooMany\n", 1);
@@ -284,14 +224,9 @@ fn reads_no_more_than_a_device_has(rt: HostRuntime) -> Result<(), Fail> {
     assert_both(&rt, alloc, files, line, too_many, &[])?;
     // One byte more than the file has: read whole, 49 pages of 66 bytes are read, and no more is looked for.
     let line = "check a.img --peb 512 --page 64 --pebs 6 --start 3 --oob 2 --length 3762";
-    let (answer, _) = run_over(alloc, files, Broken::Nothing, line)?;
-    assert!(rt;
-        is_answer(&answer, ("refused F7 Part bytes=3699\n", 1)),
-        "at places"
-    );
-    let (answer, _) = run_over(alloc, files, Broken::Places, line)?;
-    assert!(rt; is_answer(&answer, too_many), "whole");
-    Ok(())
+    let part = ("refused F7 Part bytes=3699\n", 1);
+    assert_over(&rt, alloc, files, Broken::Nothing, line, part, &[])?;
+    assert_over(&rt, alloc, files, Broken::Places, line, too_many, &[])
 }
 
 /// Beyond 4 GiB.
@@ -299,32 +234,21 @@ fn reads_no_more_than_a_device_has(rt: HostRuntime) -> Result<(), Fail> {
 fn sees_a_part_beyond_four_gibibytes(rt: HostRuntime) -> Result<(), Fail> {
     let alloc = rt.alloc();
     let image = Contents::Spares.bytes(alloc)?;
-    let lay = Lay {
-        before: 0,
-        oob: 5,
-        behind: 9,
-    };
+    let lay = Lay(0, 5, 9);
     let file = lay.file(alloc, image.as_slice(), 64)?;
+    let words = lay.words(alloc, image.len(), 64)?;
     for line in ["check a.img", "normalise a.img --out b.img --bad 3"] {
-        let files: (&[u8], &[u8]) = (image.as_slice(), &[]);
-        let (want, output) = run_over(alloc, files, Broken::Nothing, line)?;
-        let words = lay.words(alloc, image.len(), 64)?;
+        let want = run_over(alloc, (image.as_slice(), &[]), Broken::Nothing, line)?;
         let line = format!(in alloc; "{line} --start 4294967299{words}")?;
-        let files: (&[u8], &[u8]) = (file.as_slice(), &[]);
-        let (answer, written) = run_over(
-            alloc,
-            files,
-            Broken::Behind(4_294_967_299),
-            line.as_str(),
-        )?;
-        let is = answer.text == want.text && answer.status == want.status && written == output;
-        assert!(rt; is && answer.status == 0, "of {line}");
+        let broken = Broken::Behind(4_294_967_299);
+        let answer = run_over(alloc, (file.as_slice(), &[]), broken, line.as_str())?;
+        assert!(rt; are_one(&answer, &want) && want.0.status == 0, "of {line}");
     }
     Ok(())
 }
 
 /// Words that are wrong.
-static WRONG: [&str; 15] = [
+static WRONG: [&str; 17] = [
     "list a.img --start -1",
     "list a.img --start=-1",
     "list a.img --start x",
@@ -340,28 +264,16 @@ static WRONG: [&str; 15] = [
     "list a.img --oob 1 --oob 1",
     "compose a.txt --out b --start 1",
     "build a.ini --out b --oob 1",
+    "geometry a.img --oob 1",
+    "geometry a.img --start -1",
 ];
-
-/// Asserts that the words of a line are wrong: nothing is printed, and no file is opened.
-fn assert_wrong(rt: &impl Abort, alloc: Global, line: &str) -> Result<(), Fail> {
-    let left = Left::new(alloc);
-    let image = Contents::Spare.bytes(alloc)?;
-    let files = FakeFiles::of(image.as_slice(), Broken::Nothing, &left);
-    let outcome = run_line(&files, alloc, line)?;
-    let is_untouched = left.written.into_inner().is_empty() && left.opened.into_inner().is_empty();
-    assert!(*rt; is_answer(&outcome, ("", 2)) && is_untouched, "of {line}");
-    Ok(())
-}
 
 #[test]
 fn takes_no_word_that_is_no_view(rt: HostRuntime) -> Result<(), Fail> {
-    let alloc = rt.alloc();
     for line in WRONG {
-        let line = format!(in alloc; "{line} --peb 512 --page 64 --pebs 32")?;
-        assert_wrong(&rt, alloc, line.as_str())?;
+        assert_wrong(&rt, rt.alloc(), line, "")?;
     }
-    assert_wrong(&rt, alloc, "geometry a.img --oob 1")?;
-    assert_wrong(&rt, alloc, "geometry a.img --start -1")
+    Ok(())
 }
 
 /// Numbers as they may be written.
@@ -370,7 +282,7 @@ fn takes_numbers_with_a_plus_and_zeros(rt: HostRuntime) -> Result<(), Fail> {
     let alloc = rt.alloc();
     let image = Contents::Spares.bytes(alloc)?;
     let files: (&[u8], &[u8]) = (image.as_slice(), &[]);
-    let (want, _) = run_over(alloc, files, Broken::Nothing, "check a.img")?;
+    let want = run_over(alloc, files, Broken::Nothing, "check a.img")?;
     for words in [
         "--start 0 --oob 0",
         "--start=+0 --length=+3584",
@@ -378,8 +290,8 @@ fn takes_numbers_with_a_plus_and_zeros(rt: HostRuntime) -> Result<(), Fail> {
         "--oob=+00",
     ] {
         let line = format!(in alloc; "check a.img {words}")?;
-        let (answer, _) = run_over(alloc, files, Broken::Nothing, line.as_str())?;
-        assert!(rt; answer.text == want.text && answer.status == 0, "of {line}");
+        let answer = run_over(alloc, files, Broken::Nothing, line.as_str())?;
+        assert!(rt; are_one(&answer, &want) && want.0.status == 0, "of {line}");
     }
     Ok(())
 }

@@ -29,14 +29,6 @@ fn assert_answers(
     Ok(())
 }
 
-/// Asserts that the words of each line are wrong, and what standard error shows.
-fn assert_wrong(rt: &impl Abort, alloc: Global, cases: &[(&str, &str)]) -> Result<(), Fail> {
-    for (line, error) in cases {
-        assert_answers(rt, alloc, line, ("", 2), error)?;
-    }
-    Ok(())
-}
-
 /// Lines that name no command or ask for help, with what is shown.
 static NO_COMMAND: [(&str, &str); 25] = [
     ("", "requires a subcommand"),
@@ -71,11 +63,6 @@ static NO_COMMAND: [(&str, &str); 25] = [
     ("compose --help", "number [default: 0]"),
     ("change --help", "[default: all]"),
 ];
-
-#[test]
-fn shows_wrong_commands_and_help(rt: HostRuntime) -> Result<(), Fail> {
-    assert_wrong(&rt, rt.alloc(), &NO_COMMAND)
-}
 
 /// Lines of which words are missing.
 static MISSING: [(&str, &str); 41] = [
@@ -149,11 +136,6 @@ static MISSING: [(&str, &str); 41] = [
     ),
 ];
 
-#[test]
-fn shows_words_that_are_missing(rt: HostRuntime) -> Result<(), Fail> {
-    assert_wrong(&rt, rt.alloc(), &MISSING)
-}
-
 /// Lines with words that can't be read.
 static UNREAD: [(&str, &str); 17] = [
     ("geometry a --peb 512", "unexpected argument '--peb'"),
@@ -209,8 +191,13 @@ static UNREAD: [(&str, &str); 17] = [
 ];
 
 #[test]
-fn shows_words_that_cannot_be_read(rt: HostRuntime) -> Result<(), Fail> {
-    assert_wrong(&rt, rt.alloc(), &UNREAD)
+fn shows_what_is_wrong_missing_or_unread(rt: HostRuntime) -> Result<(), Fail> {
+    for cases in [NO_COMMAND.as_slice(), MISSING.as_slice(), UNREAD.as_slice()] {
+        for (line, error) in cases {
+            assert_answers(&rt, rt.alloc(), line, ("", 2), error)?;
+        }
+    }
+    Ok(())
 }
 
 /// Lines that are answered before any image is read, with the answers: of the numbers the first limit that they break,

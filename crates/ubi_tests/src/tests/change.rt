@@ -9,4 +9,3 @@ mod refusals;
 mod rename;
 mod states;
 mod steps;
-mod unmapped;

@@ -3,7 +3,6 @@ mod extracting;
 mod images;
 mod making;
 mod memory;
-mod pebs;
 mod reading;
 mod refusals;
 mod sources;

@@ -1,12 +1,11 @@
 //! Eraseblocks that a plan may not touch.
 
-use super::images::{A, B, C, FIRST, FREE, Peb, SECOND, SMALL, image_of};
 use std::alloc::Global;
-use std::process::Abort;
 use std::test::Fail;
 use ubi_change::{
     Avoided, ChangeRefusal, PlanError, RenameRefusal, Step, plan_change_from, plan_rename_from,
 };
+use ubi_probe::pebs::{A, B, C, FIRST, FREE, Peb, SECOND, small, small_image};
 use ubi_scan::MemorySource;
 
 /// An image with two free eraseblocks.
@@ -20,7 +19,7 @@ fn changed(
     marks: &[bool],
     blank: bool,
 ) -> Result<Result<Vec<Step>, PlanError<ChangeRefusal>>, Fail> {
-    let geometry = SMALL.geometry()?;
+    let geometry = small()?;
     let avoided = Avoided::new(marks, blank);
     let mut source = MemorySource::new(image);
     let new = [0x61; 64];
@@ -34,7 +33,7 @@ fn unrenamed(
     marks: &[bool],
     blank: bool,
 ) -> Result<Option<PlanError<RenameRefusal>>, Fail> {
-    let geometry = SMALL.geometry()?;
+    let geometry = small()?;
     let avoided = Avoided::new(marks, blank);
     let mut source = MemorySource::new(image);
     let plan = plan_rename_from(alloc, &geometry, &mut source, &avoided, 0, b"data");
@@ -43,7 +42,7 @@ fn unrenamed(
 
 /// The image with blank eraseblocks in the place of some.
 fn with_blank(alloc: Global, pebs: &[usize]) -> Result<Vec<u8>, Fail> {
-    let mut image = image_of(alloc, &SMALL.geometry()?, &TWO_FREE)?;
+    let mut image = small_image(alloc, &TWO_FREE)?;
     for (place, byte) in image.as_mut_slice().iter_mut().enumerate() {
         if pebs.contains(&(place / 512)) {
             *byte = 0xFF;
@@ -114,24 +113,19 @@ fn changes_beside_what_is_avoided(rt: HostRuntime) -> Result<(), Fail> {
     for (index, (blank, marks, keeps, want)) in CHANGES.iter().enumerate() {
         let image = with_blank(alloc, blank)?;
         let is = match (changed(alloc, (image.as_slice(), 1), marks, *keeps)?, want) {
-            (Ok(steps), Ok(block)) => steps.first().map(block_of) == Some(*block),
+            (Ok(steps), Ok(block)) => match steps.first() {
+                Some(step) => block_of(step) == *block,
+                None => false,
+            },
             (Err(error), Err(want)) => error == *want,
             _ => false,
         };
         assert!(rt; is, "case {index}");
     }
-    Ok(())
-}
-
-/// A change of a logical eraseblock whose winner stands in an eraseblock that is listed, and so is read blank: none of its steps
-/// is one on that.
-#[test]
-fn gives_up_nothing_that_is_listed(rt: HostRuntime) -> Result<(), Fail> {
-    let alloc = rt.alloc();
+    // The winner stands in an eraseblock that is listed, and so is read blank: none of the steps is one on that.
     let image = with_blank(alloc, &[3])?;
-    let steps = match changed(alloc, (image.as_slice(), 1), WINNER, false)? {
-        Ok(steps) => steps,
-        Err(_) => return Err("no plan".into()),
+    let Ok(steps) = changed(alloc, (image.as_slice(), 1), WINNER, false)? else {
+        return Err("no plan".into());
     };
     assert!(rt; steps.len() == 5);
     for (step, want) in steps.iter().zip([5, 6, 6, 5, 5]) {
@@ -172,22 +166,16 @@ fn renames_beside_what_is_avoided(rt: HostRuntime) -> Result<(), Fail> {
     Ok(())
 }
 
-/// Asserts what is printed of the cause.
-fn assert_text(rt: &impl Abort, alloc: Global, p: u32, text: &str) -> Result<(), Fail> {
-    let error: PlanError<ChangeRefusal> = PlanError::NotBlank(p);
-    assert!(*rt; format!(in alloc; "{error}")?.as_str() == text);
-    let error: PlanError<RenameRefusal> = PlanError::NotBlank(p);
-    assert!(*rt; format!(in alloc; "{error}")?.as_str() == text);
-    Ok(())
-}
-
 #[test]
 fn prints_what_is_not_blank(rt: HostRuntime) -> Result<(), Fail> {
-    assert_text(&rt, rt.alloc(), 0, "K10 NotBlank block=0")?;
-    assert_text(
-        &rt,
-        rt.alloc(),
-        4_294_967_295,
-        "K10 NotBlank block=4294967295",
-    )
+    for (p, text) in [
+        (0, "K10 NotBlank block=0"),
+        (u32::MAX, "K10 NotBlank block=4294967295"),
+    ] {
+        let error: PlanError<ChangeRefusal> = PlanError::NotBlank(p);
+        assert!(rt; format!(in rt.alloc(); "{error}")?.as_str() == text);
+        let error: PlanError<RenameRefusal> = PlanError::NotBlank(p);
+        assert!(rt; format!(in rt.alloc(); "{error}")?.as_str() == text);
+    }
+    Ok(())
 }

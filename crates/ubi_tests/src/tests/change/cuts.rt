@@ -1,33 +1,54 @@
 //! Renames of what a cut left, and changes of it.
 
-use super::images::{
-    A, B, C, FIRST, FREE, Peb, SECOND, SMALL, assert_turns, attached, image_of,
-    planned as planned_change,
-};
+use super::images::{assert_done, assert_turns, attached, planned as planned_change};
 use super::rename::{PEBS, planned};
 use std::alloc::Global;
 use std::process::Abort;
 use std::test::Fail;
-use ubi_change::{RenameRefusal, Step, apply, step_fits};
+use ubi_change::{RenameRefusal, Step};
 use ubi_media::Geometry;
+use ubi_probe::pebs::{A, B, C, FIRST, FREE, Peb, SECOND, small, small_image};
 
-/// Asserts that volume 0 has one of two names, the second where the turn has come. Gives whether it has the second.
+/// Whether volume 0 has the second of two names. Else it has the first.
 fn is_named(
-    rt: &impl Abort,
     alloc: Global,
     geometry: &Geometry,
     image: &[u8],
     names: (&[u8], &[u8]),
 ) -> Result<bool, Fail> {
     let here = attached(alloc, geometry, image)?;
-    let volume = here.meaning().get(0).ok_or("no volume")?;
+    let Some(volume) = here.meaning().get(0) else {
+        return Err("no volume".into());
+    };
     let name = volume.entry.name.as_bytes();
-    assert!(*rt; name == names.0 || name == names.1);
-    Ok(name == names.1)
+    if name == names.0 || name == names.1 {
+        Ok(name == names.1)
+    } else {
+        Err("another name".into())
+    }
 }
 
-/// Asserts what a rename of volume 0 of an image is: its cuts have the old name, and from one on the new one. Gives why it
-/// isn't planned, if it isn't.
+/// Does the steps of a rename: its cuts have the old name, and from one on the new one.
+fn assert_renamed(
+    rt: &impl Abort,
+    alloc: Global,
+    geometry: &Geometry,
+    image: &mut [u8],
+    steps: &[Step],
+    names: (&[u8], &[u8]),
+) -> Result<(), Fail> {
+    let mut turned = false;
+    for step in steps {
+        assert_done(rt, geometry, image, step);
+        let is = is_named(alloc, geometry, image, names)?;
+        assert!(*rt; is || !turned);
+        turned = is;
+    }
+    assert!(*rt; turned);
+    Ok(())
+}
+
+/// Asserts what a rename of volume 0 of an image is. Gives why it isn't planned, if it isn't.
 fn cause_or_renamed(
     rt: &impl Abort,
     alloc: Global,
@@ -35,57 +56,63 @@ fn cause_or_renamed(
     image: &[u8],
     names: (&[u8], &[u8]),
 ) -> Result<Option<RenameRefusal>, Fail> {
-    let mut image = Vec::from_slice(alloc, image)?;
-    let steps = match planned(alloc, geometry, image.as_slice(), 0, names.1) {
+    let steps = match planned(alloc, geometry, image, 0, names.1) {
         Ok(steps) => steps,
         Err(cause) => return Ok(Some(cause)),
     };
-    let mut turned = false;
-    for step in steps.as_slice() {
-        assert!(*rt; step_fits(geometry, image.as_slice(), step));
-        apply(geometry, image.as_mut_slice(), step);
-        let is = is_named(rt, alloc, geometry, image.as_slice(), names)?;
-        assert!(*rt; is || !turned);
-        turned = is;
-    }
-    assert!(*rt; turned);
+    let mut image = Vec::from_slice(alloc, image)?;
+    assert_renamed(
+        rt,
+        alloc,
+        geometry,
+        image.as_mut_slice(),
+        steps.as_slice(),
+        names,
+    )?;
     Ok(None)
 }
 
-/// Does the steps of a rename one by one. Of each cut a rename to another name is asked for: it is refused just where the
-/// two copies differ. A change of a logical eraseblock is planned of each.
+/// Asserts of a cut of a rename that a change of a logical eraseblock is planned, and a rename to another name, or refused just
+/// where the two copies differ.
+fn assert_cut(
+    rt: &impl Abort,
+    alloc: Global,
+    image: &[u8],
+    name: &[u8],
+    want: Option<RenameRefusal>,
+) -> Result<(), Fail> {
+    let geometry = small()?;
+    assert_turns(rt, alloc, &geometry, image, 1, &[0x61; 64])?;
+    let cause = cause_or_renamed(rt, alloc, &geometry, image, (name, b"third"))?;
+    assert!(*rt; cause == want);
+    Ok(())
+}
+
+/// Does the steps of a rename one by one, and asserts it of each cut: the copies differ from one on and up to another.
 fn assert_cuts(
     rt: &impl Abort,
     alloc: Global,
     to: &'static [u8],
     differing: (usize, usize),
 ) -> Result<(), Fail> {
-    let geometry = SMALL.geometry()?;
-    let mut image = image_of(alloc, &geometry, &PEBS)?;
-    let steps = match planned(alloc, &geometry, image.as_slice(), 0, to) {
-        Ok(steps) => steps,
-        Err(_) => return Err("no plan".into()),
+    let geometry = small()?;
+    let mut image = small_image(alloc, &PEBS)?;
+    let Ok(steps) = planned(alloc, &geometry, image.as_slice(), 0, to) else {
+        return Err("no plan".into());
     };
-    assert_eq!(*rt; steps.len(), 18);
-    let mut done = 0usize;
-    for step in steps.as_slice() {
-        assert_turns(rt, alloc, &geometry, image.as_slice(), 1, &[0x61; 64])?;
+    assert!(*rt; steps.len() == 18);
+    for (done, step) in steps.as_slice().iter().enumerate() {
         let name: &[u8] = if done < 7 { b"root" } else { to };
-        let cause = cause_or_renamed(rt, alloc, &geometry, image.as_slice(), (name, b"third"))?;
-        let want = if done >= differing.0 && done < differing.1 {
+        let differ = done >= differing.0 && done < differing.1;
+        let want = if differ {
             Some(RenameRefusal::NeedsRepair)
         } else {
             None
         };
-        assert_eq!(*rt; cause, want);
-        assert!(*rt; step_fits(&geometry, image.as_slice(), step));
-        apply(&geometry, image.as_mut_slice(), step);
-        done = done.saturating_add(1);
+        assert_cut(rt, alloc, image.as_slice(), name, want)?;
+        assert_done(rt, &geometry, image.as_mut_slice(), step);
     }
-    assert_turns(rt, alloc, &geometry, image.as_slice(), 1, &[0x61; 64])?;
-    let cause = cause_or_renamed(rt, alloc, &geometry, image.as_slice(), (to, b"third"))?;
-    assert!(*rt; cause.is_none());
-    Ok(())
+    assert_cut(rt, alloc, image.as_slice(), to, None)
 }
 
 /// Copy 0 is good once its seven pages are written, and copy 1 after nine more steps: the erase of the old copy 0, its
@@ -101,26 +128,17 @@ const THREE_FREE: [Peb; 8] = [FIRST, SECOND, A, B, C, FREE, FREE, FREE];
 
 #[test]
 fn renames_each_cut_of_a_change(rt: HostRuntime) -> Result<(), Fail> {
-    let alloc = rt.alloc();
-    let geometry = SMALL.geometry()?;
-    let mut image = image_of(alloc, &geometry, &THREE_FREE)?;
-    let steps: Vec<Step> = match planned_change(
-        alloc,
-        &geometry,
-        image.as_slice(),
-        7,
-        &[0x61; 128],
-    ) {
-        Ok(steps) => steps,
-        Err(_) => return Err("no plan".into()),
+    let (alloc, geometry) = (rt.alloc(), small()?);
+    let mut image = small_image(alloc, &THREE_FREE)?;
+    let bytes = image.as_mut_slice();
+    let Ok(steps) = planned_change(alloc, &geometry, bytes, (0, 7), &[0x61; 128]) else {
+        return Err("no plan".into());
     };
-    assert_eq!(rt; steps.len(), 6);
+    assert!(rt; steps.len() == 6);
     for step in steps.as_slice() {
-        let names: (&[u8], &[u8]) = (b"root", b"data");
-        let cause = cause_or_renamed(&rt, alloc, &geometry, image.as_slice(), names)?;
+        let cause = cause_or_renamed(&rt, alloc, &geometry, bytes, (b"root", b"data"))?;
         assert!(rt; cause.is_none());
-        assert!(rt; step_fits(&geometry, image.as_slice(), step));
-        apply(&geometry, image.as_mut_slice(), step);
+        assert_done(&rt, &geometry, bytes, step);
     }
     Ok(())
 }

@@ -1,12 +1,11 @@
 //! Plans where memory is refused.
 
-use super::images::{SMALL, ZERO, planned as planned_change};
+use super::images::planned as planned_change;
 use super::rename::planned;
 use std::alloc::Global;
 use std::test::Fail;
 use ubi_change::{ChangeRefusal, RenameRefusal, Step};
-use ubi_media::{VidHeader, write_ec, write_vid};
-use ubi_probe::headers::TABLE_0;
+use ubi_probe::pebs::{NAMED, Vid, small};
 
 /// The first bytes of the record of the volume `root`, and its check; and the check of the empty record.
 const ROOT: [u8; 20] = *b"\0\0\0\x14\0\0\0\x01\0\0\0\0\x01\0\0\x04root";
@@ -17,7 +16,7 @@ const EMPTY_CHECK: [u8; 4] = [0xF1, 0x16, 0xC3, 0x6B];
 
 /// An image of four eraseblocks: two copies of a table, and two that are free. It takes no memory.
 fn image() -> Result<[u8; 2048], Fail> {
-    let ec = write_ec(&SMALL.geometry()?, &ZERO);
+    let ec = NAMED.bytes(&small()?);
     let mut bytes = [0xFF; 2048];
     for p in 0..4usize {
         let start = p * 512;
@@ -25,10 +24,7 @@ fn image() -> Result<[u8; 2048], Fail> {
     }
     for p in 0..2usize {
         let start = p * 512;
-        let vid = write_vid(&VidHeader {
-            lnum: p as u32,
-            ..TABLE_0
-        });
+        let vid = Vid::Table(p as u32, 0).bytes();
         bytes[start + 64..start + 128].copy_from_slice(&vid);
         bytes[start + 128..start + 472].fill(0);
         bytes[start + 128..start + 148].copy_from_slice(&ROOT);
@@ -40,13 +36,13 @@ fn image() -> Result<[u8; 2048], Fail> {
 
 /// The steps of a rename and of a change; none where memory ran out.
 fn both_planned(alloc: Global, image: &[u8]) -> Result<Option<(Vec<Step>, Vec<Step>)>, Fail> {
-    let geometry = SMALL.geometry()?;
+    let geometry = small()?;
     let renamed = match planned(alloc, &geometry, image, 0, b"data") {
         Ok(steps) => steps,
         Err(RenameRefusal::Memory) => return Ok(None),
         Err(_) => return Err("no rename".into()),
     };
-    match planned_change(alloc, &geometry, image, 1, &[0x61; 64]) {
+    match planned_change(alloc, &geometry, image, (0, 1), &[0x61; 64]) {
         Ok(changed) => Ok(Some((renamed, changed))),
         Err(ChangeRefusal::Memory) => Ok(None),
         Err(_) => Err("no change".into()),

@@ -1,59 +1,46 @@
 //! The pages of a table in which a volume has another name.
 
-use super::images::{FIRST, FREE, SECOND, SMALL, image_of};
-use super::rename::{overwrite, planned};
+use super::rename::planned;
 use std::alloc::{AllocError, Global};
 use std::test::Fail;
 use ubi_change::Step;
+use ubi_probe::pebs::{Data, FREE, NAMED, Peb, Vid, small, small_image};
+use ubi_probe::records::{ALIGNMENT_256, GROWING, Slot};
 
-/// A record: what stands before its name, the name, the flags, and the check. The checks were worked out by another program.
-#[derive(Clone, Copy)]
-struct Record {
-    front: [u8; 16],
-    name: &'static [u8],
-    flags: u8,
-    check: u32,
-}
+/// A volume of 20 eraseblocks that leaves 128 of 384 bytes free, and a static one of 3 that is updated and grows.
+const TABLE: Data = Data::Table(&[ALIGNMENT_256, GROWING]);
 
-/// A volume of 20 eraseblocks that leaves 128 of 384 bytes free.
-const ROOT: Record = Record {
-    front: [0, 0, 0, 20, 0, 0, 1, 0, 0, 0, 0, 128, 1, 0, 0, 4],
-    name: b"root",
-    flags: 0,
-    check: 0x30ED_19E0,
-};
+/// An image of the two copies of their table, and two free eraseblocks.
+static PEBS: [Peb; 4] = [
+    Peb(NAMED, Vid::Table(0, 0), TABLE),
+    Peb(NAMED, Vid::Table(1, 0), TABLE),
+    FREE,
+    FREE,
+];
 
-/// A static volume of 3 eraseblocks that is being updated, and grows.
-const BOOT: Record = Record {
-    front: [0, 0, 0, 3, 0, 0, 0, 1, 0, 0, 0, 0, 2, 1, 0, 4],
-    name: b"boot",
-    flags: 0x41,
-    check: 0x128C_137A,
-};
-
-/// A volume, its new name, and the two records then.
-static RENAMED: [(u32, &[u8], &[Record]); 5] = [
+/// A volume, its new name, and the two records then. Their checks were worked out by another program.
+static RENAMED: [(u32, &[u8], &[Slot]); 5] = [
     (
         0,
         b"data",
         &[
-            Record {
+            Slot {
                 name: b"data",
                 check: 0xA2E7_CA03,
-                ..ROOT
+                ..ALIGNMENT_256
             },
-            BOOT,
+            GROWING,
         ],
     ),
     (
         1,
         b"data",
         &[
-            ROOT,
-            Record {
+            ALIGNMENT_256,
+            Slot {
                 name: b"data",
                 check: 0x34A7_B085,
-                ..BOOT
+                ..GROWING
             },
         ],
     ),
@@ -61,12 +48,12 @@ static RENAMED: [(u32, &[u8], &[Record]); 5] = [
         1,
         b"x",
         &[
-            ROOT,
-            Record {
-                front: [0, 0, 0, 3, 0, 0, 0, 1, 0, 0, 0, 0, 2, 1, 0, 1],
+            ALIGNMENT_256,
+            Slot {
                 name: b"x",
+                name_len: 1,
                 check: 0x49A8_B571,
-                ..BOOT
+                ..GROWING
             },
         ],
     ),
@@ -74,33 +61,17 @@ static RENAMED: [(u32, &[u8], &[Record]); 5] = [
         1,
         &[0x6E; 127],
         &[
-            ROOT,
-            Record {
-                front: [0, 0, 0, 3, 0, 0, 0, 1, 0, 0, 0, 0, 2, 1, 0, 127],
+            ALIGNMENT_256,
+            Slot {
                 name: &[0x6E; 127],
+                name_len: 127,
                 check: 0x320F_EF63,
-                ..BOOT
+                ..GROWING
             },
         ],
     ),
-    (1, b"boot", &[ROOT, BOOT]),
+    (1, b"boot", &[ALIGNMENT_256, GROWING]),
 ];
-
-/// The bytes of two records.
-fn table_of(alloc: Global, records: &[Record]) -> Result<Vec<u8>, AllocError> {
-    let mut bytes = Vec::new(alloc);
-    for record in records {
-        let mut one = Vec::new(alloc);
-        one.extend_from_slice(&record.front)?;
-        one.extend_from_slice(record.name)?;
-        one.resize(144, 0)?;
-        one.push(record.flags)?;
-        one.resize(168, 0)?;
-        one.extend_from_slice(&record.check.to_be_bytes())?;
-        bytes.extend_from_slice(one.as_slice())?;
-    }
-    Ok(bytes)
-}
 
 /// Adds what a step programs behind the headers of an eraseblock.
 fn put_page(pages: &mut Vec<u8>, step: &Step, block: u32) -> Result<(), AllocError> {
@@ -120,7 +91,7 @@ fn pages_of(
     name: &[u8],
     block: u32,
 ) -> Result<Vec<u8>, Fail> {
-    let geometry = SMALL.geometry()?;
+    let geometry = small()?;
     let Ok(steps) = planned(alloc, &geometry, image, id, name) else {
         return Err("no plan".into());
     };
@@ -134,12 +105,12 @@ fn pages_of(
 #[test]
 fn keeps_all_but_the_name_and_the_check(rt: HostRuntime) -> Result<(), Fail> {
     let alloc = rt.alloc();
-    let mut image = image_of(alloc, &SMALL.geometry()?, &[FIRST, SECOND, FREE, FREE])?;
-    let table = table_of(alloc, &[ROOT, BOOT])?;
-    overwrite(image.as_mut_slice(), 128, table.as_slice());
-    overwrite(image.as_mut_slice(), 640, table.as_slice());
+    let image = small_image(alloc, &PEBS)?;
     for (index, (id, name, records)) in RENAMED.iter().enumerate() {
-        let mut want = table_of(alloc, records)?;
+        let mut want = Vec::new(alloc);
+        for record in *records {
+            want.extend_from_slice(&record.bytes())?;
+        }
         want.resize(384, 0xFF)?;
         let first = pages_of(alloc, image.as_slice(), *id, name, 2)?;
         let second = pages_of(alloc, image.as_slice(), *id, name, 3)?;

@@ -1,17 +1,21 @@
 //! Renames of a volume.
 
 use super::images::{
-    A, B, C, Data, EIGHT, ERASED, Ec, FIRST, FREE, INSIDE, LARGE, LARGE_SHARED, LAST, NEW,
-    NEW_FIRST, NEW_SECOND, NEXT_TO_LAST, ODD, ONE_PAGE, Peb, SECOND, SHARED, SMALL, Sizes, WORN,
-    ZERO, attached, image_of,
+    EIGHT, INSIDE, LARGE, LARGE_SHARED, ODD, ONE_PAGE, SHARED, SMALL, Sizes, WORN, assert_done,
+    attached,
 };
 use std::alloc::{AllocError, Global};
 use std::process::Abort;
 use std::test::Fail;
-use ubi_change::{RenameRefusal, Step, apply, plan_rename, step_fits};
-use ubi_media::{Geometry, Refusal, VidHeader, VolumeRecord};
-use ubi_probe::headers::{LEB_2, TABLE_0, TABLE_1};
-use ubi_probe::records::{ROOT, Slot};
+use ubi_change::{RenameRefusal, Step, plan_rename};
+use ubi_media::{Geometry, Refusal, VolumeRecord};
+use ubi_probe::pebs::{
+    A, B, C, C_LAST, C_LAST_BUT_1, C_LAST_BUT_2, Data, ERASED, Ec, FIRST, FIRST_DATA, FREE, IMAGE,
+    NAMED, NEW_FIRST, NEW_FREE, NEW_SECOND, NO_DATA, Peb, SECOND, SECOND_DATA, Vid, image_of,
+    small, small_image,
+};
+use ubi_probe::records::{DATA, ROOT, Slot};
+use ubi_probe::texts::overwrite;
 use ubi_volume::{Attached, Volume};
 
 /// What a rename is answered. It has no contract, so that a proof of a caller is spared that of `plan_rename`.
@@ -96,49 +100,22 @@ const BASE: Case = Case {
 };
 
 /// A free eraseblock whose erase-counter header has padding that isn't zero.
-const PADDED: Peb = Peb(Ec::Padded(ZERO), None, Data::Filled(0xFF, 0));
+const PADDED: Peb = Peb(Ec::Padded(0, IMAGE), Vid::Blank, NO_DATA);
 
-/// Copy 0 in an eraseblock that can't count another erase, and in the only one that names the image.
-const WORN_FIRST: Peb = Peb(Ec::Is(WORN), Some(TABLE_0), Data::Table(ROOT));
+/// The copies in eraseblocks that can't count another erase, and in the only one that names the image.
+const WORN_FIRST: Peb = Peb(WORN, Vid::Table(0, 0), Data::Table(&[ROOT]));
 
-const CARRIER_FIRST: Peb = Peb(Ec::Is(EIGHT), Some(TABLE_0), Data::Table(ROOT));
+const WORN_SECOND: Peb = Peb(WORN, Vid::Table(1, 0), Data::Table(&[ROOT]));
 
-/// Copy 1 in such eraseblocks.
-const WORN_SECOND: Peb = Peb(Ec::Is(WORN), Some(TABLE_1), Data::Table(ROOT));
+const CARRIER_FIRST: Peb = Peb(EIGHT, Vid::Table(0, 0), Data::Table(&[ROOT]));
 
-const CARRIER_SECOND: Peb = Peb(Ec::Is(EIGHT), Some(TABLE_1), Data::Table(ROOT));
-
-/// The record of another volume, of one reserved eraseblock.
-const DATA: Slot = Slot {
-    reserved: 1,
-    name: b"data",
-    check: 0x7C57_61B3,
-    ..ROOT
-};
-
-/// The two copies of a table with both.
-const FIRST_TWO: Peb = Peb(Ec::Is(ZERO), Some(TABLE_0), Data::Two(ROOT, DATA));
-
-const SECOND_TWO: Peb = Peb(Ec::Is(ZERO), Some(TABLE_1), Data::Two(ROOT, DATA));
-
-/// Logical eraseblock 2 with the last sequence number but two.
-const NEXT_TO_LATE: Peb = Peb(
-    Ec::Is(ZERO),
-    Some(VidHeader {
-        sqnum: u64::MAX - 2,
-        ..LEB_2
-    }),
-    Data::Filled(0x43, 384),
-);
-
-/// A free eraseblock that names no image.
-const NEW_FREE: Peb = Peb(Ec::Is(NEW), None, Data::Filled(0xFF, 0));
+const CARRIER_SECOND: Peb = Peb(EIGHT, Vid::Table(1, 0), Data::Table(&[ROOT]));
 
 static CASES: [Case; 14] = [
     BASE,
     // The second of two volumes.
     Case {
-        pebs: &[FIRST_TWO, SECOND_TWO, A, B, C, FREE, FREE],
+        pebs: &[FIRST_DATA, SECOND_DATA, A, B, C, FREE, FREE],
         id: 1,
         from: b"data",
         to: b"boot",
@@ -151,7 +128,7 @@ static CASES: [Case; 14] = [
     },
     // The last two sequence numbers.
     Case {
-        pebs: &[FIRST, SECOND, A, B, NEXT_TO_LATE, FREE, FREE],
+        pebs: &[FIRST, SECOND, A, B, C_LAST_BUT_2, FREE, FREE],
         ..BASE
     },
     // No power of two.
@@ -343,30 +320,59 @@ fn place_of(step: &Step) -> (u32, u32) {
     }
 }
 
-/// Asserts where the steps of a rename are, and what each cut means.
-fn assert_renames(rt: &impl Abort, alloc: Global, case: &Case) -> Result<(), Fail> {
+/// Asserts that an image means what it did, but that a volume has a name.
+fn assert_cut(
+    rt: &impl Abort,
+    alloc: Global,
+    case: &Case,
+    image: &[u8],
+    old: &Attached,
+    name: &[u8],
+) -> Result<(), Fail> {
+    let here = attached(alloc, &case.sizes.geometry()?, image)?;
+    assert_means(rt, &here, old, case.id, name)
+}
+
+/// Does the steps of a rename, and asserts where they are, and what each cut means.
+fn assert_walk(
+    rt: &impl Abort,
+    alloc: Global,
+    case: &Case,
+    image: &mut [u8],
+    (steps, places): (&[Step], &[(u32, u32)]),
+    old: &Attached,
+) -> Result<(), Fail> {
     let geometry = case.sizes.geometry()?;
-    let mut image = image_of(alloc, &geometry, case.pebs)?;
-    let old = attached(alloc, &geometry, image.as_slice())?;
-    let steps = match planned(alloc, &geometry, image.as_slice(), case.id, case.to) {
-        Ok(steps) => steps,
-        Err(_) => return Err("no plan".into()),
-    };
+    for (done, (step, place)) in steps.iter().zip(places).enumerate() {
+        let name = if done < case.turn { case.from } else { case.to };
+        assert_cut(rt, alloc, case, image, old, name)?;
+        assert!(*rt; place_of(step) == *place);
+        assert_done(rt, &geometry, image, step);
+    }
+    assert_cut(rt, alloc, case, image, old, case.to)
+}
+
+/// The eraseblock and the page of each step of a rename.
+fn places_of(alloc: Global, case: &Case) -> Result<Vec<(u32, u32)>, AllocError> {
     let mut places = Vec::new(alloc);
     for copied in &case.copies {
         copied.put_places(&mut places)?;
     }
-    assert_eq!(*rt; steps.len(), places.len());
-    for (done, (step, place)) in steps.as_slice().iter().zip(places.as_slice()).enumerate() {
-        let name = if done < case.turn { case.from } else { case.to };
-        let here = attached(alloc, &geometry, image.as_slice())?;
-        assert_means(rt, &here, &old, case.id, name)?;
-        assert_eq!(*rt; place_of(step), *place);
-        assert!(*rt; step_fits(&geometry, image.as_slice(), step));
-        apply(&geometry, image.as_mut_slice(), step);
-    }
-    let end = attached(alloc, &geometry, image.as_slice())?;
-    assert_means(rt, &end, &old, case.id, case.to)
+    Ok(places)
+}
+
+/// Asserts where the steps of a rename are, and what each cut means.
+fn assert_renames(rt: &impl Abort, alloc: Global, case: &Case) -> Result<(), Fail> {
+    let geometry = case.sizes.geometry()?;
+    let mut image = image_of(alloc, &geometry, case.pebs)?;
+    let Ok(steps) = planned(alloc, &geometry, image.as_slice(), case.id, case.to) else {
+        return Err("no plan".into());
+    };
+    let places = places_of(alloc, case)?;
+    assert!(*rt; steps.len() == places.len());
+    let old = attached(alloc, &geometry, image.as_slice())?;
+    let walk = (steps.as_slice(), places.as_slice());
+    assert_walk(rt, alloc, case, image.as_mut_slice(), walk, &old)
 }
 
 #[test]
@@ -387,25 +393,25 @@ const WEAK: Slot = Slot {
 };
 
 /// The two copies of the table with it.
-const FIRST_WEAK: Peb = Peb(Ec::Is(ZERO), Some(TABLE_0), Data::Two(ROOT, WEAK));
+const FIRST_WEAK: Peb = Peb(NAMED, Vid::Table(0, 0), Data::Table(&[ROOT, WEAK]));
 
-const SECOND_WEAK: Peb = Peb(Ec::Is(ZERO), Some(TABLE_1), Data::Two(ROOT, WEAK));
+const SECOND_WEAK: Peb = Peb(NAMED, Vid::Table(1, 0), Data::Table(&[ROOT, WEAK]));
 
-/// Copy 1 with a record whose check is wrong, and with one at fault.
+/// Copies with a record whose check is wrong, and with one that comes twice.
 const SECOND_CORRUPT: Peb = Peb(
-    Ec::Is(ZERO),
-    Some(TABLE_1),
-    Data::Table(Slot { check: 0, ..ROOT }),
+    NAMED,
+    Vid::Table(1, 0),
+    Data::Table(&[Slot { check: 0, ..ROOT }]),
 );
 
-const SECOND_TWICE: Peb = Peb(Ec::Is(ZERO), Some(TABLE_1), Data::Two(ROOT, ROOT));
+const SECOND_TWICE: Peb = Peb(NAMED, Vid::Table(1, 0), Data::Table(&[ROOT, ROOT]));
 
-const FIRST_TWICE: Peb = Peb(Ec::Is(ZERO), Some(TABLE_0), Data::Two(ROOT, ROOT));
+const FIRST_TWICE: Peb = Peb(NAMED, Vid::Table(0, 0), Data::Table(&[ROOT, ROOT]));
 
 /// Free eraseblocks that can't be taken: one that can't count another erase, and the only one that names the image.
-const WORN_FREE: Peb = Peb(Ec::Is(WORN), None, Data::Filled(0xFF, 0));
+const WORN_FREE: Peb = Peb(WORN, Vid::Blank, NO_DATA);
 
-const CARRIER_FREE: Peb = Peb(Ec::Is(EIGHT), None, Data::Filled(0xFF, 0));
+const CARRIER_FREE: Peb = Peb(EIGHT, Vid::Blank, NO_DATA);
 
 /// Why a rename of a volume to a name isn't planned. Of each two causes in their order both stand in some image.
 static REFUSED: [(&[Peb], u32, &[u8], RenameRefusal); 20] = [
@@ -420,12 +426,27 @@ static REFUSED: [(&[Peb], u32, &[u8], RenameRefusal); 20] = [
     (&PEBS, 0, b"", RenameRefusal::BadName),
     (&PEBS, 0, &[0x61; 128], RenameRefusal::BadName),
     (&PEBS, 0, b"a\0", RenameRefusal::BadName),
-    (&[FIRST, SECOND_TWO], 0, b"", RenameRefusal::BadName),
-    (&[FIRST_TWO, SECOND], 0, b"data", RenameRefusal::SameName(1)),
-    (&[FIRST_TWO, SECOND], 1, b"root", RenameRefusal::SameName(0)),
-    (&[FIRST_TWO, SECOND], 1, b"boot", RenameRefusal::NeedsRepair),
+    (&[FIRST, SECOND_DATA], 0, b"", RenameRefusal::BadName),
     (
-        &[FIRST_WEAK, SECOND, LAST],
+        &[FIRST_DATA, SECOND],
+        0,
+        b"data",
+        RenameRefusal::SameName(1),
+    ),
+    (
+        &[FIRST_DATA, SECOND],
+        1,
+        b"root",
+        RenameRefusal::SameName(0),
+    ),
+    (
+        &[FIRST_DATA, SECOND],
+        1,
+        b"boot",
+        RenameRefusal::NeedsRepair,
+    ),
+    (
+        &[FIRST_WEAK, SECOND, C_LAST],
         0,
         b"data",
         RenameRefusal::NeedsRepair,
@@ -450,19 +471,19 @@ static REFUSED: [(&[Peb], u32, &[u8], RenameRefusal); 20] = [
         RenameRefusal::NeedsRepair,
     ),
     (
-        &[FIRST_WEAK, SECOND_WEAK, LAST],
+        &[FIRST_WEAK, SECOND_WEAK, C_LAST],
         0,
         b"data",
         RenameRefusal::WeakCheck(5),
     ),
     (
-        &[FIRST, SECOND, A, B, NEXT_TO_LAST],
+        &[FIRST, SECOND, A, B, C_LAST_BUT_1],
         0,
         b"data",
         RenameRefusal::Exhausted,
     ),
     (
-        &[FIRST, SECOND, A, B, LAST, FREE, FREE],
+        &[FIRST, SECOND, A, B, C_LAST, FREE, FREE],
         0,
         b"data",
         RenameRefusal::Exhausted,
@@ -484,27 +505,14 @@ static REFUSED: [(&[Peb], u32, &[u8], RenameRefusal); 20] = [
 #[test]
 fn refuses_renames(rt: HostRuntime) -> Result<(), Fail> {
     let alloc = rt.alloc();
-    let geometry = SMALL.geometry()?;
+    let geometry = small()?;
     for (index, (pebs, id, name, cause)) in REFUSED.iter().enumerate() {
-        let image = image_of(alloc, &geometry, pebs)?;
+        let image = small_image(alloc, pebs)?;
         let answer = planned(alloc, &geometry, image.as_slice(), *id, name);
         assert!(rt; answer.err() == Some(*cause), "case {index}");
     }
-    Ok(())
-}
-
-/// Writes bytes over those from a place on.
-pub fn overwrite(image: &mut [u8], at: usize, bytes: &[u8]) {
-    for (old, new) in image.iter_mut().skip(at).zip(bytes) {
-        *old = *new;
-    }
-}
-
-#[test]
-fn refuses_by_the_copies_of_the_table(rt: HostRuntime) -> Result<(), Fail> {
-    let alloc = rt.alloc();
-    let geometry = SMALL.geometry()?;
-    let mut image = image_of(alloc, &geometry, &PEBS)?;
+    // By the copies of the table, once other bytes stand in them.
+    let mut image = small_image(alloc, &PEBS)?;
     let record = &DATA.bytes();
     overwrite(image.as_mut_slice(), 640 + 172, record);
     let answer = planned(alloc, &geometry, image.as_slice(), 0, b"name");

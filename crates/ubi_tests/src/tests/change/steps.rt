@@ -1,47 +1,41 @@
 //! When a step fits an image.
 
-use super::images::{FIRST, FREE, SECOND, SMALL, image_of, text};
 use std::alloc::Global;
 use std::test::Fail;
 use ubi_change::{Step, step_fits};
+use ubi_probe::pebs::{FIRST, FREE, SECOND, small, small_image};
 use ubi_volume::Bytes;
 
-/// Whether a program of a page with so many bytes fits an image of three eraseblocks, the last of which is free. It has
-/// no contract.
-fn program_fits(alloc: Global, pnum: u32, page: u32, byte: u8, count: usize) -> Result<bool, Fail> {
-    let geometry = SMALL.geometry()?;
-    let image = image_of(alloc, &geometry, &[FIRST, SECOND, FREE])?;
-    let bytes = Bytes::new(text(alloc, byte, count)?);
-    Ok(step_fits(
-        &geometry,
-        image.as_slice(),
-        &Step::Program { pnum, page, bytes },
-    ))
+/// Whether a step fits an image of three eraseblocks, the last of which is free. It has no contract.
+fn fits(alloc: Global, step: &Step) -> Result<bool, Fail> {
+    let image = small_image(alloc, &[FIRST, SECOND, FREE])?;
+    Ok(step_fits(&small()?, image.as_slice(), step))
 }
 
-/// Whether an erase fits the same image. It has no contract.
-fn erase_fits(alloc: Global, pnum: u32) -> Result<bool, Fail> {
-    let geometry = SMALL.geometry()?;
-    let image = image_of(alloc, &geometry, &[FIRST, SECOND, FREE])?;
-    Ok(step_fits(&geometry, image.as_slice(), &Step::Erase { pnum }))
-}
+/// A page of an eraseblock, a byte and how often it is programmed, and whether that fits.
+static PROGRAMS: [(u32, u32, u8, usize, bool); 6] = [
+    (2, 7, 0x61, 64, true),
+    (2, 8, 0x61, 64, false),
+    (3, 7, 0x61, 64, false),
+    (2, 7, 0x61, 63, false),
+    (2, 0, 0xFF, 64, false),
+    (2, 0, 0x00, 64, true),
+];
 
 #[test]
-fn programs_fit_pages_that_are_blank(rt: HostRuntime) -> Result<(), Fail> {
+fn steps_fit_blank_pages_and_eraseblocks_of_the_image(rt: HostRuntime) -> Result<(), Fail> {
     let alloc = rt.alloc();
-    assert!(rt; program_fits(alloc, 2, 7, 0x61, 64)?);
-    assert!(rt; !program_fits(alloc, 2, 8, 0x61, 64)?);
-    assert!(rt; !program_fits(alloc, 3, 7, 0x61, 64)?);
-    assert!(rt; !program_fits(alloc, 2, 7, 0x61, 63)?);
-    assert!(rt; !program_fits(alloc, 2, 0, 0xFF, 64)?);
-    assert!(rt; program_fits(alloc, 2, 0, 0x00, 64)?);
-    Ok(())
-}
-
-#[test]
-fn erases_fit_eraseblocks_of_the_image(rt: HostRuntime) -> Result<(), Fail> {
-    let alloc = rt.alloc();
-    assert!(rt; erase_fits(alloc, 2)?);
-    assert!(rt; !erase_fits(alloc, 3)?);
+    for (index, (pnum, page, byte, count, want)) in PROGRAMS.iter().enumerate() {
+        let bytes = Bytes::new(Vec::from_elem(alloc, *byte, *count)?);
+        let (pnum, page) = (*pnum, *page);
+        let is = fits(alloc, &Step::Program { pnum, page, bytes })?;
+        assert!(rt; is == *want, "case {index}");
+    }
+    for (pnum, want) in [(2, true), (3, false)] {
+        assert!(rt;
+            fits(alloc, &Step::Erase { pnum })? == want,
+            "erase of {pnum}"
+        );
+    }
     Ok(())
 }

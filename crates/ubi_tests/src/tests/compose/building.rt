@@ -1,13 +1,15 @@
 //! Building images of sources.
 
-use super::images::{Image, bytes_of, small};
+use super::images::{Image, composed};
 use std::alloc::Global;
 use std::test::Fail;
-use ubi_compose::{BuildError, Part, Recipe, RecipeError, build_to, compose, parse_spec};
+use ubi_compose::{BuildError, Part, Recipe, RecipeError, build_to};
 use ubi_media::{Geometry, VolKind, VolName, VolumeRecord};
+use ubi_probe::pebs::small;
+use ubi_probe::texts::bytes_of;
 use ubi_probe::{Failure, ProbeSource, ProbeWriter};
 use ubi_scan::MemorySource;
-use ubi_volume::{Meaning, MeaningCause};
+use ubi_volume::MeaningCause;
 
 /// A volume: its number, its kind, how many eraseblocks are reserved, its alignment and its name; and its bytes, by the
 /// place at which they begin and by how many they are.
@@ -110,18 +112,6 @@ static CASES: [Case; 5] = [
     },
 ];
 
-#[test]
-fn builds_images_that_were_worked_out_by_hand(rt: HostRuntime) -> Result<(), Fail> {
-    let alloc = rt.alloc();
-    for (index, case) in CASES.iter().enumerate() {
-        let (bytes, want) = (bytes_of(alloc, case.bytes)?, case.want.bytes(alloc)?);
-        let built = (case.image_seq, case.rows, 0);
-        let is = is_built(alloc, &small()?, built, bytes.as_slice(), want.as_slice())?;
-        assert!(rt; is, "case {index}");
-    }
-    Ok(())
-}
-
 /// Two volumes by falling number, the first of which uses 256 of the 384 bytes of a logical eraseblock; and the same as
 /// a text.
 static ROWS: [Row; 2] = [
@@ -134,27 +124,21 @@ static BYTES: [(&[u8], usize); 2] = [(b"\xFF", 256), (b"abxyz", 1)];
 const TEXT: &[u8] =
     b"volume 0 static 2 1 00 boot\nbytes 0 78797a\nvolume 1 dynamic 3 256 00 map\nleb 1 1 6162\n";
 
-/// What the text composes to, with two spare eraseblocks.
-fn composed(alloc: Global) -> Result<Vec<u8>, Fail> {
-    let volumes = parse_spec(alloc, &small()?, TEXT).map_err(|_| "not read")?;
-    let meaning = Meaning::new(&small()?, 7, volumes).map_err(|_| "no meaning")?;
-    Ok(compose(alloc, &meaning, 2).map_err(|_| "not composed")?)
-}
-
 #[test]
-fn builds_what_a_text_composes_to(rt: HostRuntime) -> Result<(), Fail> {
+fn builds_images_by_hand_and_what_a_text_composes_to(rt: HostRuntime) -> Result<(), Fail> {
     let alloc = rt.alloc();
-    let (bytes, want) = (bytes_of(alloc, &BYTES)?, composed(alloc)?);
-    let rows = ROWS.as_slice();
-    assert!(rt;
-        is_built(
-            alloc,
-            &small()?,
-            (7, rows, 2),
-            bytes.as_slice(),
-            want.as_slice()
-        )?
+    for (index, case) in CASES.iter().enumerate() {
+        let (bytes, want) = (bytes_of(alloc, case.bytes)?, case.want.bytes(alloc)?);
+        let built = (case.image_seq, case.rows, 0);
+        let is = is_built(alloc, &small()?, built, bytes.as_slice(), want.as_slice())?;
+        assert!(rt; is, "case {index}");
+    }
+    let (bytes, want) = (
+        bytes_of(alloc, &BYTES)?,
+        composed(alloc, &small()?, TEXT, 7, 2)?,
     );
+    let built = (7, ROWS.as_slice(), 2);
+    assert!(rt; is_built(alloc, &small()?, built, bytes.as_slice(), want.as_slice())?);
     Ok(())
 }
 
@@ -195,7 +179,10 @@ static READS: [Result<u64, BuildError>; 4] = [
 #[test]
 fn tells_what_failed_and_how_much_was_written(rt: HostRuntime) -> Result<(), Fail> {
     let alloc = rt.alloc();
-    let (bytes, want) = (bytes_of(alloc, &BYTES)?, composed(alloc)?);
+    let (bytes, want) = (
+        bytes_of(alloc, &BYTES)?,
+        composed(alloc, &small()?, TEXT, 7, 2)?,
+    );
     let (bytes, want) = (bytes.as_slice(), want.as_slice());
     for (index, answer) in READS.iter().enumerate() {
         let is = fault_at(alloc, bytes, want, index as u64 + 1, 4096)? == *answer;
@@ -233,15 +220,6 @@ static REFUSED: [(&[Row], MeaningCause); 3] = [
     ),
 ];
 
-#[test]
-fn tells_why_volumes_have_no_meaning(rt: HostRuntime) -> Result<(), Fail> {
-    for (rows, cause) in &REFUSED {
-        let recipe = recipe_of(rt.alloc(), &small()?, 7, *rows)?;
-        assert!(rt; recipe.err() == Some(RecipeError::Refused(*cause)));
-    }
-    Ok(())
-}
-
 /// What is answered where nothing is written: how many bytes of the source there are, how many spare eraseblocks, and the
 /// answer. The volumes have 3 pieces.
 static UNBEGUN: [(usize, u32, Option<BuildError>); 4] = [
@@ -252,8 +230,12 @@ static UNBEGUN: [(usize, u32, Option<BuildError>); 4] = [
 ];
 
 #[test]
-fn writes_nothing_where_it_is_too_much(rt: HostRuntime) -> Result<(), Fail> {
+fn tells_why_nothing_is_built(rt: HostRuntime) -> Result<(), Fail> {
     let alloc = rt.alloc();
+    for (rows, cause) in &REFUSED {
+        let recipe = recipe_of(alloc, &small()?, 7, *rows)?;
+        assert!(rt; recipe.err() == Some(RecipeError::Refused(*cause)));
+    }
     let bytes = bytes_of(alloc, &BYTES)?;
     for (size, spares, want) in &UNBEGUN {
         let Ok(recipe) = recipe_of(alloc, &small()?, 7, &ROWS)? else {

@@ -1,10 +1,11 @@
 //! Comparing what two images mean.
 
-use super::images::{Image, small};
+use super::images::Image;
 use std::test::Fail;
 use ubi_compose::{SameError, SameFault, same, same_from};
 use ubi_media::Refusal;
 use ubi_probe::ProbeSource;
+use ubi_probe::pebs::small;
 use ubi_scan::{MemorySource, StreamError};
 
 /// Two images, and whether they mean the same, or the side that is refused.
@@ -14,7 +15,7 @@ static COMPARED: [(Image, Image, Result<bool, SameError>); 22] = [
     (Image::NormalRoot, Image::TurnedRoot, Ok(true)),
     (Image::TurnedRoot, Image::NormalRoot, Ok(true)),
     (Image::NormalRoot, Image::NormalDamaged, Ok(false)),
-    (Image::BlankBlock, Image::NormalRoot, Ok(false)),
+    (Image::Blank(512), Image::NormalRoot, Ok(false)),
     // The number of the image.
     (Image::NormalRoot, Image::UnnamedRoot, Ok(false)),
     (Image::UnnamedRoot, Image::UnnamedRoot, Ok(true)),
@@ -33,18 +34,18 @@ static COMPARED: [(Image, Image, Result<bool, SameError>); 22] = [
     (Image::NormalDamaged, Image::NormalText, Ok(false)),
     // Bytes that are no image.
     (
-        Image::Odd,
-        Image::BlankBlock,
+        Image::Blank(511),
+        Image::Blank(512),
         Err(SameError::Left(Refusal::Length)),
     ),
     (
-        Image::Odd,
-        Image::Nothing,
+        Image::Blank(511),
+        Image::Blank(0),
         Err(SameError::Left(Refusal::Length)),
     ),
     (
-        Image::BlankBlock,
-        Image::Odd,
+        Image::Blank(512),
+        Image::Blank(511),
         Err(SameError::Right(Refusal::Length)),
     ),
 ];

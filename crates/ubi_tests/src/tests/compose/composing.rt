@@ -1,16 +1,17 @@
 //! Composing and normalising.
 
-use super::images::{Image, small};
-use std::alloc::{AllocError, Global};
+use super::images::Image;
+use std::alloc::Global;
 use std::test::Fail;
 use ubi_compose::{ComposeError, compose, normalise};
 use ubi_media::{AttachError, Geometry, Refusal};
 use ubi_probe::header_bytes::NAMED_EC;
+use ubi_probe::pebs::small;
 use ubi_volume::{Meaning, attach};
 
 /// An image, and its normal image.
 static NORMALISED: [(Image, Image); 3] = [
-    (Image::Blank, Image::NormalTable),
+    (Image::Blank(1536), Image::NormalTable),
     (Image::UsedRoot, Image::NormalRoot),
     // It has one eraseblock, which is kept.
     (Image::NormalDamaged, Image::NormalDamaged),
@@ -53,7 +54,7 @@ fn is_composed(alloc: Global, meaning: &Meaning, want: &[u8]) -> bool {
 }
 
 /// The normal image of `root` with 27 spare eraseblocks.
-fn spared(alloc: Global) -> Result<Vec<u8>, AllocError> {
+fn spared(alloc: Global) -> Result<Vec<u8>, Fail> {
     let mut bytes = Image::NormalRoot.bytes(alloc)?;
     for _ in 0..27 {
         bytes.extend_from_slice(&NAMED_EC)?;

@@ -1,22 +1,18 @@
 //! Eraseblocks of the size that chips have: 128 KiB in pages of 2 KiB.
 
+use super::images::composed;
 use std::alloc::Global;
 use std::test::Fail;
-use ubi_compose::{Part, Recipe, build_to, compose, normalise_to, parse_spec, same};
+use ubi_compose::{Part, Recipe, build_to, normalise_to, same};
 use ubi_media::Geometry;
 use ubi_probe::chips::{PAGES, SUBPAGES};
+use ubi_probe::pebs::IMAGE;
 use ubi_probe::records::ROOT;
 use ubi_probe::{Failure, ProbeWriter};
 use ubi_scan::MemorySource;
-use ubi_volume::Meaning;
 
-/// What a text composes to, with an image sequence number and a spare eraseblock.
-fn composed(alloc: Global, geometry: &Geometry, image_seq: u32) -> Result<Vec<u8>, Fail> {
-    let text = b"volume 0 dynamic 20 1 00 root\nleb 0 1 6162\n";
-    let volumes = parse_spec(alloc, geometry, text).map_err(|_| "not read")?;
-    let meaning = Meaning::new(geometry, image_seq, volumes).map_err(|_| "no meaning")?;
-    Ok(compose(alloc, &meaning, 1).map_err(|_| "not composed")?)
-}
+/// A volume of 20 logical eraseblocks, of which 1 begins with two bytes.
+const TEXT: &[u8] = b"volume 0 dynamic 20 1 00 root\nleb 0 1 6162\n";
 
 /// Whether an image is normalised to some bytes, which mean the same as it, and others don't.
 fn is_normalised(
@@ -48,7 +44,9 @@ fn is_built(alloc: Global, geometry: &Geometry, want: &[u8]) -> Result<bool, Fai
         len: bytes.len() as u64,
     };
     let parts = Vec::from_array(alloc, [part])?;
-    let recipe = Recipe::new(alloc, geometry, 0x1234_5678, parts).map_err(|_| "no recipe")?;
+    let Ok(recipe) = Recipe::new(alloc, geometry, IMAGE, parts) else {
+        return Err("no recipe".into());
+    };
     let mut source = MemorySource::new(bytes.as_slice());
     let mut writer = ProbeWriter::new(alloc, 1 << 20, 1 << 20, Failure::Nothing)?;
     let answer = build_to(alloc, &recipe, 1, &mut source, &mut writer);
@@ -59,9 +57,12 @@ fn is_built(alloc: Global, geometry: &Geometry, want: &[u8]) -> Result<bool, Fai
 fn composes_builds_normalises_and_compares(rt: HostRuntime) -> Result<(), Fail> {
     let alloc = rt.alloc();
     for chip in [PAGES, SUBPAGES] {
-        let geometry = Geometry::new(131_072, 2048, chip.vid, chip.data, 1024)?;
-        let image = composed(alloc, &geometry, 0x1234_5678)?;
-        let (want, unnamed) = (chip.image(alloc, &ROOT)?, composed(alloc, &geometry, 0)?);
+        let geometry = chip.geometry()?;
+        let image = composed(alloc, &geometry, TEXT, IMAGE, 1)?;
+        let (want, unnamed) = (
+            chip.image(alloc, &geometry, &[ROOT])?,
+            composed(alloc, &geometry, TEXT, 0, 1)?,
+        );
         assert!(rt; image == want && is_built(alloc, &geometry, want.as_slice())?);
         let normal = want.as_slice().get(..393_216).unwrap_or(&[]);
         let images = (image.as_slice(), normal, unnamed.as_slice());

@@ -1,9 +1,9 @@
 //! Reading a text, and building an image, where memory is refused.
 
-use super::images::small;
 use std::alloc::Global;
 use std::test::Fail;
 use ubi_compose::{BuildError, Part, Recipe, RecipeError, SpecError, build_to, parse_spec};
+use ubi_probe::pebs::small;
 use ubi_probe::records::BOOT;
 use ubi_probe::{Failure, ProbeWriter};
 use ubi_scan::MemorySource;

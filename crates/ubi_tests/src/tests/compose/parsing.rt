@@ -1,12 +1,13 @@
 //! Reading the composer's text.
 
-use super::images::{Image, bytes_of, small};
+use super::images::{Image, composed};
 use std::alloc::Global;
 use std::test::Fail;
-use ubi_compose::{SpecCause, SpecError, compose, parse_spec};
+use ubi_compose::{SpecCause, SpecError, parse_spec};
 use ubi_media::{RecFault, VolKind, VolName, VolumeRecord};
-use ubi_probe::texts::ROOT_TEXT;
-use ubi_volume::{Bytes, Content, Lebs, Meaning, Volume};
+use ubi_probe::pebs::small;
+use ubi_probe::texts::{ROOT_TEXT, bytes_of};
+use ubi_volume::{Bytes, Content, Lebs, Volume};
 
 /// The number and the cause of the first line of a text at fault.
 fn cause(alloc: Global, text: &[u8]) -> Result<Option<(u32, SpecCause)>, Fail> {
@@ -15,15 +16,6 @@ fn cause(alloc: Global, text: &[u8]) -> Result<Option<(u32, SpecCause)>, Fail> {
         Err(SpecError::Refused { line, cause }) => Ok(Some((line, cause))),
         Err(SpecError::Memory) => Err("out of memory".into()),
     }
-}
-
-/// The image that a text composes to, with an image sequence number.
-fn composed(alloc: Global, image_seq: u32, text: &[(&[u8], usize)]) -> Result<Vec<u8>, Fail> {
-    let geometry = small()?;
-    let text = bytes_of(alloc, text)?;
-    let volumes = parse_spec(alloc, &geometry, text.as_slice()).map_err(|_| "not read")?;
-    let meaning = Meaning::new(&geometry, image_seq, volumes).map_err(|_| "no meaning")?;
-    Ok(compose(alloc, &meaning, 0).map_err(|_| "not composed")?)
 }
 
 /// A record of 3 reserved eraseblocks.
@@ -156,35 +148,48 @@ fn one_leb(alloc: Global) -> Result<Content, Fail> {
     Ok(Content::Dynamic(lebs))
 }
 
-fn volume(entry: VolumeRecord, content: Content) -> Volume {
-    Volume { entry, content }
-}
-
 /// The volumes of the text.
 fn four(alloc: Global) -> Result<[(u32, Volume); 4], Fail> {
-    let text = Content::Static(Bytes::new(Vec::from_slice(alloc, b"abc")?));
-    let map = one_leb(alloc)?;
-    let half = VolumeRecord {
-        marker: true,
-        ..record(VolKind::Dynamic, b"half")?
-    };
-    let (first, second) = (
-        record(VolKind::Static, b"text")?,
-        record(VolKind::Dynamic, b"map")?,
-    );
-    let fourth = record(VolKind::Static, b"torn")?;
+    let mut half = record(VolKind::Dynamic, b"half")?;
+    half.marker = true;
     Ok([
-        (7, volume(first, text)),
-        (2, volume(second, map)),
-        (3, volume(half, Content::Updating)),
-        (0, volume(fourth, Content::Damaged)),
+        (
+            7,
+            Volume {
+                entry: record(VolKind::Static, b"text")?,
+                content: Content::Static(Bytes::new(Vec::from_slice(alloc, b"abc")?)),
+            },
+        ),
+        (
+            2,
+            Volume {
+                entry: record(VolKind::Dynamic, b"map")?,
+                content: one_leb(alloc)?,
+            },
+        ),
+        (
+            3,
+            Volume {
+                entry: half,
+                content: Content::Updating,
+            },
+        ),
+        (
+            0,
+            Volume {
+                entry: record(VolKind::Static, b"torn")?,
+                content: Content::Damaged,
+            },
+        ),
     ])
 }
 
 #[test]
 fn gives_the_volumes_of_a_text(rt: HostRuntime) -> Result<(), Fail> {
     let want = four(rt.alloc())?;
-    let volumes = parse_spec(rt.alloc(), &small()?, FOUR).map_err(|_| "not read")?;
+    let Ok(volumes) = parse_spec(rt.alloc(), &small()?, FOUR) else {
+        return Err("not read".into());
+    };
     assert!(rt; volumes.as_slice() == want.as_slice());
     Ok(())
 }
@@ -202,7 +207,8 @@ static COMPOSED: [(&[(&[u8], usize)], u32, Image); 2] = [
 #[test]
 fn composes_texts(rt: HostRuntime) -> Result<(), Fail> {
     for (text, image_seq, want) in &COMPOSED {
-        let image = composed(rt.alloc(), *image_seq, text)?;
+        let text = bytes_of(rt.alloc(), text)?;
+        let image = composed(rt.alloc(), &small()?, text.as_slice(), *image_seq, 0)?;
         assert!(rt; image == want.bytes(rt.alloc())?);
     }
     Ok(())

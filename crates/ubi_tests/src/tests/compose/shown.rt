@@ -1,9 +1,9 @@
 //! The shown form of a name.
 
-use super::images::bytes_of;
 use std::test::Fail;
 use ubi_compose::shown_name;
 use ubi_media::VolName;
+use ubi_probe::texts::bytes_of;
 
 /// A word, and the name of which it is the shown form, if it is one: bytes that each stand so many times.
 static SHOWN: [(&[(&[u8], usize)], &[(&[u8], usize)]); 18] = [

@@ -1,10 +1,11 @@
 //! Normalising sources.
 
-use super::images::{Image, small};
+use super::images::Image;
 use crate::tests::probes::WAYS;
 use std::alloc::Global;
 use std::test::Fail;
 use ubi_compose::normalise_to;
+use ubi_probe::pebs::small;
 use ubi_probe::{Failure, ProbeSource, ProbeWriter};
 use ubi_scan::{MemorySource, StreamError};
 
@@ -30,7 +31,7 @@ fn is_cut(
 /// An image, what it is normalised to, and whether each way is tried of each number of bytes, or that a writer takes
 /// 100 bytes at once.
 static STREAMED: [(Image, Image, bool); 4] = [
-    (Image::Blank, Image::NormalTable, true),
+    (Image::Blank(1536), Image::NormalTable, true),
     (Image::UsedRoot, Image::NormalRoot, false),
     (Image::NormalRoot, Image::NormalRoot, false),
     (Image::NormalDamaged, Image::NormalDamaged, false),

@@ -3,6 +3,7 @@
 use std::alloc::{AllocError, Global};
 use std::test::Fail;
 use ubi_config::{ConfigCause, ConfigError, Key, parse_config};
+use ubi_probe::texts::bytes_of;
 
 /// The number and the cause of the first fault of a text.
 fn fault(alloc: Global, text: &[u8]) -> Result<Option<(u32, ConfigCause)>, Fail> {
@@ -130,25 +131,6 @@ static FAULTS: [(&[u8], Option<(u32, ConfigCause)>); 56] = [
     ),
 ];
 
-#[test]
-fn tells_the_first_fault(rt: HostRuntime) -> Result<(), Fail> {
-    for (index, (text, want)) in FAULTS.iter().enumerate() {
-        assert!(rt; fault(rt.alloc(), text)? == *want, "case {index}");
-    }
-    Ok(())
-}
-
-/// Runs of bytes, each so many times.
-fn bytes_of(alloc: Global, runs: &[(&[u8], usize)]) -> Result<Vec<u8>, AllocError> {
-    let mut bytes = Vec::new(alloc);
-    for (run, count) in runs {
-        for _ in 0..*count {
-            bytes.extend_from_slice(run)?;
-        }
-    }
-    Ok(bytes)
-}
-
 /// The same of texts that are bytes, each so many times: the longest lines and names of sections.
 static LONG: [(&[(&[u8], usize)], Option<(u32, ConfigCause)>); 4] = [
     (&[(b"#", 1022)], Some((1, ConfigCause::NoSection))),
@@ -163,18 +145,6 @@ static LONG: [(&[(&[u8], usize)], Option<(u32, ConfigCause)>); 4] = [
     ),
 ];
 
-#[test]
-fn tells_faults_of_long_texts(rt: HostRuntime) -> Result<(), Fail> {
-    for (index, (runs, want)) in LONG.iter().enumerate() {
-        let text = bytes_of(rt.alloc(), runs)?;
-        assert!(rt;
-            fault(rt.alloc(), text.as_slice())? == *want,
-            "case {index}"
-        );
-    }
-    Ok(())
-}
-
 /// The headings of so many sections, each named by two letters.
 fn headings(alloc: Global, count: usize) -> Result<Vec<u8>, AllocError> {
     let mut text = Vec::new(alloc);
@@ -187,11 +157,30 @@ fn headings(alloc: Global, count: usize) -> Result<Vec<u8>, AllocError> {
     Ok(text)
 }
 
+/// How many sections there are, and the first fault.
+static MANY: [(usize, (u32, ConfigCause)); 2] = [
+    (128, (1, ConfigCause::Missing(Key::Mode))),
+    (129, (129, ConfigCause::TooMany)),
+];
+
 #[test]
-fn takes_128_sections(rt: HostRuntime) -> Result<(), Fail> {
-    let most = headings(rt.alloc(), 128)?;
-    let more = headings(rt.alloc(), 129)?;
-    assert!(rt; fault(rt.alloc(), most.as_slice())? == Some((1, ConfigCause::Missing(Key::Mode))));
-    assert!(rt; fault(rt.alloc(), more.as_slice())? == Some((129, ConfigCause::TooMany)));
+fn tells_the_first_fault(rt: HostRuntime) -> Result<(), Fail> {
+    for (index, (text, want)) in FAULTS.iter().enumerate() {
+        assert!(rt; fault(rt.alloc(), text)? == *want, "case {index}");
+    }
+    for (index, (runs, want)) in LONG.iter().enumerate() {
+        let text = bytes_of(rt.alloc(), runs)?;
+        assert!(rt;
+            fault(rt.alloc(), text.as_slice())? == *want,
+            "long {index}"
+        );
+    }
+    for (count, want) in &MANY {
+        let text = headings(rt.alloc(), *count)?;
+        assert!(rt;
+            fault(rt.alloc(), text.as_slice())? == Some(*want),
+            "{count} sections"
+        );
+    }
     Ok(())
 }

@@ -2,7 +2,8 @@
 
 use std::test::Fail;
 use ubi_config::{ConfigCause, parse_config};
-use ubi_media::{Geometry, RecFault};
+use ubi_media::RecFault;
+use ubi_probe::pebs::small;
 
 /// The lines of a section, the bytes of its image file, and how many eraseblocks of 384 bytes the volume reserves, or
 /// why it has no record.
@@ -49,15 +50,18 @@ static RECORDS: [(&[u8], Option<u64>, Result<u32, ConfigCause>); 15] = [
 
 #[test]
 fn gives_records(rt: HostRuntime) -> Result<(), Fail> {
-    let geometry = Geometry::new(512, 64, 64, 128, 32)?;
+    let geometry = small()?;
     for (index, (lines, image_len, want)) in RECORDS.iter().enumerate() {
         let mut text = Vec::from_slice(rt.alloc(), b"[v]\nmode=ubi\nvol_id=1\nvol_name=v\n")?;
         text.extend_from_slice(lines)?;
-        let sections = parse_config(rt.alloc(), text.as_slice()).map_err(|_| "not read")?;
+        let Ok(sections) = parse_config(rt.alloc(), text.as_slice()) else {
+            return Err("not read".into());
+        };
         assert_eq!(rt; sections.len(), 1);
-        let reserved = sections[0]
-            .record(&geometry, *image_len)
-            .map(|record| record.reserved);
+        let reserved = match sections[0].record(&geometry, *image_len) {
+            Ok(record) => Ok(record.reserved),
+            Err(cause) => Err(cause),
+        };
         assert!(rt; reserved == *want, "case {index}");
     }
     Ok(())

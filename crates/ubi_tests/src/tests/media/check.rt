@@ -2,25 +2,22 @@
 
 use ubi_media::{crc, crc_more};
 
-#[test]
-fn checks_messages(rt: HostRuntime) {
-    // The usual CRC-32 of each message is the complement, as cbf43926 of the nine digits.
-    let vectors: [(&[u8], u32); 7] = [
-        (b"", 0xFFFF_FFFF),
-        (b"123456789", 0x340B_C6D9),
-        (&[0xFF; 1], 0x00FF_FFFF),
-        (&[0xFF; 4], 0),
-        (&[0xFF; 5], 0x2D02_EF8D),
-        (&[0xBE, 0xF9, 0x8E, 0x24, 0xFE], 0x2D02_EF8D),
-        (&[0; 168], 0xF116_C36B),
-    ];
-    for (message, check) in vectors {
-        assert!(rt; crc(message) == check, "of {message:?}");
-    }
-}
+/// Messages, and their checks. The usual CRC-32 of each is the complement, as cbf43926 of the nine digits.
+static VECTORS: [(&[u8], u32); 7] = [
+    (b"", 0xFFFF_FFFF),
+    (b"123456789", 0x340B_C6D9),
+    (&[0xFF; 1], 0x00FF_FFFF),
+    (&[0xFF; 4], 0),
+    (&[0xFF; 5], 0x2D02_EF8D),
+    (&[0xBE, 0xF9, 0x8E, 0x24, 0xFE], 0x2D02_EF8D),
+    (&[0; 168], 0xF116_C36B),
+];
 
 #[test]
-fn goes_on_from_a_state(rt: HostRuntime) {
+fn checks_messages_and_goes_on_from_a_state(rt: HostRuntime) {
+    for (message, check) in &VECTORS {
+        assert!(rt; crc(message) == *check, "of {message:?}");
+    }
     assert!(rt; crc_more(crc(b"12345"), b"6789") == 0x340B_C6D9);
     assert!(rt; crc_more(0x1234_5678, b"") == 0x1234_5678);
 }
@@ -79,12 +76,17 @@ fn bitwise(state: u32, message: &[u8]) -> u32 {
     register
 }
 
-/// Whether the check of a part is the one bit by bit, from a state.
-fn is_bitwise(bytes: &[u8], at: usize, len: usize, state: u32) -> bool {
-    match bytes.get(at..at.saturating_add(len)) {
-        Some(part) => crc_more(state, part) == bitwise(state, part),
-        None => false,
+/// Whether the check of a part is the one bit by bit, from the start and from another state.
+fn is_bitwise(bytes: &[u8], at: usize, len: usize) -> bool {
+    let mut is = true;
+    for state in [0xFFFF_FFFF, 0x8765_4321] {
+        is = is
+            && match bytes.get(at..at.saturating_add(len)) {
+                Some(part) => crc_more(state, part) == bitwise(state, part),
+                None => false,
+            };
     }
+    is
 }
 
 #[test]
@@ -92,13 +94,6 @@ fn checks_pieces_as_bits(rt: HostRuntime) {
     let mut bytes = [0; 49_200];
     fill(&mut bytes);
     for (at, len) in PARTS {
-        assert!(rt;
-            is_bitwise(&bytes, at, len, 0xFFFF_FFFF),
-            "{len} bytes at {at} from the start"
-        );
-        assert!(rt;
-            is_bitwise(&bytes, at, len, 0x8765_4321),
-            "{len} bytes at {at} from another state"
-        );
+        assert!(rt; is_bitwise(&bytes, at, len), "{len} bytes at {at}");
     }
 }

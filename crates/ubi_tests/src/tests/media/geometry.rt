@@ -24,7 +24,7 @@ static REFUSED: [((u32, u32, u32, u32, u32), GeometryError); 16] = [
 ];
 
 #[test]
-fn keeps_limits(rt: HostRuntime) {
+fn keeps_limits_and_gives_its_numbers(rt: HostRuntime) -> Result<(), Fail> {
     for (index, ((peb_size, page, vid_offset, data_offset, pebs), limit)) in REFUSED
         .iter()
         .enumerate()
@@ -32,10 +32,6 @@ fn keeps_limits(rt: HostRuntime) {
         let made = Geometry::new(*peb_size, *page, *vid_offset, *data_offset, *pebs);
         assert!(rt; made == Err(*limit), "case {index}");
     }
-}
-
-#[test]
-fn gives_its_numbers(rt: HostRuntime) -> Result<(), Fail> {
     let small = Geometry::new(512, 64, 64, 128, 32)?;
     assert!(rt; (small.peb_size(), small.page()) == (512, 64));
     assert!(rt; (small.vid_offset(), small.data_offset()) == (64, 128));

@@ -2,22 +2,26 @@
 
 use ubi_media::VolName;
 
-#[test]
-fn takes_names(rt: HostRuntime) {
-    let names: [&[u8]; 4] = [b"a", b"root", b"\xff \x01", &[b'a'; 127]];
-    for name in names {
-        let taken = VolName::new(name);
-        assert!(rt;
-            taken.as_ref().map(VolName::as_bytes) == Some(name),
-            "of {name:?}"
-        );
-    }
-}
+/// Bytes, and whether they are a name.
+static NAMES: [(&[u8], bool); 9] = [
+    (b"a", true),
+    (b"root", true),
+    (b"\xff \x01", true),
+    (&[b'a'; 127], true),
+    (b"", false),
+    (b"\0", false),
+    (b"\0root", false),
+    (b"root\0", false),
+    (&[b'a'; 128], false),
+];
 
 #[test]
-fn refuses_what_is_no_name(rt: HostRuntime) {
-    let others: [&[u8]; 5] = [b"", b"\0", b"\0root", b"root\0", &[b'a'; 128]];
-    for other in others {
-        assert!(rt; VolName::new(other).is_none(), "of {other:?}");
+fn takes_names_alone(rt: HostRuntime) {
+    for (bytes, is_name) in &NAMES {
+        let is = match VolName::new(bytes) {
+            Some(name) => *is_name && name.as_bytes() == *bytes,
+            None => !is_name,
+        };
+        assert!(rt; is, "of {bytes:?}");
     }
 }

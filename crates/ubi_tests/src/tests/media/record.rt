@@ -2,8 +2,9 @@
 
 use std::test::Fail;
 use ubi_media::{
-    Geometry, RecFault, RecRead, VolKind, VolName, VolumeRecord, read_rec, rec_fault, write_rec,
+    RecFault, RecRead, VolKind, VolName, VolumeRecord, read_rec, rec_fault, write_rec,
 };
+use ubi_probe::pebs::small;
 use ubi_probe::records::{ALIGNMENT_0, ALIGNMENT_256, BEHIND, EMPTY, KIND_3, ROOT, Slot};
 
 /// What the fields of a record say of a volume.
@@ -81,16 +82,6 @@ static VALID: [(&str, Slot, Said); 5] = [
         },
     ),
 ];
-
-#[test]
-fn reads_records(rt: HostRuntime) -> Result<(), Fail> {
-    let geometry = Geometry::new(512, 64, 64, 128, 32)?;
-    for (what, record, said) in &VALID {
-        let read = read_rec(&geometry, &record.bytes());
-        assert!(rt; read == RecRead::Valid(said.volume()?), "{what}");
-    }
-    Ok(())
-}
 
 /// Records, and the first rule that each breaks.
 static AT_FAULT: [(&str, Slot, RecFault); 13] = [
@@ -200,24 +191,17 @@ static AT_FAULT: [(&str, Slot, RecFault); 13] = [
 ];
 
 #[test]
-fn finds_faults_of_bytes(rt: HostRuntime) -> Result<(), Fail> {
-    let geometry = Geometry::new(512, 64, 64, 128, 32)?;
+fn reads_records_or_finds_their_faults(rt: HostRuntime) -> Result<(), Fail> {
+    let geometry = small()?;
+    for (what, record, said) in &VALID {
+        let read = read_rec(&geometry, &record.bytes());
+        assert!(rt; read == RecRead::Valid(said.volume()?), "{what}");
+    }
     for (what, record, fault) in &AT_FAULT {
         let read = read_rec(&geometry, &record.bytes());
         assert!(rt; read == RecRead::Fault(*fault), "{what}");
     }
     assert!(rt; read_rec(&geometry, &[0; 172]) == RecRead::BadCrc);
-    Ok(())
-}
-
-#[test]
-fn writes_records(rt: HostRuntime) -> Result<(), Fail> {
-    let geometry = Geometry::new(512, 64, 64, 128, 32)?;
-    let root = SAID.volume()?;
-    assert!(rt; rec_fault(&geometry, &root).is_none());
-    assert!(rt; write_rec(&geometry, Some(&root)) == ROOT.bytes());
-    assert!(rt; write_rec(&geometry, None) == EMPTY.bytes());
-    assert!(rt; read_rec(&geometry, &EMPTY.bytes()) == RecRead::Empty);
     Ok(())
 }
 
@@ -231,9 +215,13 @@ static FAULTS: [(u32, u32, RecFault); 5] = [
 ];
 
 #[test]
-fn finds_faults_of_records(rt: HostRuntime) -> Result<(), Fail> {
-    let geometry = Geometry::new(512, 64, 64, 128, 32)?;
+fn writes_records_and_finds_their_faults(rt: HostRuntime) -> Result<(), Fail> {
+    let geometry = small()?;
     let root = SAID.volume()?;
+    assert!(rt; rec_fault(&geometry, &root).is_none());
+    assert!(rt; write_rec(&geometry, Some(&root)) == ROOT.bytes());
+    assert!(rt; write_rec(&geometry, None) == EMPTY.bytes());
+    assert!(rt; read_rec(&geometry, &EMPTY.bytes()) == RecRead::Empty);
     for (reserved, alignment, fault) in &FAULTS {
         let volume = VolumeRecord {
             reserved: *reserved,

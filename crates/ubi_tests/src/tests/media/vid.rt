@@ -1,8 +1,9 @@
 //! Bytes and readings of volume-identifier headers.
 
 use std::test::Fail;
-use ubi_media::{Geometry, VidFault, VidHeader, VidRead, VolKind, read_vid, write_vid};
+use ubi_media::{VidFault, VidHeader, VidRead, VolKind, read_vid, write_vid};
 use ubi_probe::headers::PLAIN;
+use ubi_probe::pebs::small;
 use ubi_probe::sealed::SealedVid;
 
 /// The last logical eraseblock of a static volume of two, one byte short of full.
@@ -60,13 +61,6 @@ static WRITTEN: [(&str, VidHeader, [u8; 64]); 3] = [
         \0\0\0\0\0\0\0\x07\0\0\0\0\0\0\0\0\0\0\0\0\x6d\xf6\x44\x4d",
     ),
 ];
-
-#[test]
-fn writes_headers(rt: HostRuntime) {
-    for (what, header, bytes) in &WRITTEN {
-        assert!(rt; write_vid(header) == *bytes, "{what}");
-    }
-}
 
 /// Headers, with a byte that stands over one of theirs, by its place, and what they are read as. The checks were worked out by
 /// another program.
@@ -265,8 +259,11 @@ static READ: [(&str, SealedVid, Option<(usize, u8)>, VidRead); 19] = [
 ];
 
 #[test]
-fn reads_headers(rt: HostRuntime) -> Result<(), Fail> {
-    let geometry = Geometry::new(512, 64, 64, 128, 32)?;
+fn writes_and_reads_headers(rt: HostRuntime) -> Result<(), Fail> {
+    let geometry = small()?;
+    for (what, header, bytes) in &WRITTEN {
+        assert!(rt; write_vid(header) == *bytes, "{what}");
+    }
     for (what, header, over, read) in &READ {
         let mut bytes = header.bytes();
         if let Some((place, byte)) = over {

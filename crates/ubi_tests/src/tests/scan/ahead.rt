@@ -50,126 +50,96 @@ struct Way {
     asked: usize,
 }
 
+/// The first headers of 2048 eraseblocks of 512 bytes.
+const EACH_512: Way = Way {
+    first: 0,
+    step: 512,
+    is_back: false,
+    bits: u64::MAX,
+    len: 64,
+    count: 2048,
+    reads: 64,
+    asked: 1 << 20,
+};
+
 /// Small reads that follow each other by less than 4096 bytes are answered from 16 KiB that are read at once; all others are
 /// read alone.
 static WAYS: [Way; 11] = [
-    // The first headers of 2048 eraseblocks of 512 bytes, and each eraseblock's two.
+    // The first headers, and each eraseblock's two.
+    EACH_512,
     Way {
-        first: 0,
-        step: 512,
-        is_back: false,
-        bits: u64::MAX,
-        len: 64,
-        count: 2048,
-        reads: 64,
-        asked: 1 << 20,
-    },
-    Way {
-        first: 0,
         step: 64,
-        is_back: false,
-        bits: u64::MAX,
-        len: 64,
         count: 16_384,
-        reads: 64,
-        asked: 1 << 20,
+        ..EACH_512
     },
     // Of eraseblocks of 4 KiB.
     Way {
-        first: 0,
         step: 4096,
-        is_back: false,
-        bits: u64::MAX,
-        len: 64,
         count: 256,
-        reads: 64,
-        asked: 1 << 20,
+        ..EACH_512
     },
     // Of 8 KiB: only the first lies close to the place where nothing was read yet.
     Way {
-        first: 0,
         step: 8192,
-        is_back: false,
-        bits: u64::MAX,
-        len: 64,
         count: 128,
         reads: 128,
         asked: 16_384 + 127 * 64,
+        ..EACH_512
     },
     // The gap is 4095 bytes, and 4096.
     Way {
-        first: 0,
         step: 4159,
-        is_back: false,
-        bits: u64::MAX,
-        len: 64,
         count: 4,
         reads: 1,
         asked: 16_384,
+        ..EACH_512
     },
     Way {
-        first: 0,
         step: 4160,
-        is_back: false,
-        bits: u64::MAX,
-        len: 64,
         count: 4,
         reads: 4,
         asked: 16_384 + 3 * 64,
+        ..EACH_512
     },
     // Reads of 4096 bytes are small, and longer ones aren't.
     Way {
-        first: 0,
         step: 4096,
-        is_back: false,
-        bits: u64::MAX,
         len: 4096,
         count: 256,
-        reads: 64,
-        asked: 1 << 20,
+        ..EACH_512
     },
     Way {
-        first: 0,
         step: 4097,
-        is_back: false,
-        bits: u64::MAX,
         len: 4097,
         count: 255,
         reads: 255,
         asked: 255 * 4097,
+        ..EACH_512
     },
     // Backward.
     Way {
         first: SIZE - 512,
-        step: 512,
         is_back: true,
-        bits: u64::MAX,
-        len: 64,
-        count: 2048,
         reads: 2048,
         asked: 2048 * 64,
+        ..EACH_512
     },
     // One place, which is answered once from what was read ahead.
     Way {
-        first: 0,
         step: 0,
-        is_back: false,
-        bits: u64::MAX,
-        len: 64,
         count: 10,
         reads: 10,
         asked: 16_384 + 9 * 64,
+        ..EACH_512
     },
     // To and fro: neither place is answered twice so.
     Way {
-        first: 0,
         step: 1000,
-        is_back: false,
         bits: 1,
-        len: 64,
         count: 4,
         reads: 3,
         asked: 16_384 + 2 * 64,
+        ..EACH_512
     },
 ];
 

@@ -1,10 +1,9 @@
 //! Images cut into eraseblocks.
 
-use super::images::{geometry, image};
-use super::pebs::{COPIED_3, ERASED, TORN};
 use std::test::Fail;
 use ubi_media::{EcHeader, EcRead, Refusal, VidRead};
-use ubi_probe::headers::COPY;
+use ubi_probe::headers::{CHECK_OF_37, COPY};
+use ubi_probe::pebs::{Data, ERASED, Ec, Peb, TORN, Vid, small, small_image};
 use ubi_scan::Blocks;
 
 /// How many bytes there are, and for what cause they are no image, if they aren't.
@@ -23,11 +22,18 @@ fn refuses_what_is_no_image(rt: HostRuntime) -> Result<(), Fail> {
     let bytes = [0xFF; 33 * 512];
     for (len, cause) in &LENGTHS {
         let bytes = bytes.get(..*len).ok_or("too short")?;
-        let refused = Blocks::new(&geometry()?, bytes).err();
+        let refused = Blocks::new(&small()?, bytes).err();
         assert!(rt; refused == *cause, "of {len} bytes");
     }
     Ok(())
 }
+
+/// An eraseblock that holds a copy, with counter 3 in the image 4.
+const COPIED_3: Peb = Peb(
+    Ec::Of(3, 4),
+    Vid::Copy(0, 64, CHECK_OF_37, 7),
+    Data::Fill(b'7', 384),
+);
 
 /// What the headers of an eraseblock are.
 static HEADERS: [(u32, EcRead, VidRead); 3] = [
@@ -44,21 +50,14 @@ static HEADERS: [(u32, EcRead, VidRead); 3] = [
 ];
 
 #[test]
-fn lends_the_parts_of_an_eraseblock(rt: HostRuntime) -> Result<(), Fail> {
-    let bytes = image(rt.alloc(), &[ERASED, COPIED_3, TORN])?;
-    let blocks = Blocks::new(&geometry()?, bytes.as_slice())?;
+fn lends_the_parts_of_eraseblocks_and_reads_their_headers(rt: HostRuntime) -> Result<(), Fail> {
+    let bytes = small_image(rt.alloc(), &[ERASED, COPIED_3, TORN])?;
+    let blocks = Blocks::new(&small()?, bytes.as_slice())?;
     assert!(rt; blocks.count() == 3);
-    assert!(rt; blocks.geometry() == geometry()?);
+    assert!(rt; blocks.geometry() == small()?);
     assert!(rt; blocks.bytes() == bytes.as_slice());
     assert!(rt; Some(blocks.block(1)) == bytes.as_slice().get(512..1024));
     assert!(rt; blocks.leb(1) == [0x37; 384].as_slice());
-    Ok(())
-}
-
-#[test]
-fn reads_the_headers_of_an_eraseblock(rt: HostRuntime) -> Result<(), Fail> {
-    let bytes = image(rt.alloc(), &[ERASED, COPIED_3, TORN])?;
-    let blocks = Blocks::new(&geometry()?, bytes.as_slice())?;
     for (p, ec, vid) in &HEADERS {
         assert!(rt; *p < blocks.count());
         assert!(rt;

@@ -1,15 +1,32 @@
-//! Which member wins a logical eraseblock.
+//! What a scan says of eraseblocks, and which member wins a logical eraseblock.
 
 use super::images::Said::{Beaten, Blank, Dropped, Winner};
-use super::images::{Case, Said, assert_found, found, holds, image};
-use super::pebs::{
-    DROPPED_0, ERASED, ERASED_1, FIFTH_OF_1, FIRST_OF_2, LEB_0, LEB_1, LEB_2, NINTH_OF_0, OLD, Peb,
-    RIGHT, SECOND_OF_1, TABLE_0, TABLE_1, TORN_1, WRONG_4, WRONG_6, WRONG_9,
-};
+use super::images::{Case, OLD, RIGHT, Said, WRONG_4, WRONG_6, WRONG_9, found, holds};
 use std::alloc::Global;
 use std::test::Fail;
-use ubi_media::LAYOUT_VOLUME;
+use ubi_media::{LAYOUT_VOLUME, VidHeader};
+use ubi_probe::headers;
+use ubi_probe::pebs::{ERASED, Ec, NAMED, NEW, NO_DATA, Peb, TORN, Vid};
 use ubi_scan::Scan;
+
+/// The two copies of a volume table, and logical eraseblocks 0 to 2 of volume 0.
+const TABLE_0: Peb = Peb(NAMED, Vid::Table(0, 0), NO_DATA);
+
+const TABLE_1: Peb = Peb(NAMED, Vid::Table(1, 0), NO_DATA);
+
+const LEB_0: Peb = Peb(NAMED, Vid::Leb(0, 0, 0), NO_DATA);
+
+const LEB_1: Peb = Peb(NAMED, Vid::Leb(0, 1, 0), NO_DATA);
+
+const LEB_2: Peb = Peb(NAMED, Vid::Leb(0, 2, 0), NO_DATA);
+
+/// Logical eraseblock 1 without its counter, and once it is erased.
+const TORN_1: Peb = Peb(Ec::Corrupt, Vid::Leb(0, 1, 0), NO_DATA);
+
+const ERASED_1: Peb = Peb(Ec::Blank, Vid::Leb(0, 1, 0), NO_DATA);
+
+/// One of an internal volume.
+const DROPPED_0: Peb = Peb(NAMED, Vid::Internal(1, 0), NO_DATA);
 
 static SMALL: [Case; 5] = [
     Case {
@@ -59,9 +76,81 @@ static SMALL: [Case; 5] = [
     },
 ];
 
+/// An eraseblock of each state, and of some states that come in two ways two.
+const EACH: [Peb; 10] = [
+    ERASED,
+    Peb(Ec::Of(7, 0), Vid::Blank, NO_DATA),
+    Peb(Ec::Of(7, 0), Vid::Corrupt, NO_DATA),
+    Peb(Ec::Corrupt, Vid::Blank, NO_DATA),
+    TORN,
+    Peb(NEW, Vid::Internal(1, 12), NO_DATA),
+    Peb(Ec::Blank, Vid::Internal(1, 12), NO_DATA),
+    Peb(NEW, Vid::Of(TABLE_OF_1), NO_DATA),
+    Peb(NEW, Vid::Leb(0, 0, 4), NO_DATA),
+    Peb(NEW, Vid::Leb(0, 0, 8), NO_DATA),
+];
+
+/// The header of a copy of the table with compatibility 1.
+const TABLE_OF_1: VidHeader = VidHeader {
+    compat: 1,
+    sqnum: 3,
+    ..headers::TABLE_0
+};
+
+/// An eraseblock whose numbers are the largest that there are, and one with these numbers that holds nothing.
+const LARGEST: Peb = Peb(
+    Ec::Of(0x7FFF_FFFF, u32::MAX),
+    Vid::Leb(0, 0, u64::MAX),
+    NO_DATA,
+);
+
+const LARGEST_FREE: Peb = Peb(Ec::Of(0x7FFF_FFFF, u32::MAX), Vid::Blank, NO_DATA);
+
+/// What each of them is.
+const EACH_SAID: [Said; 10] = [
+    Said::Blank,
+    Said::Free,
+    Said::Garbage,
+    Said::Corrupt,
+    Said::Corrupt,
+    Said::Dropped,
+    Said::Blank,
+    Said::Winner,
+    Said::Beaten,
+    Said::Winner,
+];
+
+/// What a scan says of eraseblocks, and the numbers that it gives.
+static STATES: [Case; 3] = [
+    Case {
+        what: "eraseblocks of each state, two of six that can be read with counter 7",
+        pebs: &EACH,
+        states: &EACH_SAID,
+        winners: &[(0x7FFF_EFFF, 0, Some(7)), (0x7FFF_F000, 0, None)],
+        numbers: (12, 0, 2),
+    },
+    Case {
+        what: "the largest numbers",
+        pebs: &[ERASED, LARGEST, LARGEST_FREE, LARGEST_FREE],
+        states: &[Said::Blank, Said::Winner, Said::Free, Said::Free],
+        winners: &[(0, 0, Some(1))],
+        numbers: (u64::MAX, 0xFFFF_FFFF, 0x7FFF_FFFF),
+    },
+    Case {
+        what: "no numbers",
+        pebs: &[ERASED],
+        states: &[Said::Blank],
+        winners: &[(0, 0, None)],
+        numbers: (0, 0, 0),
+    },
+];
+
 #[test]
-fn finds_the_winners_of_a_small_image(rt: HostRuntime) -> Result<(), Fail> {
-    assert_found(&rt, rt.alloc(), &SMALL)
+fn says_what_eraseblocks_are_and_which_wins(rt: HostRuntime) -> Result<(), Fail> {
+    for case in SMALL.iter().chain(&STATES) {
+        assert!(rt; holds(rt.alloc(), case)?, "{}", case.what);
+    }
+    Ok(())
 }
 
 /// Members of logical eraseblock 0, the state of each, which of them wins, and the greatest sequence number.
@@ -130,6 +219,15 @@ fn has_next(found: &Scan, want: &[Next]) -> bool {
     has
 }
 
+/// Logical eraseblocks 5 and 2 of volume 1, 9 of volume 0, and 0 of volume 2.
+static VOLUMES: [Peb; 5] = [
+    Peb(NEW, Vid::Leb(1, 5, 0), NO_DATA),
+    Peb(NEW, Vid::Leb(1, 2, 0), NO_DATA),
+    Peb(NEW, Vid::Leb(0, 9, 0), NO_DATA),
+    Peb(NEW, Vid::Leb(2, 0, 0), NO_DATA),
+    ERASED,
+];
+
 static NEXT: [Next; 8] = [
     (1, 0, Some((2, 1))),
     (1, 2, Some((2, 1))),
@@ -144,10 +242,7 @@ static NEXT: [Next; 8] = [
 #[test]
 fn finds_the_next_winner_of_a_volume(rt: HostRuntime) -> Result<(), Fail> {
     let alloc = rt.alloc();
-    let volumes = found(
-        alloc,
-        &[FIFTH_OF_1, SECOND_OF_1, NINTH_OF_0, FIRST_OF_2, ERASED],
-    )?;
+    let volumes = found(alloc, &VOLUMES)?;
     assert!(rt; has_next(&volumes, &NEXT));
     let torn = found(alloc, &[TABLE_0, TABLE_1, LEB_0, TORN_1, LEB_2])?;
     assert!(rt; has_next(&torn, &[(0, 1, Some((1, 3)))]));

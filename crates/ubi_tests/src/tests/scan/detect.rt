@@ -1,28 +1,65 @@
 //! Geometries that are detected, and why none is.
 
-use super::dumps::{Dump, What, bytes_of, header, put, table_vid};
+use super::dumps::{Row, What, bytes_of, header, put, table_vid};
 use std::alloc::Global;
 use std::test::Fail;
 use ubi_media::{EcOffsets, Geometry};
 use ubi_probe::ProbeSource;
 use ubi_scan::{DetectError, Detected, MemorySource, Undetected, detect_from};
 
-/// What is told of a file.
-#[derive(Drop)]
-struct Told {
+/// The image that is told of a file.
+#[derive(Clone, Copy)]
+struct Image {
     /// The bytes of an eraseblock, without out-of-band bytes.
     peb: u32,
     /// Where its volume-identifier header and its data stand.
     offsets: (u32, u32),
+    /// The pages that its headers fit.
     pages: &'static [u32],
     /// The out-of-band bytes of a page.
     oob: u32,
-    /// Where the image begins, and how many bytes it has.
+    /// Where it begins, and how many bytes it has.
     part: (u64, u64),
 }
 
-/// Whether a geometry is told, for a device of any number of eraseblocks.
-fn is_told(found: &Detected, want: &Told, page: u32) -> bool {
+/// What is told of a file.
+#[derive(Clone, Copy)]
+enum Told {
+    /// An image of eraseblocks of 1,024 bytes, whose headers fit pages of 64 and of 128 bytes: where it begins, and how many bytes
+    /// it has.
+    Small(u64, u64),
+    /// Another image.
+    Image(Image),
+    /// None, and why.
+    Nothing(Undetected),
+}
+
+impl Told {
+    /// The image.
+    fn image(&self) -> Option<Image> {
+        match *self {
+            Told::Small(start, length) => Some(Image {
+                peb: 1024,
+                offsets: (64, 128),
+                pages: &[64, 128],
+                oob: 0,
+                part: (start, length),
+            }),
+            Told::Image(image) => Some(image),
+            Told::Nothing(_) => None,
+        }
+    }
+}
+
+/// A file of so many bytes with these rows, and what is told of it.
+struct Case {
+    len: usize,
+    rows: &'static [Row],
+    told: Told,
+}
+
+/// Whether a geometry is that of an image with pages of a size, for a device of any number of eraseblocks.
+fn is_image(found: &Detected, want: &Image, page: u32) -> bool {
     let geometry = &found.geometry;
     geometry.peb_size() == want.peb
         && geometry.page() == page
@@ -32,585 +69,408 @@ fn is_told(found: &Detected, want: &Told, page: u32) -> bool {
         && (found.start, found.length) == want.part
 }
 
-/// Whether one is told for each page, in their order, and no other.
-fn are_told(found: &[Detected], want: &Told) -> bool {
-    let mut are = found.len() == want.pages.len();
-    for (detected, page) in found.iter().zip(want.pages) {
-        are = are && is_told(detected, want, *page);
-    }
-    are
-}
-
-/// Whether this is detected of a file.
-fn detects(alloc: Global, dump: &Dump<'_>, want: &Told) -> Result<bool, Fail> {
-    let bytes = bytes_of(alloc, dump)?;
+/// Whether just this is told of a file: of an image a geometry for each page, in their order.
+fn is_told(alloc: Global, case: &Case) -> Result<bool, Fail> {
+    let Case { len, rows, told } = case;
+    let bytes = bytes_of(alloc, *len, rows)?;
     let mut source = MemorySource::new(bytes.as_slice());
-    Ok(match detect_from(alloc, &mut source) {
-        Ok(found) => are_told(found.as_slice(), want),
-        Err(_) => false,
-    })
-}
-
-/// Why of a file nothing is detected, if nothing is.
-fn cause_of(alloc: Global, dump: &Dump<'_>) -> Result<Option<DetectError>, Fail> {
-    let bytes = bytes_of(alloc, dump)?;
-    let mut source = MemorySource::new(bytes.as_slice());
-    Ok(detect_from(alloc, &mut source).err())
-}
-
-/// What is told of eraseblocks of 1,024 bytes that lie in a part of a file. Their headers fit pages of 64 and of 128 bytes.
-fn small(part: (u64, u64)) -> Told {
-    Told {
-        peb: 1024,
-        offsets: (64, 128),
-        pages: &[64, 128],
-        oob: 0,
-        part,
+    match (detect_from(alloc, &mut source), told, told.image()) {
+        (Ok(found), _, Some(image)) => {
+            let mut is = found.len() == image.pages.len();
+            for (detected, page) in found.iter().zip(image.pages) {
+                is = is && is_image(detected, &image, *page);
+            }
+            Ok(is)
+        }
+        (Err(error), Told::Nothing(cause), _) => Ok(error == DetectError::Undetected(*cause)),
+        _ => Ok(false),
     }
 }
 
-/// Files that are an image of eraseblocks of 1,024 bytes, or hold one, and where it begins, and how many bytes it has. The last record
-/// of the table stands at 816.
-static SMALL: [(Dump<'static>, (u64, u64)); 12] = [
+/// Files that are an image of eraseblocks of 1,024 bytes, or hold one. The last record of the table stands at 816.
+static SMALL: [Case; 12] = [
     // Each eraseblock has a header, and the first two hold the volume table.
-    (
-        Dump {
-            len: 4096,
-            fill: 0xFF,
-            rows: &[
-                (0, 1024, 4, What::Header(64, 128)),
-                (64, 1, 1, What::Table(0)),
-                (1024 + 64, 1, 1, What::Table(1)),
-                (128, 1024, 2, What::Fill(0, 860)),
-            ],
-        },
-        (0, 4096),
-    ),
+    Case {
+        len: 4096,
+        rows: &[
+            (0, 1024, 4, What::Header(64, 128)),
+            (0, 1024, 2, What::Copies(64, 128, 860)),
+        ],
+        told: Told::Small(0, 4096),
+    },
     // The first eraseblock is blank; the second, behind the last one of the table.
-    (
-        Dump {
-            len: 4096,
-            fill: 0xFF,
-            rows: &[
-                (1024, 1024, 3, What::Header(64, 128)),
-                (1024 + 64, 1, 1, What::Table(1)),
-                (2048 + 64, 1, 1, What::Table(0)),
-                (1024 + 128, 1024, 2, What::Fill(0, 860)),
-            ],
-        },
-        (0, 4096),
-    ),
+    Case {
+        len: 4096,
+        rows: &[
+            (1024, 1024, 3, What::Header(64, 128)),
+            (1024 + 64, 1, 1, What::Table(1)),
+            (2048 + 64, 1, 1, What::Table(0)),
+            (1024 + 128, 1024, 2, What::Fill(0, 860)),
+        ],
+        told: Told::Small(0, 4096),
+    },
     // One in the middle and two at the end are.
-    (
-        Dump {
-            len: 7 * 1024,
-            fill: 0xFF,
-            rows: &[
-                (0, 1024, 2, What::Header(64, 128)),
-                (3 * 1024, 1024, 2, What::Header(64, 128)),
-                (64, 1, 1, What::Table(0)),
-                (1024 + 64, 1, 1, What::Table(1)),
-                (128, 1024, 2, What::Fill(0, 860)),
-            ],
-        },
-        (0, 7 * 1024),
-    ),
+    Case {
+        len: 7 * 1024,
+        rows: &[
+            (0, 1024, 2, What::Header(64, 128)),
+            (3 * 1024, 1024, 2, What::Header(64, 128)),
+            (0, 1024, 2, What::Copies(64, 128, 860)),
+        ],
+        told: Told::Small(0, 7 * 1024),
+    },
     // A bad eraseblock is all zeros. It isn't blank: behind the last header it is no part of the image.
-    (
-        Dump {
-            len: 6 * 1024,
-            fill: 0,
-            rows: &[
-                (0, 1024, 2, What::Header(64, 128)),
-                (3 * 1024, 1024, 2, What::Header(64, 128)),
-                (64, 1, 1, What::Table(0)),
-                (1024 + 64, 1, 1, What::Table(1)),
-                (1024 - 16, 1024, 2, What::Fill(0xFF, 16)),
-            ],
-        },
-        (0, 5 * 1024),
-    ),
+    Case {
+        len: 6 * 1024,
+        rows: &[
+            (0, 1, 1, What::Fill(0, 6 * 1024)),
+            (0, 1024, 2, What::Header(64, 128)),
+            (3 * 1024, 1024, 2, What::Header(64, 128)),
+            (64, 1, 1, What::Table(0)),
+            (1024 + 64, 1, 1, What::Table(1)),
+            (1024 - 16, 1024, 2, What::Fill(0xFF, 16)),
+        ],
+        told: Told::Small(0, 5 * 1024),
+    },
     // Headers of 255 other numbers lie before it, so that there are 256.
-    (
-        Dump {
-            len: 16_384 + 4096,
-            fill: 0xFF,
-            rows: &[
-                (0, 64, 255, What::Counted(64, 128)),
-                (16_384, 1024, 4, What::Header(64, 128)),
-                (16_384 + 64, 1, 1, What::Table(0)),
-                (16_384 + 1024 + 64, 1, 1, What::Table(1)),
-                (16_384 + 128, 1024, 2, What::Fill(0, 860)),
-            ],
-        },
-        (16_384, 4096),
-    ),
+    Case {
+        len: 16_384 + 4096,
+        rows: &[
+            (0, 64, 255, What::Counted(64, 128)),
+            (16_384, 1024, 4, What::Header(64, 128)),
+            (16_384, 1024, 2, What::Copies(64, 128, 860)),
+        ],
+        told: Told::Small(16_384, 4096),
+    },
     // A boot loader lies before it.
-    (
-        Dump {
-            len: 1536 + 4096,
-            fill: 0xFF,
-            rows: &[
-                (0, 1, 1, What::Fill(5, 1536)),
-                (1536, 1024, 4, What::Header(64, 128)),
-                (1536 + 64, 1, 1, What::Table(0)),
-                (2560 + 64, 1, 1, What::Table(1)),
-                (1536 + 128, 1024, 2, What::Fill(0, 860)),
-            ],
-        },
-        (1536, 4096),
-    ),
+    Case {
+        len: 1536 + 4096,
+        rows: &[
+            (0, 1, 1, What::Fill(5, 1536)),
+            (1536, 1024, 4, What::Header(64, 128)),
+            (1536, 1024, 2, What::Copies(64, 128, 860)),
+        ],
+        told: Told::Small(1536, 4096),
+    },
     // Other bytes lie behind it, as many as no eraseblock has.
-    (
-        Dump {
-            len: 4096 + 3000,
-            fill: 0xFF,
-            rows: &[
-                (0, 1024, 4, What::Header(64, 128)),
-                (64, 1, 1, What::Table(0)),
-                (1024 + 64, 1, 1, What::Table(1)),
-                (128, 1024, 2, What::Fill(0, 860)),
-                (4096, 1, 1, What::Fill(5, 3000)),
-            ],
-        },
-        (0, 4096),
-    ),
+    Case {
+        len: 4096 + 3000,
+        rows: &[
+            (0, 1024, 4, What::Header(64, 128)),
+            (0, 1024, 2, What::Copies(64, 128, 860)),
+            (4096, 1, 1, What::Fill(5, 3000)),
+        ],
+        told: Told::Small(0, 4096),
+    },
     // No table, but three headers, and in the first eraseblock data up to beyond its half.
-    (
-        Dump {
-            len: 3 * 1024,
-            fill: 0xFF,
-            rows: &[
-                (0, 1024, 3, What::Header(64, 128)),
-                (64, 1024, 3, What::Vid),
-                (128, 1, 1, What::Fill(1, 472)),
-            ],
-        },
-        (0, 3 * 1024),
-    ),
+    Case {
+        len: 3 * 1024,
+        rows: &[
+            (0, 1024, 3, What::Header(64, 128)),
+            (64, 1024, 3, What::Vid),
+            (128, 1, 1, What::Fill(1, 472)),
+        ],
+        told: Told::Small(0, 3 * 1024),
+    },
     // Some headers name no image sequence number, also the first one.
-    (
-        Dump {
-            len: 4096,
-            fill: 0xFF,
-            rows: &[
-                (0, 2048, 2, What::Numbered(64, 128, 0)),
-                (1024, 2048, 2, What::Header(64, 128)),
-                (64, 1, 1, What::Table(0)),
-                (1024 + 64, 1, 1, What::Table(1)),
-                (128, 1024, 2, What::Fill(0, 860)),
-            ],
-        },
-        (0, 4096),
-    ),
+    Case {
+        len: 4096,
+        rows: &[
+            (0, 2048, 2, What::Numbered(64, 128, 0)),
+            (1024, 2048, 2, What::Header(64, 128)),
+            (0, 1024, 2, What::Copies(64, 128, 860)),
+        ],
+        told: Told::Small(0, 4096),
+    },
     // None names one.
-    (
-        Dump {
-            len: 4096,
-            fill: 0xFF,
-            rows: &[
-                (0, 1024, 4, What::Numbered(64, 128, 0)),
-                (64, 1, 1, What::Table(0)),
-                (1024 + 64, 1, 1, What::Table(1)),
-                (128, 1024, 2, What::Fill(0, 860)),
-            ],
-        },
-        (0, 4096),
-    ),
+    Case {
+        len: 4096,
+        rows: &[
+            (0, 1024, 4, What::Numbered(64, 128, 0)),
+            (0, 1024, 2, What::Copies(64, 128, 860)),
+        ],
+        told: Told::Small(0, 4096),
+    },
     // Of two images that are equally large the first one is told.
-    (
-        Dump {
-            len: 4096,
-            fill: 0xFF,
-            rows: &[
-                (0, 1024, 2, What::Numbered(64, 128, 8)),
-                (2048, 1024, 2, What::Header(64, 128)),
-                (64, 2048, 2, What::Table(0)),
-                (1024 + 64, 2048, 2, What::Table(1)),
-                (128, 1024, 4, What::Fill(0, 860)),
-            ],
-        },
-        (0, 2048),
-    ),
+    Case {
+        len: 4096,
+        rows: &[
+            (0, 1024, 2, What::Numbered(64, 128, 8)),
+            (2048, 1024, 2, What::Header(64, 128)),
+            (0, 1024, 2, What::Copies(64, 128, 860)),
+            (2048, 1024, 2, What::Copies(64, 128, 860)),
+        ],
+        told: Told::Small(0, 2048),
+    },
     // Of others the larger one.
-    (
-        Dump {
-            len: 5 * 1024,
-            fill: 0xFF,
-            rows: &[
-                (0, 1024, 2, What::Numbered(64, 128, 8)),
-                (2048, 1024, 3, What::Header(64, 128)),
-                (64, 2048, 2, What::Table(0)),
-                (1024 + 64, 2048, 2, What::Table(1)),
-                (128, 1024, 4, What::Fill(0, 860)),
-            ],
-        },
-        (2048, 3072),
-    ),
+    Case {
+        len: 5 * 1024,
+        rows: &[
+            (0, 1024, 2, What::Numbered(64, 128, 8)),
+            (2048, 1024, 3, What::Header(64, 128)),
+            (0, 1024, 2, What::Copies(64, 128, 860)),
+            (2048, 1024, 2, What::Copies(64, 128, 860)),
+        ],
+        told: Told::Small(2048, 3072),
+    },
 ];
 
-#[test]
-fn detects_an_image_of_small_eraseblocks(rt: HostRuntime) -> Result<(), Fail> {
-    for (index, (dump, part)) in SMALL.iter().enumerate() {
-        assert!(rt; detects(rt.alloc(), dump, &small(*part))?, "case {index}");
-    }
-    Ok(())
-}
-
 /// Files that are an image of others.
-static OTHERS: [(Dump<'static>, Told); 5] = [
+static OTHERS: [Case; 5] = [
     // The data of the third eraseblock hold an image of smaller ones; and those of the second.
-    (
-        Dump {
-            len: 4 * 16_384,
-            fill: 0xFF,
-            rows: &[
-                (0, 16_384, 4, What::Header(512, 1024)),
-                (512, 1, 1, What::Table(0)),
-                (16_384 + 512, 1, 1, What::Table(1)),
-                (1024, 16_384, 2, What::Fill(0, 15_344)),
-                (2 * 16_384 + 1024, 1024, 15, What::Header(64, 128)),
-            ],
-        },
-        Told {
+    Case {
+        len: 4 * 16_384,
+        rows: &[
+            (0, 16_384, 4, What::Header(512, 1024)),
+            (0, 16_384, 2, What::Copies(512, 1024, 15_344)),
+            (2 * 16_384 + 1024, 1024, 15, What::Header(64, 128)),
+        ],
+        told: Told::Image(Image {
             peb: 16_384,
             offsets: (512, 1024),
             pages: &[512, 1024],
             oob: 0,
             part: (0, 65_536),
-        },
-    ),
-    (
-        Dump {
-            len: 4 * 16_384,
-            fill: 0xFF,
-            rows: &[
-                (0, 16_384, 4, What::Header(512, 1024)),
-                (2 * 16_384 + 512, 1, 1, What::Table(0)),
-                (3 * 16_384 + 512, 1, 1, What::Table(1)),
-                (2 * 16_384 + 1024, 16_384, 2, What::Fill(0, 15_344)),
-                (16_384 + 1024, 1024, 15, What::Header(64, 128)),
-            ],
-        },
-        Told {
+        }),
+    },
+    Case {
+        len: 4 * 16_384,
+        rows: &[
+            (0, 16_384, 4, What::Header(512, 1024)),
+            (2 * 16_384, 16_384, 2, What::Copies(512, 1024, 15_344)),
+            (16_384 + 1024, 1024, 15, What::Header(64, 128)),
+        ],
+        told: Told::Image(Image {
             peb: 16_384,
             offsets: (512, 1024),
             pages: &[512, 1024],
             oob: 0,
             part: (0, 65_536),
-        },
-    ),
+        }),
+    },
     // Pages of 256 bytes with 8 out-of-band bytes: the identifier stands at 264, and the table's last record at 3892.
-    (
-        Dump {
-            len: 4 * 4224,
-            fill: 0xFF,
-            rows: &[
-                (0, 4224, 4, What::Header(256, 512)),
-                (264, 1, 1, What::Table(0)),
-                (4224 + 264, 1, 1, What::Table(1)),
-                (528, 4224, 2, What::Fill(0, 3500)),
-            ],
-        },
-        Told {
+    Case {
+        len: 4 * 4224,
+        rows: &[
+            (0, 4224, 4, What::Header(256, 512)),
+            (0, 4224, 2, What::Copies(264, 528, 3500)),
+        ],
+        told: Told::Image(Image {
             peb: 4096,
             offsets: (256, 512),
             pages: &[256],
             oob: 8,
             part: (0, 16_896),
-        },
-    ),
+        }),
+    },
     // Eraseblocks of 131,072 bytes: the identifier at 2048 fits pages of 2048 and of 4096 bytes, and the table ends at 26,112.
-    (
-        Dump {
-            len: 4 * 131_072,
-            fill: 0xFF,
-            rows: &[
-                (0, 131_072, 4, What::Header(2048, 4096)),
-                (2048, 1, 1, What::Table(0)),
-                (131_072 + 2048, 1, 1, What::Table(1)),
-                (4096, 131_072, 2, What::Fill(0, 22_016)),
-            ],
-        },
-        Told {
+    Case {
+        len: 4 * 131_072,
+        rows: &[
+            (0, 131_072, 4, What::Header(2048, 4096)),
+            (0, 131_072, 2, What::Copies(2048, 4096, 22_016)),
+        ],
+        told: Told::Image(Image {
             peb: 131_072,
             offsets: (2048, 4096),
             pages: &[2048, 4096],
             oob: 0,
             part: (0, 524_288),
-        },
-    ),
+        }),
+    },
     // With 64 out-of-band bytes behind each page of 2048, the identifier stands at 2112, and the table's last record at 26,708. A
     // page of other bytes lies before them.
-    (
-        Dump {
-            len: 2112 + 3 * 135_168,
-            fill: 0xFF,
-            rows: &[
-                (0, 1, 1, What::Fill(5, 2112)),
-                (2112, 135_168, 3, What::Header(2048, 4096)),
-                (2112 + 2112, 1, 1, What::Table(0)),
-                (2112 + 135_168 + 2112, 1, 1, What::Table(1)),
-                (2112 + 4224, 135_168, 2, What::Fill(0, 23_000)),
-            ],
-        },
-        Told {
+    Case {
+        len: 2112 + 3 * 135_168,
+        rows: &[
+            (0, 1, 1, What::Fill(5, 2112)),
+            (2112, 135_168, 3, What::Header(2048, 4096)),
+            (2112, 135_168, 2, What::Copies(2112, 4224, 23_000)),
+        ],
+        told: Told::Image(Image {
             peb: 131_072,
             offsets: (2048, 4096),
             pages: &[2048],
             oob: 64,
             part: (2112, 405_504),
-        },
-    ),
+        }),
+    },
 ];
 
-#[test]
-fn detects_an_image_of_others(rt: HostRuntime) -> Result<(), Fail> {
-    for (index, (dump, told)) in OTHERS.iter().enumerate() {
-        assert!(rt; detects(rt.alloc(), dump, told)?, "case {index}");
-    }
-    Ok(())
-}
-
-/// Files of which nothing is detected, and why.
-static UNDETECTED: [(Dump<'static>, Undetected); 18] = [
-    (
-        Dump {
-            len: 0,
-            fill: 0,
-            rows: &[],
-        },
-        Undetected::NoHeader,
-    ),
-    (
-        Dump {
-            len: 8192,
-            fill: 0xFF,
-            rows: &[],
-        },
-        Undetected::NoHeader,
-    ),
+/// Files of which nothing is detected.
+static UNDETECTED: [Case; 18] = [
+    Case {
+        len: 0,
+        rows: &[],
+        told: Told::Nothing(Undetected::NoHeader),
+    },
+    Case {
+        len: 8192,
+        rows: &[],
+        told: Told::Nothing(Undetected::NoHeader),
+    },
     // It stands beside the multiples of 64, or the file ends in it.
-    (
-        Dump {
-            len: 8192,
-            fill: 0xFF,
-            rows: &[(32, 1, 1, What::Header(64, 128))],
-        },
-        Undetected::NoHeader,
-    ),
-    (
-        Dump {
-            len: 512 + 63,
-            fill: 0xFF,
-            rows: &[(512, 1, 1, What::Header(64, 128))],
-        },
-        Undetected::NoHeader,
-    ),
+    Case {
+        len: 8192,
+        rows: &[(32, 1, 1, What::Header(64, 128))],
+        told: Told::Nothing(Undetected::NoHeader),
+    },
+    Case {
+        len: 512 + 63,
+        rows: &[(512, 1, 1, What::Header(64, 128))],
+        told: Told::Nothing(Undetected::NoHeader),
+    },
     // A single header says no size, also not that of the file.
-    (
-        Dump {
-            len: 131_072,
-            fill: 0xFF,
-            rows: &[(0, 1, 1, What::Header(2048, 4096))],
-        },
-        Undetected::NoSize,
-    ),
+    Case {
+        len: 131_072,
+        rows: &[(0, 1, 1, What::Header(2048, 4096))],
+        told: Told::Nothing(Undetected::NoSize),
+    },
     // Neither do two of other images.
-    (
-        Dump {
-            len: 2048,
-            fill: 0xFF,
-            rows: &[
-                (0, 1, 1, What::Header(64, 128)),
-                (1024, 1, 1, What::Numbered(64, 128, 8)),
-            ],
-        },
-        Undetected::NoSize,
-    ),
-    (
-        Dump {
-            len: 2048,
-            fill: 0xFF,
-            rows: &[
-                (0, 1, 1, What::Header(64, 128)),
-                (1024, 1, 1, What::Header(64, 256)),
-            ],
-        },
-        Undetected::NoSize,
-    ),
+    Case {
+        len: 2048,
+        rows: &[
+            (0, 1, 1, What::Header(64, 128)),
+            (1024, 1, 1, What::Numbered(64, 128, 8)),
+        ],
+        told: Told::Nothing(Undetected::NoSize),
+    },
+    Case {
+        len: 2048,
+        rows: &[
+            (0, 1, 1, What::Header(64, 128)),
+            (1024, 1, 1, What::Header(64, 256)),
+        ],
+        told: Told::Nothing(Undetected::NoSize),
+    },
     // Two headers, and no table.
-    (
-        Dump {
-            len: 2048,
-            fill: 0xFF,
-            rows: &[
-                (0, 1024, 2, What::Header(64, 128)),
-                (64, 1024, 2, What::Vid),
-                (128, 1, 1, What::Fill(1, 472)),
-            ],
-        },
-        Undetected::NoSize,
-    ),
+    Case {
+        len: 2048,
+        rows: &[
+            (0, 1024, 2, What::Header(64, 128)),
+            (64, 1024, 2, What::Vid),
+            (128, 1, 1, What::Fill(1, 472)),
+        ],
+        told: Told::Nothing(Undetected::NoSize),
+    },
     // Three, but nothing where the second half of an eraseblock would begin; or something behind blank bytes.
-    (
-        Dump {
-            len: 3 * 1024,
-            fill: 0xFF,
-            rows: &[
-                (0, 1024, 3, What::Header(64, 128)),
-                (64, 1024, 3, What::Vid),
-                (128, 1, 1, What::Fill(1, 300)),
-            ],
-        },
-        Undetected::NoSize,
-    ),
-    (
-        Dump {
-            len: 3 * 1024,
-            fill: 0xFF,
-            rows: &[
-                (0, 1024, 3, What::Header(64, 128)),
-                (64, 1024, 3, What::Vid),
-                (128, 1, 1, What::Fill(1, 472)),
-                (1024 + 512, 1, 1, What::Fill(1, 64)),
-            ],
-        },
-        Undetected::NoSize,
-    ),
+    Case {
+        len: 3 * 1024,
+        rows: &[
+            (0, 1024, 3, What::Header(64, 128)),
+            (64, 1024, 3, What::Vid),
+            (128, 1, 1, What::Fill(1, 300)),
+        ],
+        told: Told::Nothing(Undetected::NoSize),
+    },
+    Case {
+        len: 3 * 1024,
+        rows: &[
+            (0, 1024, 3, What::Header(64, 128)),
+            (64, 1024, 3, What::Vid),
+            (128, 1, 1, What::Fill(1, 472)),
+            (1024 + 512, 1, 1, What::Fill(1, 64)),
+        ],
+        told: Told::Nothing(Undetected::NoSize),
+    },
     // No eraseblock ends blank.
-    (
-        Dump {
-            len: 4096,
-            fill: 0,
-            rows: &[
-                (0, 1024, 4, What::Header(64, 128)),
-                (64, 1, 1, What::Table(0)),
-                (1024 + 64, 1, 1, What::Table(1)),
-            ],
-        },
-        Undetected::NoSize,
-    ),
+    Case {
+        len: 4096,
+        rows: &[
+            (0, 1, 1, What::Fill(0, 4096)),
+            (0, 1024, 4, What::Header(64, 128)),
+            (64, 1, 1, What::Table(0)),
+            (1024 + 64, 1, 1, What::Table(1)),
+        ],
+        told: Told::Nothing(Undetected::NoSize),
+    },
     // No more than half of the eraseblocks have a header: three of six.
-    (
-        Dump {
-            len: 6 * 1024,
-            fill: 0xFF,
-            rows: &[
-                (0, 1024, 2, What::Header(64, 128)),
-                (5 * 1024, 1, 1, What::Header(64, 128)),
-                (64, 1, 1, What::Table(0)),
-                (1024 + 64, 1, 1, What::Table(1)),
-                (128, 1024, 2, What::Fill(0, 860)),
-            ],
-        },
-        Undetected::NoSize,
-    ),
+    Case {
+        len: 6 * 1024,
+        rows: &[
+            (0, 1024, 2, What::Header(64, 128)),
+            (5 * 1024, 1, 1, What::Header(64, 128)),
+            (0, 1024, 2, What::Copies(64, 128, 860)),
+        ],
+        told: Told::Nothing(Undetected::NoSize),
+    },
     // A header lies off the grid of the others: of all of them the size is 512.
-    (
-        Dump {
-            len: 4096 + 1024,
-            fill: 0xFF,
-            rows: &[
-                (0, 1024, 4, What::Header(64, 128)),
-                (64, 1, 1, What::Table(0)),
-                (1024 + 64, 1, 1, What::Table(1)),
-                (128, 1024, 2, What::Fill(0, 860)),
-                (4096 + 512, 1, 1, What::Header(64, 128)),
-            ],
-        },
-        Undetected::NoSize,
-    ),
+    Case {
+        len: 4096 + 1024,
+        rows: &[
+            (0, 1024, 4, What::Header(64, 128)),
+            (0, 1024, 2, What::Copies(64, 128, 860)),
+            (4096 + 512, 1, 1, What::Header(64, 128)),
+        ],
+        told: Told::Nothing(Undetected::NoSize),
+    },
     // Headers name 257 numbers.
-    (
-        Dump {
-            len: 16_384 + 4096,
-            fill: 0xFF,
-            rows: &[
-                (0, 64, 256, What::Counted(64, 128)),
-                (16_384, 1024, 4, What::Header(64, 128)),
-                (16_384 + 64, 1, 1, What::Table(0)),
-                (16_384 + 1024 + 64, 1, 1, What::Table(1)),
-                (16_384 + 128, 1024, 2, What::Fill(0, 860)),
-            ],
-        },
-        Undetected::NoSize,
-    ),
+    Case {
+        len: 16_384 + 4096,
+        rows: &[
+            (0, 64, 256, What::Counted(64, 128)),
+            (16_384, 1024, 4, What::Header(64, 128)),
+            (16_384, 1024, 2, What::Copies(64, 128, 860)),
+        ],
+        told: Told::Nothing(Undetected::NoSize),
+    },
     // The file is cut off.
-    (
-        Dump {
-            len: 3 * 1024 + 512,
-            fill: 0xFF,
-            rows: &[
-                (0, 1024, 4, What::Header(64, 128)),
-                (64, 1, 1, What::Table(0)),
-                (1024 + 64, 1, 1, What::Table(1)),
-                (128, 1024, 2, What::Fill(0, 860)),
-            ],
-        },
-        Undetected::Length(1024, 512),
-    ),
-    (
-        Dump {
-            len: 4 * 131_072 - 1,
-            fill: 0xFF,
-            rows: &[(0, 131_072, 4, What::Header(2048, 4096))],
-        },
-        Undetected::Length(131_072, 131_071),
-    ),
+    Case {
+        len: 3 * 1024 + 512,
+        rows: &[
+            (0, 1024, 4, What::Header(64, 128)),
+            (0, 1024, 2, What::Copies(64, 128, 860)),
+        ],
+        told: Told::Nothing(Undetected::Length(1024, 512)),
+    },
+    Case {
+        len: 4 * 131_072 - 1,
+        rows: &[(0, 131_072, 4, What::Header(2048, 4096))],
+        told: Told::Nothing(Undetected::Length(131_072, 131_071)),
+    },
     // Pages of 256 bytes with 8 out-of-band bytes, and no identifier. The parts of a half and of a third begin with data.
-    (
-        Dump {
-            len: 4 * 4224,
-            fill: 0xFF,
-            rows: &[
-                (0, 4224, 4, What::Header(256, 512)),
-                (528, 1, 1, What::Fill(1, 2500)),
-            ],
-        },
-        Undetected::OutOfBand(4224),
-    ),
-    (
-        Dump {
-            len: 3 * 6144,
-            fill: 0xFF,
-            rows: &[(0, 6144, 3, What::Header(64, 4096))],
-        },
-        Undetected::Page(
+    Case {
+        len: 4 * 4224,
+        rows: &[
+            (0, 4224, 4, What::Header(256, 512)),
+            (528, 1, 1, What::Fill(1, 2500)),
+        ],
+        told: Told::Nothing(Undetected::OutOfBand(4224)),
+    },
+    Case {
+        len: 3 * 6144,
+        rows: &[(0, 6144, 3, What::Header(64, 4096))],
+        told: Told::Nothing(Undetected::Page(
             6144,
             EcOffsets {
                 vid_offset: 64,
                 data_offset: 4096,
             },
-        ),
-    ),
+        )),
+    },
 ];
 
 #[test]
-fn tells_why_none_is_detected(rt: HostRuntime) -> Result<(), Fail> {
-    for (index, (dump, want)) in UNDETECTED.iter().enumerate() {
-        let cause = cause_of(rt.alloc(), dump)?;
-        assert!(rt;
-            cause == Some(DetectError::Undetected(*want)),
-            "case {index}"
-        );
+fn detects_images_or_tells_why_there_is_none(rt: HostRuntime) -> Result<(), Fail> {
+    for cases in [SMALL.as_slice(), OTHERS.as_slice(), UNDETECTED.as_slice()] {
+        for (index, case) in cases.iter().enumerate() {
+            assert!(rt;
+                is_told(rt.alloc(), case)?,
+                "case {index} of {}",
+                cases.len()
+            );
+        }
     }
     Ok(())
 }
 
 /// Why of eraseblocks of 1,024 bytes none is detected whose read `at` fails, if none is. The first one lies at `first`.
 fn error_of(alloc: Global, first: usize, at: u64) -> Result<Option<DetectError>, Fail> {
-    let dump = Dump {
-        len: 200 * 1024,
-        fill: 0xFF,
-        rows: &[
-            (first, 1024, 150, What::Header(64, 128)),
-            (first.saturating_add(64), 1, 1, What::Table(0)),
-            (first.saturating_add(1024 + 64), 1, 1, What::Table(1)),
-            (first.saturating_add(128), 1024, 2, What::Fill(0, 860)),
-        ],
-    };
-    let bytes = bytes_of(alloc, &dump)?;
+    let rows = [
+        (first, 1024, 150, What::Header(64, 128)),
+        (first, 1024, 2, What::Copies(64, 128, 860)),
+    ];
+    let bytes = bytes_of(alloc, 200 * 1024, &rows)?;
     let geometry = Geometry::new(1024, 64, 64, 128, 256)?;
     let mut source = ProbeSource::new(alloc, &geometry, bytes.as_slice(), at)?;
     Ok(detect_from(alloc, &mut source).err())
@@ -657,12 +517,8 @@ fn tells_the_place_of_the_read_that_failed(rt: HostRuntime) -> Result<(), Fail> 
 /// Of 4 MiB of headers of other numbers the first 64 KiB alone are read: the read behind them, which would fail, isn't tried.
 #[test]
 fn stops_at_too_many_numbers(rt: HostRuntime) -> Result<(), Fail> {
-    let dump = Dump {
-        len: 0x0040_0000,
-        fill: 0xFF,
-        rows: &[(64, 64, 65_535, What::Counted(64, 128))],
-    };
-    let bytes = bytes_of(rt.alloc(), &dump)?;
+    let rows = [(64, 64, 65_535, What::Counted(64, 128))];
+    let bytes = bytes_of(rt.alloc(), 0x0040_0000, &rows)?;
     let geometry = Geometry::new(1024, 64, 64, 128, 4096)?;
     let mut source = ProbeSource::new(rt.alloc(), &geometry, bytes.as_slice(), 3)?;
     let error = detect_from(rt.alloc(), &mut source).err();
@@ -673,11 +529,10 @@ fn stops_at_too_many_numbers(rt: HostRuntime) -> Result<(), Fail> {
 /// The size that is detected of a file, in bytes, or that memory ran out.
 fn size_of(alloc: Global, bytes: &[u8]) -> Result<u32, DetectError> {
     let found = detect_from(alloc, &mut MemorySource::new(bytes))?;
-    Ok(
-        found
-            .get(0)
-            .map_or(0, |detected| detected.geometry.peb_size()),
-    )
+    Ok(match found.get(0) {
+        Some(detected) => detected.geometry.peb_size(),
+        None => 0,
+    })
 }
 
 /// The script bench/second/refuse.sh refuses each growth of memory in turn, and looks for the line that is printed here.

@@ -17,20 +17,15 @@ pub enum What {
     Vid,
     /// What one of the volume table begins with, of the copy with this number.
     Table(u8),
+    /// Both copies of the volume table, one at each place of its row: where an eraseblock has its identifier and its data, and
+    /// how many zeros these are.
+    Copies(usize, usize, usize),
     /// As many bytes of one value.
     Fill(u8, usize),
 }
 
 /// What is put into a file at some places: the first place, the step from one to the next, and how many there are.
 pub type Row = (usize, usize, usize, What);
-
-/// A file of so many bytes of one value, with rows put into it.
-#[derive(Drop)]
-pub struct Dump<'a> {
-    pub len: usize,
-    pub fill: u8,
-    pub rows: &'a [Row],
-}
 
 /// The bytes of a header that names offsets and a number.
 fn numbered(vid_offset: u32, data_offset: u32, image_seq: u32) -> Result<[u8; 64], GeometryError> {
@@ -86,15 +81,23 @@ fn put_what(bytes: &mut [u8], at: usize, what: What, index: usize) -> Result<(),
         What::Counted(vid, data) => put(bytes, at, &numbered(vid, data, counted(index))?),
         What::Vid => put(bytes, at, &VID),
         What::Table(copy) => put(bytes, at, &table_vid(copy)),
+        What::Copies(vid, data, count) => {
+            put(
+                bytes,
+                at.saturating_add(vid),
+                &table_vid(u8::from(index > 0)),
+            );
+            fill(bytes, at.saturating_add(data), 0, count);
+        }
         What::Fill(value, count) => fill(bytes, at, value, count),
     }
     Ok(())
 }
 
-/// The bytes of a file.
-pub fn bytes_of(alloc: Global, dump: &Dump<'_>) -> Result<Vec<u8>, Fail> {
-    let mut bytes = Vec::from_elem(alloc, dump.fill, dump.len)?;
-    for (from, step, count, what) in dump.rows {
+/// The bytes of a file of so many bytes 0xFF, with rows put into it.
+pub fn bytes_of(alloc: Global, len: usize, rows: &[Row]) -> Result<Vec<u8>, Fail> {
+    let mut bytes = Vec::from_elem(alloc, 0xFF, len)?;
+    for (from, step, count, what) in rows {
         for index in 0..*count {
             let at = from.saturating_add(step.saturating_mul(index));
             put_what(bytes.as_mut_slice(), at, *what, index)?;

@@ -1,40 +1,38 @@
-//! The bytes of eraseblocks, and what a scan says of these.
+//! What a scan says of eraseblocks.
 
-use super::pebs::{Peb, Vid};
 use std::alloc::Global;
-use std::process::Abort;
 use std::test::Fail;
-use ubi_media::{Geometry, GeometryError};
+use ubi_probe::headers::{CHECK_OF_37, WRONG_CHECK_OF_39};
+use ubi_probe::pebs::{Data, NEW, Peb, Vid, small, small_image};
 use ubi_scan::{Blocks, MemberHeader, Scan, ScanState, scan};
 
-/// The geometry of the eraseblocks.
-pub fn geometry() -> Result<Geometry, GeometryError> {
-    Geometry::new(512, 64, 64, 128, 32)
-}
-
-/// Adds the bytes of an eraseblock.
-fn put(bytes: &mut Vec<u8>, peb: &Peb) -> Result<(), Fail> {
-    bytes.extend_from_slice(&peb.ec.bytes()?)?;
-    bytes.extend_from_slice(&peb.vid.bytes())?;
-    for at in 0..384 {
-        bytes.push(if at < peb.count { peb.byte } else { 0xFF })?;
-    }
-    Ok(())
-}
-
-/// The bytes of some eraseblocks.
-pub fn image(alloc: Global, pebs: &[Peb]) -> Result<Vec<u8>, Fail> {
-    let mut bytes = Vec::new(alloc);
-    for peb in pebs {
-        put(&mut bytes, peb)?;
-    }
-    Ok(bytes)
-}
+/// A member of logical eraseblock 0 in no image that is no copy.
+pub const OLD: Peb = Peb(NEW, Vid::Leb(0, 0, 5), Data::Fill(b'5', 384));
+/// A newer copy with the check of its data.
+pub const RIGHT: Peb = Peb(NEW, Vid::Copy(0, 64, CHECK_OF_37, 7), Data::Fill(b'7', 64));
+/// Copies with another check, by their sequence number.
+pub const WRONG_4: Peb = Peb(
+    NEW,
+    Vid::Copy(0, 64, WRONG_CHECK_OF_39, 4),
+    Data::Fill(b'9', 64),
+);
+/// The second.
+pub const WRONG_6: Peb = Peb(
+    NEW,
+    Vid::Copy(0, 64, WRONG_CHECK_OF_39, 6),
+    Data::Fill(b'9', 64),
+);
+/// The third.
+pub const WRONG_9: Peb = Peb(
+    NEW,
+    Vid::Copy(0, 64, WRONG_CHECK_OF_39, 9),
+    Data::Fill(b'9', 64),
+);
 
 /// What a scan of some eraseblocks finds.
 pub fn found(alloc: Global, pebs: &[Peb]) -> Result<Scan, Fail> {
-    let bytes = image(alloc, pebs)?;
-    let blocks = Blocks::new(&geometry()?, bytes.as_slice())?;
+    let bytes = small_image(alloc, pebs)?;
+    let blocks = Blocks::new(&small()?, bytes.as_slice())?;
     Ok(scan(alloc, &blocks)?)
 }
 
@@ -52,18 +50,18 @@ pub enum Said {
 
 /// What it says in whole of an eraseblock with such a header.
 fn state_of(said: Said, vid: &Vid) -> Option<ScanState> {
-    match (said, vid) {
+    match (said, vid.header()) {
         (Said::Blank, _) => Some(ScanState::Blank),
         (Said::Free, _) => Some(ScanState::Free),
         (Said::Garbage, _) => Some(ScanState::Garbage),
         (Said::Corrupt, _) => Some(ScanState::Corrupt),
         (Said::Dropped, _) => Some(ScanState::Dropped),
-        (Said::Winner, Vid::Of(header)) => Some(ScanState::Winner(MemberHeader {
+        (Said::Winner, Some(header)) => Some(ScanState::Winner(MemberHeader {
             leb: (header.vol_id, header.lnum),
             kind: header.kind,
             data_pad: header.data_pad,
         })),
-        (Said::Beaten, Vid::Of(header)) => Some(ScanState::Beaten((header.vol_id, header.lnum))),
+        (Said::Beaten, Some(header)) => Some(ScanState::Beaten((header.vol_id, header.lnum))),
         _ => None,
     }
 }
@@ -95,26 +93,18 @@ fn has_winners(found: &Scan, want: &[Won]) -> bool {
 
 /// Whether a scan says of a case what is wanted.
 pub fn holds(alloc: Global, case: &Case) -> Result<bool, Fail> {
-    let bytes = image(alloc, case.pebs)?;
-    let blocks = Blocks::new(&geometry()?, bytes.as_slice())?;
+    let bytes = small_image(alloc, case.pebs)?;
+    let blocks = Blocks::new(&small()?, bytes.as_slice())?;
     let found = scan(alloc, &blocks)?;
     let numbers = (found.top_sqnum(), found.image_seq(), found.mean_ec());
     let mut has = numbers == case.numbers && has_winners(&found, case.winners);
     has = has && case.states.len() == blocks.count() as usize;
     for p in 0..blocks.count() {
         let want = match (case.states.get(p as usize), case.pebs.get(p as usize)) {
-            (Some(said), Some(peb)) => state_of(*said, &peb.vid),
+            (Some(said), Some(Peb(_, vid, _))) => state_of(*said, vid),
             _ => None,
         };
         has = has && want == Some(found.state(p));
     }
     Ok(has)
-}
-
-/// Asserts what a scan says of the eraseblocks of each case.
-pub fn assert_found(rt: &impl Abort, alloc: Global, cases: &[Case]) -> Result<(), Fail> {
-    for case in cases {
-        assert!(*rt; holds(alloc, case)?, "{}", case.what);
-    }
-    Ok(())
 }

@@ -1,6 +1,5 @@
 //! A scan that is refused memory.
 
-use super::images::{found, image};
 use std::test::Fail;
 use ubi_media::{AttachError, EcHeader, Geometry, GeometryError, VidHeader, write_ec, write_vid};
 use ubi_probe::headers::PLAIN;

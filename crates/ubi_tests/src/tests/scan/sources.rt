@@ -1,19 +1,25 @@
 //! Scans over sources: what they read, what they find, and what fails.
 
-use super::images::{found, geometry, image};
-use super::pebs::{ERASED, OLD, OLDER, Peb, RIGHT, WRONG_4, WRONG_6, WRONG_9};
+use super::images::{OLD, RIGHT, WRONG_4, WRONG_6, WRONG_9};
 use crate::tests::probes::{Reads, has_reads};
 use std::alloc::Global;
 use std::fs;
 use std::test::Fail;
 use ubi_media::Refusal;
+use ubi_probe::pebs::{Data, ERASED, NEW, Peb, Vid, small, small_image};
 use ubi_probe::{ChangingSource, ProbeSource};
 use ubi_scan::{BlockSource, FileSource, MemorySource, Scan, StreamError, scan_from};
 
 /// The winner of logical eraseblock 0 of volume 0.
 fn winner(answer: Result<Scan, StreamError>) -> Option<u32> {
-    answer.ok().and_then(|found| found.winner(0, 0))
+    match answer {
+        Ok(found) => found.winner(0, 0),
+        Err(_) => None,
+    }
 }
+
+/// A member that is no copy, and older than the copies.
+const OLDER: Peb = Peb(NEW, Vid::Leb(0, 0, 6), Data::Fill(b'6', 384));
 
 /// Members of a logical eraseblock, which of them wins, and what is read to find it.
 type Case = (&'static [Peb], u32, &'static [Reads]);
@@ -71,9 +77,9 @@ static CHECKED: [Case; 9] = [
 
 /// Whether a member wins, and so much is read to find it.
 fn is_checked(alloc: Global, (pebs, winning, reads): &Case) -> Result<bool, Fail> {
-    let bytes = image(alloc, pebs)?;
-    let mut source = ProbeSource::new(alloc, &geometry()?, bytes.as_slice(), 0)?;
-    let won = winner(scan_from(alloc, &geometry()?, &mut source));
+    let bytes = small_image(alloc, pebs)?;
+    let mut source = ProbeSource::new(alloc, &small()?, bytes.as_slice(), 0)?;
+    let won = winner(scan_from(alloc, &small()?, &mut source));
     Ok(won == Some(*winning) && has_reads(&source, reads))
 }
 
@@ -87,8 +93,8 @@ fn checks_copied_data_once_in_any_order(rt: HostRuntime) -> Result<(), Fail> {
 
 /// Why a scan fails whose read `at` fails, if it does.
 fn error_of(alloc: Global, bytes: &[u8], at: u64) -> Result<Option<StreamError>, Fail> {
-    let mut source = ProbeSource::new(alloc, &geometry()?, bytes, at)?;
-    Ok(scan_from(alloc, &geometry()?, &mut source).err())
+    let mut source = ProbeSource::new(alloc, &small()?, bytes, at)?;
+    Ok(scan_from(alloc, &small()?, &mut source).err())
 }
 
 /// The read that fails, and the error that is told: each in turn, up to one more than there are.
@@ -103,18 +109,6 @@ static FAILING: [(u64, Option<StreamError>); 8] = [
     (8, None),
 ];
 
-#[test]
-fn tells_which_read_failed(rt: HostRuntime) -> Result<(), Fail> {
-    let bytes = image(rt.alloc(), &[OLD, RIGHT, WRONG_9, OLDER])?;
-    for (at, want) in &FAILING {
-        assert!(rt;
-            error_of(rt.alloc(), bytes.as_slice(), *at)? == *want,
-            "read {at}"
-        );
-    }
-    Ok(())
-}
-
 /// How many bytes there are, and for what cause they are refused before the first read, which would fail.
 static SIZES: [(usize, Refusal); 3] = [
     (0, Refusal::Length),
@@ -123,7 +117,12 @@ static SIZES: [(usize, Refusal); 3] = [
 ];
 
 #[test]
-fn refuses_a_size_before_any_read(rt: HostRuntime) -> Result<(), Fail> {
+fn tells_which_read_failed_or_a_size_before_any_read(rt: HostRuntime) -> Result<(), Fail> {
+    let bytes = small_image(rt.alloc(), &[OLD, RIGHT, WRONG_9, OLDER])?;
+    for (at, want) in &FAILING {
+        let error = error_of(rt.alloc(), bytes.as_slice(), *at)?;
+        assert!(rt; error == *want, "read {at}");
+    }
     let bytes = [0xFF; 33 * 512];
     for (len, cause) in &SIZES {
         let bytes = bytes.get(..*len).ok_or("too short")?;
@@ -138,7 +137,7 @@ fn file_winner(
     alloc: Global,
     file: &mut impl BlockSource,
 ) -> Result<Result<Option<u32>, StreamError>, Fail> {
-    Ok(match scan_from(alloc, &geometry()?, file) {
+    Ok(match scan_from(alloc, &small()?, file) {
         Ok(found) => Ok(found.winner(0, 0)),
         Err(error) => Err(error),
     })
@@ -148,7 +147,7 @@ fn file_winner(
 #[test]
 fn scans_a_file_as_memory(rt: HostRuntime) -> Result<(), Fail> {
     let alloc = rt.alloc();
-    let bytes = image(alloc, &[OLD, RIGHT, WRONG_9])?;
+    let bytes = small_image(alloc, &[OLD, RIGHT, WRONG_9])?;
     fs::write(&rt, "scanned.img", bytes.as_slice())?;
     let mut memory = MemorySource::new(bytes.as_slice());
     assert!(rt; file_winner(alloc, &mut memory)? == Ok(Some(1)));
@@ -168,11 +167,11 @@ fn scans_a_file_as_memory(rt: HostRuntime) -> Result<(), Fail> {
 #[test]
 fn scans_a_source_that_changes(rt: HostRuntime) -> Result<(), Fail> {
     let alloc = rt.alloc();
-    let first = image(alloc, &[ERASED, OLD, ERASED])?;
-    let then = image(alloc, &[RIGHT, ERASED, WRONG_9])?;
+    let first = small_image(alloc, &[ERASED, OLD, ERASED])?;
+    let then = small_image(alloc, &[RIGHT, ERASED, WRONG_9])?;
     let mut source = ChangingSource::new(first.as_slice(), then.as_slice(), 2);
     // Eraseblock 1 was a member when its headers were read, and is none when it meets eraseblock 2.
-    let found = winner(scan_from(alloc, &geometry()?, &mut source));
+    let found = winner(scan_from(alloc, &small()?, &mut source));
     assert!(rt; found.is_some_and(|p| p < 3));
     Ok(())
 }

@@ -1,9 +1,11 @@
 //! What each copy of a table is, whether or not it decides.
 
-use super::images::{Peb, Volumes, has_volumes, image, larger, small};
+use super::images::Row::{Erased, First, Forgotten, Free, Member, Newer, Second};
+use super::images::{Row, Volumes, has_volumes, image, larger};
 use std::alloc::Global;
 use std::test::Fail;
 use ubi_media::{Geometry, RecFault};
+use ubi_probe::pebs::small;
 use ubi_probe::records::{A, ALIGNMENT_0, B, C, EMPTY, FLIPPED, GROWING, KIND_3, OVERFULL, ROOT};
 use ubi_scan::{Blocks, scan};
 use ubi_table::{CopyRead, read_copy};
@@ -37,7 +39,7 @@ fn is(found: &CopyRead, want: &Want) -> Result<bool, Fail> {
 fn are(
     alloc: Global,
     geometry: &Geometry,
-    pebs: &[Peb],
+    pebs: &[Row],
     first: &Want,
     second: &Want,
 ) -> Result<bool, Fail> {
@@ -50,93 +52,70 @@ fn are(
 }
 
 /// Some eraseblocks, and what copy 0 and copy 1 are there.
-static SMALL: [(&[Peb], Want, Want); 10] = [
-    (&[Peb::Erased, Peb::Free], Want::Absent, Want::Absent),
+static SMALL: [(&[Row], Want, Want); 10] = [
+    (&[Erased, Free], Want::Absent, Want::Absent),
     (
-        &[
-            Peb::Newer(0, &[GROWING, EMPTY]),
-            Peb::Copy(0, &[ROOT, EMPTY]),
-            Peb::Forgotten(1, &[ROOT, EMPTY]),
-        ],
+        &[Newer(0, &[GROWING]), First(&[ROOT]), Forgotten(1, &[ROOT])],
         Want::Good(&[(0, GROWING)]),
         Want::Absent,
     ),
     (
-        &[Peb::Member(0), Peb::Copy(1, &[EMPTY, GROWING])],
+        &[Member(0), Second(&[EMPTY, GROWING])],
         Want::Absent,
         Want::Good(&[(1, GROWING)]),
     ),
     // Each is read for itself, wherever it lies.
     (
-        &[Peb::Copy(1, &[GROWING, ROOT]), Peb::Copy(0, &[ROOT, EMPTY])],
+        &[Second(&[GROWING, ROOT]), First(&[ROOT])],
         Want::Good(&[(0, ROOT)]),
         Want::Good(&[(0, GROWING), (1, ROOT)]),
     ),
     (
         &[
-            Peb::Copy(0, &[FLIPPED, ALIGNMENT_0]),
-            Peb::Copy(1, &[ALIGNMENT_0, FLIPPED]),
+            First(&[FLIPPED, ALIGNMENT_0]),
+            Second(&[ALIGNMENT_0, FLIPPED]),
         ],
         Want::Corrupt,
         Want::Faulty(0, RecFault::Alignment),
     ),
     (
-        &[
-            Peb::Copy(0, &[ROOT, KIND_3]),
-            Peb::Copy(1, &[ROOT, FLIPPED]),
-        ],
+        &[First(&[ROOT, KIND_3]), Second(&[ROOT, FLIPPED])],
         Want::Faulty(1, RecFault::Kind),
         Want::Corrupt,
     ),
     (
-        &[Peb::Copy(0, &[ROOT, ROOT]), Peb::Copy(1, &[KIND_3, ROOT])],
+        &[First(&[ROOT, ROOT]), Second(&[KIND_3, ROOT])],
         Want::Twice(0, 1),
         Want::Faulty(0, RecFault::Kind),
     ),
     (
-        &[
-            Peb::Copy(0, &[EMPTY, EMPTY]),
-            Peb::Copy(1, &[GROWING, GROWING]),
-        ],
+        &[First(&[]), Second(&[GROWING, GROWING])],
         Want::Good(&[]),
         Want::Twice(0, 1),
     ),
     // More than the device has is good too.
     (
-        &[
-            Peb::Copy(0, &[OVERFULL, EMPTY]),
-            Peb::Copy(1, &[EMPTY, OVERFULL]),
-        ],
+        &[First(&[OVERFULL]), Second(&[EMPTY, OVERFULL])],
         Want::Good(&[(0, OVERFULL)]),
         Want::Good(&[(1, OVERFULL)]),
     ),
     (
-        &[
-            Peb::Copy(0, &[ROOT, EMPTY]),
-            Peb::Copy(1, &[ROOT, EMPTY]),
-            Peb::Newer(1, &[FLIPPED, EMPTY]),
-        ],
+        &[First(&[ROOT]), Second(&[ROOT]), Newer(1, &[FLIPPED])],
         Want::Good(&[(0, ROOT)]),
         Want::Corrupt,
     ),
 ];
 
 /// The same with four slots.
-static LARGER: [(&[Peb], Want, Want); 2] = [
+static LARGER: [(&[Row], Want, Want); 2] = [
     (
-        &[
-            Peb::Copy(0, &[EMPTY, A, EMPTY, C]),
-            Peb::Copy(1, &[C, A, B, A]),
-        ],
+        &[First(&[EMPTY, A, EMPTY, C]), Second(&[C, A, B, A])],
         Want::Good(&[(1, A), (3, C)]),
         Want::Twice(1, 3),
     ),
     // A fault comes before a name that comes again.
     (
-        &[
-            Peb::Copy(0, &[A, A, B, KIND_3]),
-            Peb::Copy(1, &[A, B, C, ROOT]),
-        ],
+        &[First(&[A, A, B, KIND_3]), Second(&[A, B, C, ROOT])],
         Want::Faulty(3, RecFault::Kind),
         Want::Good(&[(0, A), (1, B), (2, C), (3, ROOT)]),
     ),

@@ -1,37 +1,30 @@
 //! The bytes of tables.
 
-use super::images::{Peb, chosen, image, small, table_of};
+use super::images::Row::{Erased, First, Second};
+use super::images::{Row, chosen, image, table_of};
 use std::alloc::Global;
 use std::test::Fail;
 use ubi_media::{Geometry, VolKind, VolName, VolumeRecord, rec_fault, write_rec};
+use ubi_probe::pebs::small;
 use ubi_probe::records::{EMPTY, GROWING, ROOT, Slot};
 use ubi_table::Table;
 
 /// The records of a table, and some eraseblocks that have it.
-const TABLES: [([Slot; 2], &[Peb]); 4] = [
-    (
-        [ROOT, EMPTY],
-        &[Peb::Copy(0, &[ROOT, EMPTY]), Peb::Copy(1, &[ROOT, EMPTY])],
-    ),
+const TABLES: [([Slot; 2], &[Row]); 4] = [
+    ([ROOT, EMPTY], &[First(&[ROOT]), Second(&[ROOT])]),
     (
         [EMPTY, GROWING],
-        &[
-            Peb::Copy(0, &[EMPTY, GROWING]),
-            Peb::Copy(1, &[EMPTY, GROWING]),
-        ],
+        &[First(&[EMPTY, GROWING]), Second(&[EMPTY, GROWING])],
     ),
     (
         [GROWING, ROOT],
-        &[
-            Peb::Copy(0, &[GROWING, ROOT]),
-            Peb::Copy(1, &[GROWING, ROOT]),
-        ],
+        &[First(&[GROWING, ROOT]), Second(&[GROWING, ROOT])],
     ),
-    ([EMPTY, EMPTY], &[Peb::Erased]),
+    ([EMPTY, EMPTY], &[Erased]),
 ];
 
 /// Whether the table of some eraseblocks has the bytes of two records.
-fn is_encoded(alloc: Global, slots: &[Slot; 2], pebs: &[Peb]) -> Result<bool, Fail> {
+fn is_encoded(alloc: Global, slots: &[Slot; 2], pebs: &[Row]) -> Result<bool, Fail> {
     let encoded = chosen(alloc, &small()?, pebs)?.encode(alloc)?;
     let bytes = encoded.as_slice();
     Ok(
@@ -62,7 +55,7 @@ fn holds_128_volumes(rt: HostRuntime) -> Result<(), Fail> {
     let alloc = rt.alloc();
     let geometry = Geometry::new(32768, 512, 512, 1024, 512)?;
     assert!(rt; geometry.slots() == 128);
-    let mut bytes = image(alloc, &geometry, &[Peb::Copy(1, &[])])?;
+    let mut bytes = image(alloc, &geometry, &[Second(&[])])?;
     for slot in 0..128u8 {
         let volume = VolumeRecord {
             reserved: u32::from(slot) % 3 + 1,

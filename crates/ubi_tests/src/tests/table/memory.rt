@@ -1,19 +1,18 @@
 //! Tables that are read and renamed where memory is refused.
 
-use super::images::{Peb, Volumes, has_volumes, image, small};
+use super::images::Row::{First, Second};
+use super::images::{Row, Volumes, has_volumes, image};
 use super::naming::renamed;
 use std::alloc::Global;
 use std::test::Fail;
 use ubi_media::{AttachError, Geometry};
+use ubi_probe::pebs::small;
 use ubi_probe::records::{GROWING, ROOT, Slot};
 use ubi_scan::{Blocks, scan};
 use ubi_table::{CopyRead, Table, read_copy};
 
 /// Two copies of a table.
-static COPIES: [Peb; 2] = [
-    Peb::Copy(0, &[ROOT, GROWING]),
-    Peb::Copy(1, &[ROOT, GROWING]),
-];
+static COPIES: [Row; 2] = [First(&[ROOT, GROWING]), Second(&[ROOT, GROWING])];
 
 /// Both copies, the second of which gets another name for volume 1; none where memory ran out.
 fn tables_if_memory(alloc: Global, geometry: &Geometry) -> Result<Option<(Table, Table)>, Fail> {
@@ -44,9 +43,9 @@ fn tables_if_memory(alloc: Global, geometry: &Geometry) -> Result<Option<(Table,
 }
 
 /// The volumes of the two tables.
-const FIRST: Volumes = &[(0, ROOT), (1, GROWING)];
+const VOLUMES: Volumes = &[(0, ROOT), (1, GROWING)];
 
-const SECOND: Volumes = &[
+const RENAMED: Volumes = &[
     (0, ROOT),
     (
         1,
@@ -65,7 +64,7 @@ fn reads_and_names_or_runs_out_of_memory(rt: HostRuntime) -> Result<(), Fail> {
         println!(rt; "out of memory")?;
         return Ok(());
     };
-    assert!(rt; has_volumes(&first, FIRST)?);
-    assert!(rt; has_volumes(&second, SECOND)?);
+    assert!(rt; has_volumes(&first, VOLUMES)?);
+    assert!(rt; has_volumes(&second, RENAMED)?);
     Ok(())
 }

@@ -3,10 +3,12 @@
 ghost use Rattle.std.specs.Prelude.{◌≡◌, ◌==◌, ◌&&◌, not, find, option_copied};
 ghost use Rattle.ubi_media.specs.Fields.{same_bytes};
 
-use super::images::{Peb, chosen, larger, small};
+use super::images::Row::First;
+use super::images::{Row, chosen, larger};
 use std::alloc::{AllocError, Global};
 use std::test::Fail;
 use ubi_media::{Geometry, VolName, VolumeRecord};
+use ubi_probe::pebs::small;
 use ubi_probe::records::{A, B, C, EMPTY, GROWING, ROOT, Slot};
 use ubi_table::Table;
 
@@ -96,7 +98,7 @@ static LARGER: [Case; 2] = [
 ];
 
 /// Whether the table of some eraseblocks gets the records that it is to have, by its bytes.
-fn gets(alloc: Global, geometry: &Geometry, pebs: &[Peb], case: &Case) -> Result<bool, Fail> {
+fn gets(alloc: Global, geometry: &Geometry, pebs: &[Row], case: &Case) -> Result<bool, Fail> {
     let table = chosen(alloc, geometry, pebs)?;
     let renamed = renamed(alloc, &table, case.1, case.2)?.ok_or("no such name")?;
     let encoded = renamed.encode(alloc)?;
@@ -121,25 +123,6 @@ static REFUSED: [(&[Slot], u32, &[u8]); 9] = [
     (&[EMPTY, EMPTY], 0, b"z"),
 ];
 
-#[test]
-fn names_one_volume_anew_or_none(rt: HostRuntime) -> Result<(), Fail> {
-    let alloc = rt.alloc();
-    for (index, case) in SMALL.iter().enumerate() {
-        let gets = gets(alloc, &small()?, &[Peb::Copy(0, case.0)], case)?;
-        assert!(rt; gets, "case {index}");
-    }
-    for (index, case) in LARGER.iter().enumerate() {
-        let gets = gets(alloc, &larger()?, &[Peb::Copy(0, case.0)], case)?;
-        assert!(rt; gets, "larger {index}");
-    }
-    for (index, (records, id, name)) in REFUSED.iter().enumerate() {
-        let table = chosen(alloc, &small()?, &[Peb::Copy(0, records)])?;
-        let renamed = renamed(alloc, &table, *id, name)?;
-        assert!(rt; renamed.is_none(), "refused {index}");
-    }
-    Ok(())
-}
-
 /// The records of a table, a name, and the number of the volume that has it.
 static NAMED: [(&[Slot], &[u8], Option<u32>); 7] = [
     (&[ROOT, GROWING], b"root", Some(0)),
@@ -152,11 +135,25 @@ static NAMED: [(&[Slot], &[u8], Option<u32>); 7] = [
 ];
 
 #[test]
-fn finds_the_volume_of_a_name(rt: HostRuntime) -> Result<(), Fail> {
+fn names_one_volume_anew_or_none_and_finds_it(rt: HostRuntime) -> Result<(), Fail> {
+    let alloc = rt.alloc();
+    for (index, case) in SMALL.iter().enumerate() {
+        let gets = gets(alloc, &small()?, &[First(case.0)], case)?;
+        assert!(rt; gets, "case {index}");
+    }
+    for (index, case) in LARGER.iter().enumerate() {
+        let gets = gets(alloc, &larger()?, &[First(case.0)], case)?;
+        assert!(rt; gets, "larger {index}");
+    }
+    for (index, (records, id, name)) in REFUSED.iter().enumerate() {
+        let table = chosen(alloc, &small()?, &[First(records)])?;
+        let renamed = renamed(alloc, &table, *id, name)?;
+        assert!(rt; renamed.is_none(), "refused {index}");
+    }
     for (index, (records, name, id)) in NAMED.iter().enumerate() {
-        let table = chosen(rt.alloc(), &small()?, &[Peb::Copy(0, records)])?;
+        let table = chosen(alloc, &small()?, &[First(records)])?;
         let name = VolName::new(name).ok_or("no name")?;
-        assert!(rt; table.number_named(&name) == *id, "case {index}");
+        assert!(rt; table.number_named(&name) == *id, "named {index}");
     }
     Ok(())
 }

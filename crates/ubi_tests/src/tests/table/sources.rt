@@ -1,12 +1,14 @@
 //! Tables of sources: what is read for them, and what fails.
 
-use super::images::{Peb, Volumes, has_volumes, image, small};
+use super::images::Row::{First, Member, Second};
+use super::images::{Row, Volumes, has_volumes, image};
 use crate::tests::probes::{Reads, has_reads};
 use std::alloc::Global;
 use std::fs;
 use std::test::Fail;
 use ubi_media::{Geometry, Refusal};
 use ubi_probe::ProbeSource;
+use ubi_probe::pebs::small;
 use ubi_probe::records::{EMPTY, FLIPPED, GROWING, OVERFULL, ROOT};
 use ubi_scan::{BlockSource, FileSource, StreamError, scan_from};
 use ubi_table::{Table, choose_from};
@@ -21,33 +23,20 @@ fn table_of<S: BlockSource>(
     choose_from(alloc, geometry, source, &found)
 }
 
-/// Copy 0 of a table with one volume, and where it is corrupt; copy 1 of a table with two; and a logical eraseblock.
-const FIRST: Peb = Peb::Copy(0, &[ROOT, EMPTY]);
-
-const FLIPPED_FIRST: Peb = Peb::Copy(0, &[FLIPPED, EMPTY]);
-
-const SECOND: Peb = Peb::Copy(1, &[GROWING, ROOT]);
-
-const MEMBER: Peb = Peb::Member(0);
-
 /// Copies of which the first decides, and of which the second does, each with a logical eraseblock behind.
-const SOUND: [Peb; 3] = [FIRST, SECOND, MEMBER];
+const SOUND: [Row; 3] = [First(&[ROOT]), Second(&[GROWING, ROOT]), Member(0)];
 
-const FIRST_CORRUPT: [Peb; 3] = [FLIPPED_FIRST, SECOND, MEMBER];
+const FIRST_CORRUPT: [Row; 3] = [First(&[FLIPPED]), Second(&[GROWING, ROOT]), Member(0)];
 
 /// Copies of which none can be read, and of a table that takes more eraseblocks than there are.
-const BOTH_CORRUPT: [Peb; 3] = [FLIPPED_FIRST, Peb::Copy(1, &[EMPTY, FLIPPED]), MEMBER];
+const BOTH_CORRUPT: [Row; 3] = [First(&[FLIPPED]), Second(&[EMPTY, FLIPPED]), Member(0)];
 
-const TOO_LARGE: [Peb; 3] = [
-    Peb::Copy(0, &[OVERFULL, EMPTY]),
-    Peb::Copy(1, &[ROOT, EMPTY]),
-    MEMBER,
-];
+const TOO_LARGE: [Row; 3] = [First(&[OVERFULL]), Second(&[ROOT]), Member(0)];
 
 /// Some eraseblocks, which read of them fails, if any does, the volumes of their table or why they have none then, and
 /// what is read.
 type Case = (
-    &'static [Peb],
+    &'static [Row],
     u64,
     Result<Volumes, StreamError>,
     &'static [Reads],

@@ -1,21 +1,30 @@
 //! How much volumes of a source read: what isn't counted, and reads that fail.
 
-use super::images::{geometry, image};
-use super::pebs::{
-    BASE, FIRST_BOOT, FIRST_MARKED, Peb, SECOND_BOOT, SECOND_MARKED, TEXT_0, TEXT_1, WITH_BLANK,
-};
+use super::images::BASE;
 use std::alloc::Global;
 use std::test::Fail;
 use ubi_probe::ProbeSource;
+use ubi_probe::pebs::{
+    Data, FIRST, FIRST_BOOT, FIRST_MARKED, NAMED, NO_DATA, Peb, SECOND, SECOND_BOOT, SECOND_MARKED,
+    TEXT_0, TEXT_1, Vid, small, small_image,
+};
 use ubi_scan::{BlockSource, StreamError};
 use ubi_volume::{Amount, amount_of, attach_places};
+
+/// A logical eraseblock that is 0xFF throughout, and one beyond those that are reserved: neither is counted.
+const WITH_BLANK: [Peb; 4] = [
+    FIRST,
+    SECOND,
+    Peb(NAMED, Vid::Leb(0, 0, 0), NO_DATA),
+    Peb(NAMED, Vid::Leb(0, 20, 0), Data::Fill(b'D', 384)),
+];
 
 /// How much volume 0 of a source reads, or why that isn't told.
 fn amount<S: BlockSource>(
     alloc: Global,
     source: &mut S,
 ) -> Result<Result<Amount, StreamError>, Fail> {
-    let geometry = geometry()?;
+    let geometry = small()?;
     let places = attach_places(alloc, &geometry, source)?;
     let Some(entry) = places.table().get(0) else {
         return Err("no volume".into());
@@ -44,8 +53,8 @@ static AMOUNTS: [(&[Peb], u64, Result<Amount, StreamError>); 7] = [
 #[test]
 fn tells_how_much_volumes_read(rt: HostRuntime) -> Result<(), Fail> {
     for (index, (pebs, at, want)) in AMOUNTS.iter().enumerate() {
-        let bytes = image(rt.alloc(), pebs)?;
-        let mut source = ProbeSource::new(rt.alloc(), &geometry()?, bytes.as_slice(), *at)?;
+        let bytes = small_image(rt.alloc(), pebs)?;
+        let mut source = ProbeSource::new(rt.alloc(), &small()?, bytes.as_slice(), *at)?;
         assert!(rt; amount(rt.alloc(), &mut source)? == *want, "case {index}");
     }
     Ok(())

@@ -1,96 +1,82 @@
-//! The bytes of eraseblocks, and what these mean.
+//! Images of several layers' volumes, and what they mean.
 
-use super::pebs::{Data, Ec, Peb, Vid};
-use std::alloc::{AllocError, Global};
+use std::alloc::Global;
 use std::process::Abort;
 use std::test::Fail;
-use ubi_media::{AttachError, EcHeader, Geometry, GeometryError, write_ec, write_vid};
-use ubi_probe::records::EMPTY;
+use ubi_media::{AttachError, GeometryError, VidHeader};
+use ubi_probe::headers::{CHECK_OF_41, PADDED, STATIC_0};
+use ubi_probe::pebs::{
+    A, B, C, Data, FIRST, NAMED, OLD, Peb, RIGHT, SECOND, Vid, WRONG_9, small, small_image,
+};
+use ubi_probe::records::SMALL_ROOT;
+use ubi_probe::texts::bytes_of;
 use ubi_volume::{
     Attached, Content, Meaning, ReadError, attach, read_leb, read_volume, volume_len,
 };
 
+/// A dynamic volume, three of whose logical eraseblocks hold bytes 0x41, 0x42 and 0x43.
+pub const BASE: [Peb; 5] = [FIRST, SECOND, A, B, C];
+
 /// What its 20 logical eraseblocks read.
-pub const BASE_TEXT: &[(u8, usize)] = &[(0x41, 384), (0x42, 384), (0x43, 384), (0xFF, 6528)];
+pub const BASE_TEXT: &[(&[u8], usize)] = &[(b"A", 384), (b"B", 384), (b"C", 384), (b"\xFF", 6528)];
 
-/// The geometry of the eraseblocks.
-pub fn geometry() -> Result<Geometry, GeometryError> {
-    Geometry::new(512, 64, 64, 128, 32)
-}
+/// A dynamic volume of three logical eraseblocks, the second of which has no place.
+pub const HOLED: [Peb; 4] = [
+    Peb(NAMED, Vid::Table(0, 0), Data::Table(&[SMALL_ROOT])),
+    Peb(NAMED, Vid::Table(1, 0), Data::Table(&[SMALL_ROOT])),
+    A,
+    Peb(NAMED, Vid::Leb(0, 2, 0), Data::Fill(b'C', 64)),
+];
 
-/// Adds bytes that each stand so many times.
-pub fn put_runs(bytes: &mut Vec<u8>, runs: &[(u8, usize)]) -> Result<(), AllocError> {
-    for (byte, count) in runs {
-        bytes.resize(bytes.len().saturating_add(*count), *byte)?;
-    }
-    Ok(())
-}
+/// A table, and of one logical eraseblock a member, a newer copy that is whole and one that is newer still and isn't, in any order.
+pub const OLD_GOOD_BAD: [Peb; 5] = [FIRST, SECOND, OLD, RIGHT, WRONG_9];
 
-/// Adds the data of an eraseblock.
-fn put_data(bytes: &mut Vec<u8>, data: &Data) -> Result<(), AllocError> {
-    match data {
-        Data::Table(slot) => {
-            bytes.extend_from_slice(&slot.bytes())?;
-            bytes.extend_from_slice(&EMPTY.bytes())
-        }
-        Data::Filled(byte, count) => put_runs(bytes, &[(*byte, *count)]),
-        Data::Zeroed(byte, count) => put_runs(bytes, &[(*byte, *count), (0, 128)]),
-    }
-}
+pub const OLD_BAD_GOOD: [Peb; 5] = [FIRST, SECOND, OLD, WRONG_9, RIGHT];
 
-/// Adds the headers of an eraseblock.
-fn put_headers(
-    bytes: &mut Vec<u8>,
-    geometry: &Geometry,
-    ec: &Ec,
-    vid: &Vid,
-) -> Result<(), AllocError> {
-    let header = EcHeader {
-        counter: 0,
-        image_seq: 0x1234_5678,
-    };
-    let ec = match ec {
-        Ec::Blank => [0xFF; 64],
-        Ec::Corrupt => [0; 64],
-        Ec::Zero => write_ec(geometry, &header),
-    };
-    let vid = match vid {
-        Vid::Blank => [0xFF; 64],
-        Vid::Corrupt => [0; 64],
-        Vid::Is(header) => write_vid(header),
-    };
-    bytes.extend_from_slice(&ec)?;
-    bytes.extend_from_slice(&vid)
-}
+pub const GOOD_OLD_BAD: [Peb; 5] = [FIRST, SECOND, RIGHT, OLD, WRONG_9];
 
-/// The bytes of some eraseblocks of a geometry.
-pub fn bytes_of(alloc: Global, geometry: &Geometry, pebs: &[Peb]) -> Result<Vec<u8>, AllocError> {
-    let mut bytes = Vec::new(alloc);
-    for Peb(ec, vid, data) in pebs {
-        let end = bytes.len().saturating_add(512);
-        put_headers(&mut bytes, geometry, ec, vid)?;
-        put_data(&mut bytes, data)?;
-        bytes.resize(end, 0xFF)?;
-    }
-    Ok(bytes)
-}
+pub const GOOD_BAD_OLD: [Peb; 5] = [FIRST, SECOND, RIGHT, WRONG_9, OLD];
 
-/// The bytes of some eraseblocks.
-pub fn image(alloc: Global, pebs: &[Peb]) -> Result<Vec<u8>, Fail> {
-    Ok(bytes_of(alloc, &geometry()?, pebs)?)
-}
+pub const BAD_OLD_GOOD: [Peb; 5] = [FIRST, SECOND, WRONG_9, OLD, RIGHT];
+
+pub const BAD_GOOD_OLD: [Peb; 5] = [FIRST, SECOND, WRONG_9, RIGHT, OLD];
+
+/// Logical eraseblock 1, where it leaves 128 bytes free.
+pub const PAD: Peb = Peb(
+    NAMED,
+    Vid::Of(VidHeader { lnum: 1, ..PADDED }),
+    Data::Fill(b'B', 256),
+);
+
+/// A logical eraseblock of a static volume beyond what a dynamic one reserves.
+pub const STATIC_BEYOND: Peb = Peb(
+    NAMED,
+    Vid::Static(20, 21, 384, CHECK_OF_41),
+    Data::Fill(b'A', 384),
+);
+
+/// A newer copy of the first logical eraseblock of the text.
+pub const NEWER_0: Peb = Peb(
+    NAMED,
+    Vid::Of(VidHeader {
+        copy_flag: true,
+        sqnum: 1,
+        ..STATIC_0
+    }),
+    Data::Fill(b'a', 384),
+);
 
 /// What an attach of some bytes answers. It has no contract, so that a proof of a caller is spared that of `attach`.
 pub fn attach_bytes(
     alloc: Global,
     image: &[u8],
 ) -> Result<Result<Attached, AttachError>, GeometryError> {
-    Ok(attach(alloc, &geometry()?, image))
+    Ok(attach(alloc, &small()?, image))
 }
 
 /// Some eraseblocks, attached.
 pub fn attached(alloc: Global, pebs: &[Peb]) -> Result<Attached, Fail> {
-    let bytes = image(alloc, pebs)?;
+    let bytes = small_image(alloc, pebs)?;
     Ok(attach_bytes(alloc, bytes.as_slice())??)
 }
 
@@ -134,7 +120,7 @@ pub enum Leb {
 #[derive(Clone, Copy)]
 pub enum Text {
     /// Bytes, each so many times.
-    Reads(&'static [(u8, usize)]),
+    Reads(&'static [(&'static [u8], usize)]),
     /// It isn't read, and why.
     Not(ReadError),
 }
@@ -185,8 +171,7 @@ fn has_text(alloc: Global, meaning: &Meaning, id: u32, want: &Text) -> Result<bo
     let (text, len) = (text_of(alloc, meaning, id), volume_len(meaning, id));
     match (text, want) {
         (Ok(text), Text::Reads(runs)) => {
-            let mut bytes = Vec::new(alloc);
-            put_runs(&mut bytes, runs)?;
+            let bytes = bytes_of(alloc, runs)?;
             Ok(text == bytes && len == Ok(bytes.len() as u64))
         }
         (Err(error), Text::Not(cause)) => Ok(error == *cause && len == Err(*cause)),
@@ -205,17 +190,17 @@ fn has_texts(alloc: Global, meaning: &Meaning, want: &[(u32, Text)]) -> Result<b
 
 /// Whether what is wanted is kept of volume 0.
 fn has_kept(meaning: &Meaning, want: &Kept) -> bool {
-    match (want, meaning.get(0).map(|volume| &volume.content)) {
-        (Kept::Any, _) => true,
-        (Kept::Damaged, Some(Content::Damaged)) => true,
-        (Kept::Lebs(want), Some(Content::Dynamic(lebs))) => {
-            *want
-                == [
-                    lebs.get(0).is_some(),
-                    lebs.get(1).is_some(),
-                    lebs.get(2).is_some(),
-                    lebs.get(3).is_some(),
-                ]
+    let Some(volume) = meaning.get(0) else {
+        return matches!(want, Kept::Any);
+    };
+    match (want, &volume.content) {
+        (Kept::Any, _) | (Kept::Damaged, Content::Damaged) => true,
+        (Kept::Lebs(want), Content::Dynamic(lebs)) => {
+            let mut has = true;
+            for (lnum, is_kept) in (0..).zip(want) {
+                has = has && lebs.get(lnum).is_some() == *is_kept;
+            }
+            has
         }
         _ => false,
     }

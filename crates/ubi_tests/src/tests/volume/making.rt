@@ -1,9 +1,9 @@
 //! Meanings that are made of volumes.
 
-use super::images::{geometry, put_runs};
 use std::alloc::{AllocError, Global};
 use std::test::Fail;
 use ubi_media::{RecFault, VolKind, VolName, VolumeRecord};
+use ubi_probe::pebs::small;
 use ubi_volume::{Bytes, Content, Lebs, Meaning, MeaningCause, MeaningError, Volume};
 
 /// What a volume that is handed in holds.
@@ -63,9 +63,7 @@ const WHOLE: Given = Given {
 
 /// A byte, so many times.
 fn bytes(alloc: Global, byte: u8, count: usize) -> Result<Bytes, AllocError> {
-    let mut bytes = Vec::new(alloc);
-    put_runs(&mut bytes, &[(byte, count)])?;
-    Ok(Bytes::new(bytes))
+    Ok(Bytes::new(Vec::from_elem(alloc, byte, count)?))
 }
 
 /// Some logical eraseblocks.
@@ -108,7 +106,7 @@ fn volumes(alloc: Global, given: &[Given]) -> Result<Vec<(u32, Volume)>, Fail> {
 /// The meaning of some volumes, or why they have none together.
 fn made(alloc: Global, given: &[Given]) -> Result<Result<Meaning, MeaningError>, Fail> {
     let volumes = volumes(alloc, given)?;
-    Ok(Meaning::new(&geometry()?, 0x1234_5678, volumes))
+    Ok(Meaning::new(&small()?, 0x1234_5678, volumes))
 }
 
 /// Some volumes, and why they have no meaning together. They are handed back unchanged.

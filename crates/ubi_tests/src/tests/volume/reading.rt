@@ -1,14 +1,16 @@
 //! What dynamic volumes read.
 
-use super::images::{Case, Kept, Leb, Text, assert_meanings, attached, geometry, image};
-use super::pebs::{
-    A, ALIGNED, ALIGNED_ZEROS, B, BAD_GOOD_OLD, BAD_OLD_GOOD, BASE, BLANK_B, C, CORRUPT_B, ERASED,
-    FIRST, FIRST_ALIGNED, FIRST_FLIPPED, FIRST_MARKED, FORGOTTEN_B, GOOD_BAD_OLD, GOOD_OLD_BAD,
-    NEWER_B, NEWER_BAD, OLD_BAD_GOOD, OLD_GOOD_BAD, OLDER_BAD, PAD, SECOND, SECOND_ALIGNED,
-    SECOND_MARKED, STATIC_BEYOND, UNRECORDED,
+use super::images::{
+    BAD_GOOD_OLD, BAD_OLD_GOOD, BASE, Case, GOOD_BAD_OLD, GOOD_OLD_BAD, Kept, Leb, OLD_BAD_GOOD,
+    OLD_GOOD_BAD, PAD, STATIC_BEYOND, Text, assert_meanings, attached,
 };
 use std::test::Fail;
-use ubi_media::{LAYOUT_VOLUME, VolKind};
+use ubi_media::{LAYOUT_VOLUME, VidHeader, VolKind};
+use ubi_probe::headers::{STATIC_0, WRONG_CHECK_OF_39};
+use ubi_probe::pebs::{
+    A, ALIGNED_A, ALIGNED_ZEROED, B, C, Data, ERASED, Ec, FIRST, FIRST_ALIGNED, FIRST_FLIPPED,
+    FIRST_MARKED, NAMED, NO_DATA, Peb, SECOND, SECOND_ALIGNED, SECOND_MARKED, Vid,
+};
 use ubi_volume::{Attached, Meaning, ReadError};
 
 /// Whether what is attached has the numbers of the image.
@@ -23,21 +25,48 @@ fn has_numbers(attached: &Attached) -> bool {
 
 /// Whether its meaning has the image's number, its geometry, and volume 0 alone.
 fn has_volume(meaning: &Meaning) -> bool {
-    let entry = meaning
-        .get(0)
-        .map(|volume| (volume.entry.reserved, volume.entry.kind));
-    meaning.image_seq() == 305_419_896
+    let is = match meaning.get(0) {
+        Some(volume) => volume.entry.reserved == 20 && volume.entry.kind == VolKind::Dynamic,
+        None => false,
+    };
+    is && meaning.image_seq() == 305_419_896
         && meaning.geometry().leb_size() == 384
-        && entry == Some((20, VolKind::Dynamic))
         && meaning.get(1).is_none()
 }
 
-#[test]
-fn attaches_an_image_of_a_volume(rt: HostRuntime) -> Result<(), Fail> {
-    let attached = attached(rt.alloc(), &BASE)?;
-    assert!(rt; has_numbers(&attached) && has_volume(attached.meaning()));
-    Ok(())
-}
+/// Copies that aren't whole: an older one, and a newer one of another byte.
+const OLDER_BAD: Peb = Peb(
+    NAMED,
+    Vid::Copy(0, 64, WRONG_CHECK_OF_39, 4),
+    Data::Fill(b'9', 64),
+);
+
+const NEWER_BAD: Peb = Peb(
+    NAMED,
+    Vid::Copy(0, 64, WRONG_CHECK_OF_39, 6),
+    Data::Fill(b'8', 64),
+);
+
+/// What `B` holds, behind an erase-counter header that is corrupt, and behind a blank one; a newer eraseblock of it; and one of
+/// bytes 0xFF in its place.
+const CORRUPT_B: Peb = Peb(Ec::Corrupt, Vid::Leb(0, 1, 0), Data::Fill(b'B', 384));
+
+const FORGOTTEN_B: Peb = Peb(Ec::Blank, Vid::Leb(0, 1, 0), Data::Fill(b'B', 384));
+
+const NEWER_B: Peb = Peb(NAMED, Vid::Leb(0, 1, 1), Data::Fill(b'B', 384));
+
+const BLANK_B: Peb = Peb(NAMED, Vid::Leb(0, 1, 0), NO_DATA);
+
+/// A logical eraseblock of a volume that has no record.
+const UNRECORDED: Peb = Peb(
+    NAMED,
+    Vid::Of(VidHeader {
+        vol_id: 1,
+        used_ebs: 1,
+        ..STATIC_0
+    }),
+    Data::Fill(b'a', 384),
+);
 
 /// A logical eraseblock that is blank.
 const BLANK: Leb = Leb::Reads(0xFF, 384, 384);
@@ -94,7 +123,7 @@ static CASES: [Case; 13] = [
         texts: &[
             (
                 0,
-                Text::Reads(&[(0x41, 384), (0x42, 384), (0x43, 384), (0xFF, 6528)]),
+                Text::Reads(&[(b"A", 384), (b"B", 384), (b"C", 384), (b"\xFF", 6528)]),
             ),
             (1, Text::Not(ReadError::NoVolume)),
             (2, Text::Not(ReadError::NoVolume)),
@@ -170,18 +199,18 @@ static CASES: [Case; 13] = [
         images: &[
             (
                 "zeros behind what is read",
-                &[FIRST_ALIGNED, SECOND_ALIGNED, ALIGNED_ZEROS],
+                &[FIRST_ALIGNED, SECOND_ALIGNED, ALIGNED_ZEROED],
             ),
             (
                 "0xFF behind what is read",
-                &[FIRST_ALIGNED, SECOND_ALIGNED, ALIGNED],
+                &[FIRST_ALIGNED, SECOND_ALIGNED, ALIGNED_A],
             ),
         ],
         lebs: &[
             (0, 0, Leb::Reads(0x41, 256, 256)),
             (0, 19, Leb::Reads(0xFF, 256, 256)),
         ],
-        texts: &[(0, Text::Reads(&[(0x41, 256), (0xFF, 4864)]))],
+        texts: &[(0, Text::Reads(&[(b"A", 256), (b"\xFF", 4864)]))],
         ..ROOT
     },
     Case {
@@ -235,6 +264,8 @@ static CASES: [Case; 13] = [
 ];
 
 #[test]
-fn reads_dynamic_volumes(rt: HostRuntime) -> Result<(), Fail> {
+fn attaches_and_reads_dynamic_volumes(rt: HostRuntime) -> Result<(), Fail> {
+    let attached = attached(rt.alloc(), &BASE)?;
+    assert!(rt; has_numbers(&attached) && has_volume(attached.meaning()));
     assert_meanings(&rt, rt.alloc(), &CASES)
 }

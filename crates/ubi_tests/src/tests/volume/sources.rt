@@ -1,18 +1,19 @@
 //! Attaching sources: what is found without the contents, what is read for it, and what fails.
 
-use super::images::{attached, geometry, image};
-use super::pebs::{
-    A, B, BASE, BEYOND_44, FIRST, FIRST_BOOT, FIRST_MARKED, KIND, NEWER_0, NEWER_1, Peb, SECOND,
-    SECOND_BOOT, SECOND_MARKED, TEXT_0, TEXT_1,
-};
+use super::images::{BASE, NEWER_0};
 use crate::tests::probes::{Reads, has_reads};
 use std::alloc::Global;
 use std::fs;
 use std::fs::Files;
 use std::os::unix::fs::FileExt;
 use std::test::Fail;
-use ubi_media::Refusal;
+use ubi_media::{Refusal, VidHeader};
 use ubi_probe::ProbeSource;
+use ubi_probe::headers::STATIC_1;
+use ubi_probe::pebs::{
+    A, B, Data, FIRST, FIRST_BOOT, FIRST_MARKED, NAMED, Peb, SECOND, SECOND_BOOT, SECOND_MARKED,
+    STATIC_A, TEXT_0, TEXT_1, Vid, small, small_image,
+};
 use ubi_scan::{FileSource, MemorySource, StreamError, scan_from};
 use ubi_table::choose_from;
 use ubi_volume::{PlaceContent, Places, attach_places};
@@ -24,6 +25,20 @@ fn content(places: &Places, id: u32) -> Option<PlaceContent> {
         None => None,
     }
 }
+
+/// A newer copy of the second logical eraseblock of the text.
+const NEWER_1: Peb = Peb(
+    NAMED,
+    Vid::Of(VidHeader {
+        copy_flag: true,
+        sqnum: 2,
+        ..STATIC_1
+    }),
+    Data::Fill(b'b', 384),
+);
+
+/// A logical eraseblock beyond those that its volume reserves. It doesn't count.
+const BEYOND: Peb = Peb(NAMED, Vid::Leb(0, 20, 0), Data::Fill(b'D', 384));
 
 /// A text in two logical eraseblocks.
 const TEXT: PlaceContent = PlaceContent::Static {
@@ -74,7 +89,7 @@ static ATTACHED: [Case; 8] = [
         ],
     ),
     (
-        &[FIRST, SECOND, A, B, BEYOND_44],
+        &[FIRST, SECOND, A, B, BEYOND],
         PlaceContent::Dynamic,
         &[
             (0, 0, Some((0, 2))),
@@ -113,9 +128,9 @@ static ATTACHED: [Case; 8] = [
 
 /// Whether volume 0 of an image is as it should be, there is no volume 1, and so much is read to find it.
 fn is_attached(alloc: Global, (pebs, reads_as, next, reads): &Case) -> Result<bool, Fail> {
-    let bytes = image(alloc, pebs)?;
-    let mut source = ProbeSource::new(alloc, &geometry()?, bytes.as_slice(), 0)?;
-    let places = attach_places(alloc, &geometry()?, &mut source)?;
+    let bytes = small_image(alloc, pebs)?;
+    let mut source = ProbeSource::new(alloc, &small()?, bytes.as_slice(), 0)?;
+    let places = attach_places(alloc, &small()?, &mut source)?;
     Ok(
         content(&places, 0) == Some(*reads_as)
             && content(&places, 1).is_none()
@@ -124,43 +139,41 @@ fn is_attached(alloc: Global, (pebs, reads_as, next, reads): &Case) -> Result<bo
     )
 }
 
+/// Whether a source is scanned, its table chosen, and it is attached.
+fn is_found(alloc: Global, bytes: &[u8]) -> Result<bool, Fail> {
+    let geometry = small()?;
+    let mut source = MemorySource::new(bytes);
+    let found = scan_from(alloc, &geometry, &mut source)?;
+    let table = choose_from(alloc, &geometry, &mut source, &found)?;
+    let is_root = match table.get(0) {
+        Some(volume) => volume.reserved == 20,
+        None => false,
+    };
+    let is_attached = attach_places(alloc, &geometry, &mut source).is_ok();
+    Ok(found.winner(0, 2) == Some(4) && is_root && is_attached)
+}
+
 #[test]
 fn finds_what_volumes_read_and_where(rt: HostRuntime) -> Result<(), Fail> {
     for (index, case) in ATTACHED.iter().enumerate() {
         assert!(rt; is_attached(rt.alloc(), case)?, "case {index}");
     }
-    Ok(())
-}
-
-/// Whether a source is scanned, its table chosen, and it is attached.
-fn is_found(alloc: Global, bytes: &[u8]) -> Result<bool, Fail> {
-    let geometry = geometry()?;
-    let mut source = MemorySource::new(bytes);
-    let found = scan_from(alloc, &geometry, &mut source)?;
-    let table = choose_from(alloc, &geometry, &mut source, &found)?;
-    let reserved = table.get(0).map(|volume| volume.reserved);
-    let is_attached = attach_places(alloc, &geometry, &mut source).is_ok();
-    Ok(found.winner(0, 2) == Some(4) && reserved == Some(20) && is_attached)
-}
-
-#[test]
-fn scans_chooses_and_attaches(rt: HostRuntime) -> Result<(), Fail> {
-    let bytes = image(rt.alloc(), &BASE)?;
+    let bytes = small_image(rt.alloc(), &BASE)?;
     assert!(rt; is_found(rt.alloc(), bytes.as_slice())?);
     Ok(())
 }
 
 /// Why bytes aren't attached, where a read of them fails.
 fn error_of(alloc: Global, bytes: &[u8], at: u64) -> Result<Option<StreamError>, Fail> {
-    let mut source = ProbeSource::new(alloc, &geometry()?, bytes, at)?;
-    Ok(attach_places(alloc, &geometry()?, &mut source).err())
+    let mut source = ProbeSource::new(alloc, &small()?, bytes, at)?;
+    Ok(attach_places(alloc, &small()?, &mut source).err())
 }
 
 /// The first piece of two.
 const HALF: [Peb; 3] = [FIRST_BOOT, SECOND_BOOT, TEXT_0];
 
 /// A logical eraseblock of a static volume in a dynamic one.
-const UNLIKE: [Peb; 3] = [FIRST, SECOND, KIND];
+const UNLIKE: [Peb; 3] = [FIRST, SECOND, STATIC_A];
 
 /// Some eraseblocks, which read of them fails, and why they aren't attached then. Each read of the first image fails in
 /// turn, up to one more than there are.
@@ -184,7 +197,7 @@ static FAILING: [(&[Peb], u64, Option<StreamError>); 10] = [
 #[test]
 fn tells_why_a_source_is_not_attached(rt: HostRuntime) -> Result<(), Fail> {
     for (index, (pebs, at, want)) in FAILING.iter().enumerate() {
-        let bytes = image(rt.alloc(), pebs)?;
+        let bytes = small_image(rt.alloc(), pebs)?;
         assert!(rt;
             error_of(rt.alloc(), bytes.as_slice(), *at)? == *want,
             "case {index}"
@@ -202,15 +215,15 @@ where
 {
     fs::write(rt, "attached.img", bytes)?;
     let mut file = FileSource::open(rt, "attached.img")?;
-    let places = attach_places(alloc, &geometry()?, &mut file)?;
+    let places = attach_places(alloc, &small()?, &mut file)?;
     fs::write(rt, "attached.img", bytes.get(..1024).unwrap_or(&[]))?;
-    let error = attach_places(alloc, &geometry()?, &mut file).err();
+    let error = attach_places(alloc, &small()?, &mut file).err();
     Ok(content(&places, 0) == Some(TEXT) && error == Some(StreamError::Read(2, 0)))
 }
 
 #[test]
 fn attaches_a_file(rt: HostRuntime) -> Result<(), Fail> {
-    let bytes = image(rt.alloc(), &[FIRST_BOOT, SECOND_BOOT, TEXT_0, TEXT_1])?;
+    let bytes = small_image(rt.alloc(), &[FIRST_BOOT, SECOND_BOOT, TEXT_0, TEXT_1])?;
     assert!(rt; is_attached_as(&rt, rt.alloc(), bytes.as_slice())?);
     fs::remove_file(&rt, "attached.img")?;
     Ok(())

@@ -1,14 +1,17 @@
 //! What an attach says of each eraseblock.
 
-use super::images::attached;
-use super::pebs::{
-    A, B, BAD_GOOD_OLD, BAD_OLD_GOOD, BEATEN, BEYOND_LAST, C, ERASED, Ec, FIRST, FIRST_BOOT,
-    FORGOTTEN, GOOD_BAD_OLD, GOOD_OLD_BAD, LAST, LAST_OF_8, NONE, OF_OTHERS, OLD_BAD_GOOD,
-    OLD_GOOD_BAD, Peb, SECOND, SECOND_BOOT, STATIC_BEYOND, STRANGER, STRANGER_127, Vid,
-    ZEROS_OF_OTHERS,
+use super::images::{
+    BAD_GOOD_OLD, BAD_OLD_GOOD, GOOD_BAD_OLD, GOOD_OLD_BAD, OLD_BAD_GOOD, OLD_GOOD_BAD,
+    STATIC_BEYOND, attached,
 };
 use std::alloc::Global;
 use std::test::Fail;
+use ubi_probe::headers::CHECK_OF_61;
+use ubi_probe::pebs::{
+    A, B, C, Data, ERASED, Ec, FIRST, FIRST_BOOT, FREE, GARBAGE, NAMED, NO_DATA, Peb, RIGHT,
+    SECOND, SECOND_BOOT, TORN, Vid,
+};
+use ubi_probe::records::ROOT;
 use ubi_volume::BlockState::{Blank, Corrupt, Dropped, Free, Garbage, Orphan, Stale, Table, Used};
 use ubi_volume::{Attached, BlockState};
 
@@ -34,6 +37,44 @@ fn has_states(alloc: Global, (pebs, want): &Case) -> Result<bool, Fail> {
     Ok(has)
 }
 
+/// Logical eraseblocks of another internal volume: one that is dropped, the same behind a blank erase-counter header, and one of
+/// zeros.
+const OF_OTHERS: Peb = Peb(NAMED, Vid::Internal(1, 12), Data::Fill(b'A', 384));
+
+const FORGOTTEN: Peb = Peb(Ec::Blank, Vid::Internal(1, 12), NO_DATA);
+
+const ZEROS_OF_OTHERS: Peb = Peb(NAMED, Vid::Internal(1, 12), Data::Fill(0, 384));
+
+/// The last logical eraseblock that `root` reserves, and the one behind it.
+const LAST: Peb = Peb(NAMED, Vid::Leb(0, 19, 0), Data::Fill(b'A', 384));
+
+const BEYOND_LAST: Peb = Peb(NAMED, Vid::Leb(0, 20, 0), Data::Fill(b'A', 384));
+
+/// Members of volumes 1 and 127, which have no record.
+const STRANGER: Peb = Peb(NAMED, Vid::Leb(1, 0, 0), Data::Fill(b'A', 384));
+
+const STRANGER_127: Peb = Peb(NAMED, Vid::Leb(127, 0, 0), Data::Fill(b'A', 384));
+
+/// The last of eight logical eraseblocks of a static volume that reserves fewer.
+const LAST_OF_8: Peb = Peb(
+    NAMED,
+    Vid::Static(7, 8, 384, CHECK_OF_61),
+    Data::Fill(b'a', 384),
+);
+
+/// An image in which some eraseblocks are beaten by others.
+const BEATEN: [Peb; 9] = [
+    FIRST,
+    SECOND,
+    A,
+    B,
+    C,
+    RIGHT,
+    BEYOND_LAST,
+    Peb(NAMED, Vid::Leb(0, 20, 1), Data::Fill(b'A', 384)),
+    Peb(NAMED, Vid::Table(0, 3), Data::Table(&[ROOT])),
+];
+
 /// The state of each.
 const STATES_OF_BEATEN: [BlockState; 9] = [
     Stale, Table, Stale, Used, Used, Used, Orphan, Orphan, Table,
@@ -43,25 +84,16 @@ const STATES_OF_BEATEN: [BlockState; 9] = [
 static CASES: [Case; 21] = [
     (&[FIRST, SECOND, ERASED], &[Table, Table, Blank]),
     (
-        &[FIRST, SECOND, Peb(Ec::Blank, Vid::Corrupt, NONE)],
+        &[FIRST, SECOND, Peb(Ec::Blank, Vid::Corrupt, NO_DATA)],
         &[Table, Table, Blank],
     ),
+    (&[FIRST, SECOND, FREE], &[Table, Table, Free]),
+    (&[FIRST, SECOND, GARBAGE], &[Table, Table, Garbage]),
     (
-        &[FIRST, SECOND, Peb(Ec::Zero, Vid::Blank, NONE)],
-        &[Table, Table, Free],
-    ),
-    (
-        &[FIRST, SECOND, Peb(Ec::Zero, Vid::Corrupt, NONE)],
-        &[Table, Table, Garbage],
-    ),
-    (
-        &[FIRST, SECOND, Peb(Ec::Corrupt, Vid::Blank, NONE)],
+        &[FIRST, SECOND, Peb(Ec::Corrupt, Vid::Blank, NO_DATA)],
         &[Table, Table, Corrupt],
     ),
-    (
-        &[FIRST, SECOND, Peb(Ec::Corrupt, Vid::Corrupt, NONE)],
-        &[Table, Table, Corrupt],
-    ),
+    (&[FIRST, SECOND, TORN], &[Table, Table, Corrupt]),
     (&[FIRST, SECOND, OF_OTHERS], &[Table, Table, Dropped]),
     (&[FIRST, SECOND, FORGOTTEN], &[Table, Table, Blank]),
     (&[FIRST, SECOND, LAST], &[Table, Table, Used]),
@@ -85,13 +117,8 @@ fn tells_the_state_of_each_eraseblock(rt: HostRuntime) -> Result<(), Fail> {
     for (index, case) in CASES.iter().enumerate() {
         assert!(rt; has_states(rt.alloc(), case)?, "case {index}");
     }
-    Ok(())
-}
-
-#[test]
-fn counts_sequence_numbers_of_dropped_eraseblocks(rt: HostRuntime) -> Result<(), Fail> {
+    // The sequence numbers of dropped eraseblocks count.
     let attached = attached(rt.alloc(), &[FIRST, SECOND, A, B, C, ZEROS_OF_OTHERS])?;
-    assert!(rt; attached.top_sqnum() == 12);
-    assert!(rt; attached.winner(0x7FFF_F000, 0).is_none());
+    assert!(rt; attached.top_sqnum() == 12 && attached.winner(0x7FFF_F000, 0).is_none());
     Ok(())
 }

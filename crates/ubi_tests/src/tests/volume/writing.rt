@@ -1,29 +1,34 @@
 //! Writing volumes through writers that fail.
 
-use super::images::{BASE_TEXT, attached, put_runs};
-use super::pebs::{
-    A, B, BASE, FIRST_BOOT, FIRST_MARKED, HOLED, Peb, SECOND_BOOT, SECOND_MARKED, TEXT_0, TEXT_1,
-};
+use super::images::{BASE, BASE_TEXT, HOLED, attached};
 use crate::tests::probes::WAYS;
 use std::alloc::Global;
 use std::process::Abort;
 use std::test::Fail;
+use ubi_probe::pebs::{
+    A, B, FIRST_BOOT, FIRST_MARKED, Peb, SECOND_BOOT, SECOND_MARKED, TEXT_0, TEXT_1,
+};
+use ubi_probe::texts::bytes_of;
 use ubi_probe::{Failure, ProbeWriter};
 use ubi_volume::{Meaning, ReadError, write_all, write_volume};
 
 /// Some eraseblocks, what their volume 0 reads, as bytes that each stand so many times, and for how many bytes writers
 /// have room.
-type Case = (&'static [Peb], &'static [(u8, usize)], (usize, usize));
+type Case = (
+    &'static [Peb],
+    &'static [(&'static [u8], usize)],
+    (usize, usize),
+);
 
 static WRITTEN: [Case; 5] = [
     (
         &HOLED,
-        &[(0x41, 384), (0xFF, 384), (0x43, 64), (0xFF, 320)],
+        &[(b"A", 384), (b"\xFF", 384), (b"C", 64), (b"\xFF", 320)],
         (0, 1154),
     ),
     (
         &[FIRST_BOOT, SECOND_BOOT, TEXT_0, TEXT_1],
-        &[(0x61, 384), (0x62, 1)],
+        &[(b"a", 384), (b"b", 1)],
         (0, 387),
     ),
     (&BASE, BASE_TEXT, (500, 501)),
@@ -67,18 +72,6 @@ fn assert_written(
     Ok(())
 }
 
-#[test]
-fn writes_volumes_until_it_fails(rt: HostRuntime) -> Result<(), Fail> {
-    let alloc = rt.alloc();
-    for (pebs, runs, rooms) in &WRITTEN {
-        let attached = attached(alloc, pebs)?;
-        let mut text = Vec::new(alloc);
-        put_runs(&mut text, runs)?;
-        assert_written(&rt, alloc, attached.meaning(), text.as_slice(), *rooms)?;
-    }
-    Ok(())
-}
-
 /// Some eraseblocks, and a volume of which nothing is written, with the cause.
 static UNWRITTEN: [(&[Peb], u32, ReadError); 4] = [
     (&[FIRST_MARKED, SECOND_MARKED, A, B], 0, ReadError::Updating),
@@ -88,12 +81,20 @@ static UNWRITTEN: [(&[Peb], u32, ReadError); 4] = [
 ];
 
 #[test]
-fn writes_nothing_of_what_is_not_read(rt: HostRuntime) -> Result<(), Fail> {
+fn writes_volumes_until_it_fails_and_nothing_of_what_is_not_read(
+    rt: HostRuntime,
+) -> Result<(), Fail> {
+    let alloc = rt.alloc();
+    for (pebs, runs, rooms) in &WRITTEN {
+        let attached = attached(alloc, pebs)?;
+        let text = bytes_of(alloc, runs)?;
+        assert_written(&rt, alloc, attached.meaning(), text.as_slice(), *rooms)?;
+    }
     for (pebs, id, cause) in &UNWRITTEN {
-        let attached = attached(rt.alloc(), pebs)?;
-        let mut writer = ProbeWriter::new(rt.alloc(), 1024, 1, Failure::Nothing)?;
-        assert!(rt; write_volume(attached.meaning(), *id, &mut writer) == Err(*cause));
-        assert!(rt; writer.taken().is_empty());
+        let attached = attached(alloc, pebs)?;
+        let mut writer = ProbeWriter::new(alloc, 1024, 1, Failure::Nothing)?;
+        let answer = write_volume(attached.meaning(), *id, &mut writer);
+        assert!(rt; answer == Err(*cause) && writer.taken().is_empty());
     }
     Ok(())
 }
