@@ -30,4 +30,5 @@ pub mod Show
 pub mod Tool
 pub mod Unpack
 pub mod Views
+pub mod Work
 pub mod inner

@@ -69,7 +69,7 @@ pub use outcome::{Outcome, SidesError, ToolError, WRONG_WORDS};
 pub use printing::report;
 pub use progress::ProgressWriter;
 pub use read::read_limited;
-pub use readers::{Checking, Listing, Reading, Showing};
+pub use readers::Reading;
 pub use rename::{run_rename, run_rename_from};
 pub use same::{run_same, run_same_from};
 pub use show::run_show;

@@ -8,6 +8,7 @@ ghost use Rattle.ubi_commands.specs.Dump.{seen};
 ghost use Rattle.ubi_commands.specs.inner.Opened.{IsOpened, IsUnreadOf};
 ghost use Rattle.ubi_commands.specs.Program.{OfFile, OfImage, PlanStays, WithList, WritesPlan, avoided};
 ghost use Rattle.ubi_commands.specs.Rename.{HasRename, RenamesFrom};
+ghost use Rattle.ubi_commands.specs.Work.{HasWork, writes};
 
 use crate::asked::{Change, Dump, Paths, Plan, Rename};
 use crate::change::NewBytes;
@@ -16,7 +17,7 @@ use crate::image_file::load;
 use crate::open_image::{DumpSource, OpenImage, Seen, frame_of, open_beside};
 use crate::outcome::{DONE, Outcome, nothing};
 use crate::output_file::{Output, unwritten_line, write_bytes};
-use crate::writers::{Changing, Renaming, Way, Writing, write_opened};
+use crate::writers::{Way, Writing, write_opened};
 use std::alloc::{AllocError, Global};
 use ubi_change::Avoided;
 use ubi_scan::PlacedFile;
@@ -92,15 +93,15 @@ fn write_pages<D: Disk>(
 
 /// Does the work of a plan over an image that was opened: writes the image after its steps, and then the pages, if there is a
 /// path for them. `from` is the file that was read for it, if one was.
-fn write_plan<D: Disk + Eprint, C: Writing>(
+fn write_plan<D: Disk + Eprint>(
     disk: &mut D,
     alloc: Global,
     opened: OpenImage<DumpSource<'_, D::Placed>>,
     plan: &Plan<'_>,
     from: Option<&str>,
-    command: &C,
+    command: &Writing<'_>,
 ) -> Result<Outcome, AllocError>
-    ensures answer { (d : Files) (dump : Dump) → IsOpened (λ s. IsUnreadOf (seen dump d) plan.now.paths.image.now (⟦<Seen<'static, D::Placed> as PlacedFile>⟧.bytes s.file) s.failures) d plan.now.paths.image.now dump opened.entry → IfOk result (OfFile d dump plan.now.paths.image.now (λ s k agrees. WritesPlan plan.now.paths.out.now plan.now.pages (D.files disk.old) (D.files disk.new) (C.answers command.now s k agrees) (C.writes command.now s k agrees))) }
+    ensures answer { (d : Files) (dump : Dump) → IsOpened (λ s. IsUnreadOf (seen dump d) plan.now.paths.image.now (⟦<Seen<'static, D::Placed> as PlacedFile>⟧.bytes s.file) s.failures) d plan.now.paths.image.now dump opened.entry → IfOk result (OfFile d dump plan.now.paths.image.now (λ s k agrees. WritesPlan plan.now.paths.out.now plan.now.pages (D.files disk.old) (D.files disk.new) (writes command.now s k agrees) (HasWork command.now s k agrees))) }
     ensures stays { PlanStays (D.files disk.old) (D.files disk.new) plan.now }
     ensures from { ForSome from.entry (λ f. Stays (D.files disk.old) (D.files disk.new) f.now) }
     ensures memory { OnErr result (AllStay (D.files disk.old) (D.files disk.new)) }
@@ -154,15 +155,12 @@ pub fn change_file<D: Disk + Eprint>(
         Err(unread) => return unread.answer(),
     };
     let avoided = Avoided::new(frame.marks.as_slice(), asked.plan.keeps_blank);
-    let command = Changing {
-        new: NewBytes {
-            id: asked.id,
-            lnum: asked.lnum,
-            bytes: file.bytes.as_slice(),
-        },
-        avoided: &avoided,
-        stop: asked.plan.stop,
+    let new = NewBytes {
+        id: asked.id,
+        lnum: asked.lnum,
+        bytes: file.bytes.as_slice(),
     };
+    let command = Writing::Change(new, &avoided, asked.plan.stop);
     let from = Some(asked.from);
     write_plan(disk, alloc, opened, &asked.plan, from, &command)
 }
@@ -191,11 +189,7 @@ pub fn rename_file<D: Disk + Eprint>(
         Err(unread) => return unread.answer(),
     };
     let avoided = Avoided::new(frame.marks.as_slice(), asked.plan.keeps_blank);
-    let command = Renaming {
-        avoided: &avoided,
-        id: asked.id,
-        word: asked.name.as_bytes(),
-        stop: asked.plan.stop,
-    };
+    let word = asked.name.as_bytes();
+    let command = Writing::Rename(asked.id, word, &avoided, asked.plan.stop);
     write_plan(disk, alloc, opened, &asked.plan, None, &command)
 }

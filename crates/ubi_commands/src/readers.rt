@@ -2,9 +2,8 @@
 
 ghost use Rattle.std.specs.Bool.{Decides};
 ghost use Rattle.std.specs.Option.{ForSome};
-ghost use Rattle.std.specs.Prelude.{◌≡◌, IfErr, IfOk, List, Result, ℕ};
-ghost use Rattle.ubi_media.specs.Geometry.{Sizes};
-ghost use Rattle.ubi_scan.specs.Source.{Agreed, Narrows, Source};
+ghost use Rattle.std.specs.Prelude.{◌≡◌, IfErr, IfOk};
+ghost use Rattle.ubi_scan.specs.Source.{Narrows};
 ghost use Rattle.ubi_commands.specs.AfterRun.{IsNoWrite, after_run};
 ghost use Rattle.ubi_commands.specs.inner.Ended.{IsToldOfSides, Works};
 ghost use Rattle.ubi_commands.specs.Answer.{Gives, says};
@@ -13,7 +12,7 @@ ghost use Rattle.ubi_commands.specs.Lines.{unlike_line};
 ghost use Rattle.ubi_commands.specs.Numbers.{sizes_of};
 ghost use Rattle.ubi_commands.specs.Program.{OfAsked, OfBoth, OfFile};
 ghost use Rattle.ubi_commands.specs.Same.{ComparesOf};
-ghost use Rattle.ubi_commands.specs.declared.outcome.Outcome.{Outcome};
+ghost use Rattle.ubi_commands.specs.Work.{reads};
 
 use crate::asked::{Asked, Dump};
 use crate::check::run_check_from;
@@ -33,16 +32,26 @@ use ubi_media::Geometry;
 use ubi_scan::{BlockSource, MemorySource};
 
 /// A command that reads one image, and writes no file.
-pub trait Reading {
-    // What it answers of a source.
-    ghost answers: { Self → Sizes → Source → Agreed → Outcome → Type 0 };
+#[derive(Clone, Copy)]
+pub enum Reading {
+    /// `geometry`: the geometries that the headers in a part of the file give, and which part the image is, whatever geometry the
+    /// words give.
+    Geometry(FilePart),
+    /// `list`: the volumes.
+    List,
+    /// `check`: the states of the eraseblocks.
+    Check,
+    /// `show`: the headers of the eraseblock with this number.
+    Show(u32),
+}
 
+impl Reading {
     /// Does its work over a source.
     ///
     /// # Errors
     ///
     /// Read where a read failed. Memory where memory ran out.
-    fn answer<S: BlockSource>(
+    pub fn answer<S: BlockSource>(
         &self,
         alloc: Global,
         geometry: &Geometry,
@@ -50,102 +59,28 @@ pub trait Reading {
     ) -> Result<Outcome, ToolError>
         ensures known { S.known source.new ≡ after_run (S.known source.old) result }
         ensures narrows { Narrows (S.agrees source.old) (S.agrees source.new) }
-        ensures answer { IfOk result (answers self.now geometry.now (S.known source.old) (S.agrees source.new)) }
-        ensures failed { IfErr result IsNoWrite };
-}
-
-/// `geometry`: the geometries that the headers give, and which part of the file the image is, whatever geometry the words give.
-#[derive(Clone, Copy)]
-pub struct Detecting {
-    /// The part of the file in which the headers are looked for.
-    pub part: FilePart,
-}
-
-impl Reading for Detecting {
-    ghost use Rattle.ubi_commands.specs.Geometry.{DetectsOf};
-
-    ghost answers = { λ detecting _. DetectsOf detecting.part };
-
-    fn answer<S: BlockSource>(
-        &self,
-        alloc: Global,
-        _geometry: &Geometry,
-        source: &mut S,
-    ) -> Result<Outcome, ToolError> {
-        run_geometry_from(alloc, source, self.part)
-    }
-}
-
-/// `list`: the volumes.
-#[derive(Clone, Copy)]
-pub struct Listing;
-
-impl Reading for Listing {
-    ghost use Rattle.ubi_commands.specs.List.{ListsOf};
-
-    ghost answers = { λ _. ListsOf };
-
-    fn answer<S: BlockSource>(
-        &self,
-        alloc: Global,
-        geometry: &Geometry,
-        source: &mut S,
-    ) -> Result<Outcome, ToolError> {
-        run_list_from(alloc, geometry, source)
-    }
-}
-
-/// `check`: the states of the eraseblocks.
-#[derive(Clone, Copy)]
-pub struct Checking;
-
-impl Reading for Checking {
-    ghost use Rattle.ubi_commands.specs.Check.{ChecksOf};
-
-    ghost answers = { λ _. ChecksOf };
-
-    fn answer<S: BlockSource>(
-        &self,
-        alloc: Global,
-        geometry: &Geometry,
-        source: &mut S,
-    ) -> Result<Outcome, ToolError> {
-        run_check_from(alloc, geometry, source)
-    }
-}
-
-/// `show`: the headers of one eraseblock.
-#[derive(Clone, Copy)]
-pub struct Showing {
-    /// Which one.
-    pub block: u32,
-}
-
-impl Reading for Showing {
-    ghost use Rattle.ubi_commands.specs.Show.{ShowsOf};
-
-    ghost answers = { λ showing. ShowsOf showing.block };
-
-    fn answer<S: BlockSource>(
-        &self,
-        alloc: Global,
-        geometry: &Geometry,
-        source: &mut S,
-    ) -> Result<Outcome, ToolError> {
-        run_show_from(alloc, geometry, source, self.block)
+        ensures answer { IfOk result (reads self.now geometry.now (S.known source.old) (S.agrees source.new)) }
+        ensures failed { IfErr result IsNoWrite }
+    {
+        match self {
+            Reading::Geometry(part) => run_geometry_from(alloc, source, *part),
+            Reading::List => run_list_from(alloc, geometry, source),
+            Reading::Check => run_check_from(alloc, geometry, source),
+            Reading::Show(block) => run_show_from(alloc, geometry, source, *block),
+        }
     }
 }
 
 /// Does the work of a command over a dump of which it is known how it is read.
-pub fn read_dump<D: Disk, C: Reading>(
+pub fn read_dump<D: Disk>(
     disk: &D,
     alloc: Global,
     known: KnownDump<'_>,
     image: &str,
-    command: &C,
+    command: &Reading,
 ) -> Result<Outcome, AllocError>
     requires kept { ForSome known.kept (λ bytes. IsPartOf (D.files disk.now) known.dump image.now bytes.items) }
-    ensures { IfOk result (OfFile (D.files disk.now) known.entry.dump image.now (C.answers command.now)) }
+    ensures { IfOk result (OfFile (D.files disk.now) known.entry.dump image.now (reads command.now)) }
 {
     let KnownDump { dump, kept } = known;
     let frame = match frame_of(alloc, &dump) {
@@ -171,14 +106,14 @@ pub fn read_dump<D: Disk, C: Reading>(
 }
 
 /// Does the work of a command over an image file, which is read as the words tell, or as its own headers do.
-pub fn read_file<D: Disk, C: Reading>(
+pub fn read_file<D: Disk>(
     disk: &D,
     alloc: Global,
     asked: &Asked<'_>,
     image: &str,
-    command: &C,
+    command: &Reading,
 ) -> Result<Outcome, AllocError>
-    ensures { IfOk result (OfAsked (D.files disk.now) (D.files disk.now) asked.now image.now (C.answers command.now)) }
+    ensures { IfOk result (OfAsked (D.files disk.now) (D.files disk.now) asked.now image.now (reads command.now)) }
 {
     match find_dump(disk, alloc, asked, image, "") {
         Ok(known) => read_dump(disk, alloc, known, image, command),

@@ -19,10 +19,10 @@ use crate::finding::KnownDump;
 use crate::numbers::Numbers;
 use crate::outcome::Outcome;
 use crate::planners::{change_file, rename_file};
-use crate::readers::{Checking, Detecting, Listing, Showing, read_dump, read_file, same_files};
+use crate::readers::{Reading, read_dump, read_file, same_files};
 use crate::unpack::unpack_file;
 use crate::view::FilePart;
-use crate::writers::{Extracting, Normalising, write_file};
+use crate::writers::{Writing, write_file};
 use clap::ArgMatches;
 use std::alloc::{AllocError, Global};
 
@@ -280,22 +280,22 @@ pub fn run_request<D: Disk + Eprint>(
     match request {
         Request::Geometry { part, image } => {
             let known = KnownDump::given(Dump::greatest(part));
-            read_dump(disk, alloc, known, image, &Detecting { part })
+            read_dump(disk, alloc, known, image, &Reading::Geometry(part))
         }
-        Request::List { dump, image } => read_file(disk, alloc, &dump, image, &Listing),
-        Request::Check { dump, image } => read_file(disk, alloc, &dump, image, &Checking),
+        Request::List { dump, image } => read_file(disk, alloc, &dump, image, &Reading::List),
+        Request::Check { dump, image } => read_file(disk, alloc, &dump, image, &Reading::Check),
         Request::Show { dump, image, block } => {
-            read_file(disk, alloc, &dump, image, &Showing { block })
+            read_file(disk, alloc, &dump, image, &Reading::Show(block))
         }
         Request::Extract { dump, extract } => {
-            let command = Extracting { key: extract.key };
+            let command = Writing::Extract(extract.key);
             write_file(disk, alloc, &dump, &extract.paths, &command, false)
         }
         Request::Unpack { dump, paths } => unpack_file(disk, alloc, &dump, &paths),
         Request::Compose { numbers, new } => compose_file(disk, alloc, numbers, &new),
         Request::Build { numbers, new } => build_file(disk, alloc, numbers, &new),
         Request::Normalise { dump, paths } => {
-            write_file(disk, alloc, &dump, &paths, &Normalising, is_watched)
+            write_file(disk, alloc, &dump, &paths, &Writing::Normalise, is_watched)
         }
         Request::Same { dump, left, right } => same_files(disk, alloc, &dump, left, right),
         Request::Change { dump, change } => change_file(disk, alloc, &dump, &change),

@@ -4,8 +4,7 @@
 
 ghost use Rattle.std.specs.Option.{ForSome};
 ghost use Rattle.std.specs.Prelude.{◌≡◌, ◌≢◌, [], ℕ, Bool, Err, IfOk, List, MatchResult, Ok, OnErr, Option, Result, codes, false, is_some};
-ghost use Rattle.ubi_media.specs.Geometry.{Sizes};
-ghost use Rattle.ubi_scan.specs.Source.{Agreed, Narrows, Source};
+ghost use Rattle.ubi_scan.specs.Source.{Narrows};
 ghost use Rattle.ubi_commands.specs.AfterRun.{WhereNotDone, after_run};
 ghost use Rattle.ubi_commands.specs.Answer.{Gives, says};
 ghost use Rattle.ubi_commands.specs.Lines.{file_line};
@@ -16,7 +15,7 @@ ghost use Rattle.ubi_commands.specs.inner.Kept.{IsPartOf};
 ghost use Rattle.ubi_commands.specs.inner.Opened.{IsOpened, IsUnreadOf};
 ghost use Rattle.ubi_commands.specs.inner.Ended.{IsEnded, Works};
 ghost use Rattle.ubi_commands.specs.Program.{OfAsked, OfFile, WritesInto};
-ghost use Rattle.ubi_commands.specs.declared.outcome.Outcome.{Outcome};
+ghost use Rattle.ubi_commands.specs.Work.{HasWork, writes};
 ghost use Rattle.ubi_commands.specs.declared.asked.Dump.{Dump};
 
 use crate::asked::{Asked, Paths};
@@ -41,13 +40,19 @@ use ubi_media::Geometry;
 use ubi_scan::{BlockSource, MemorySource, PlacedFile};
 
 /// A command that reads one image, and writes a file.
-pub trait Writing {
-    // What it answers of a source, which pages it gives, and what the writer receives meanwhile.
-    ghost answers: { Self → Sizes → Source → Agreed → List ℕ → Option (List ℕ) → Option (List ℕ) → Outcome → Type 0 };
+#[derive(Clone, Copy)]
+pub enum Writing<'a> {
+    /// `normalise`: the normal image.
+    Normalise,
+    /// `extract`: what this volume reads.
+    Extract(VolumeKey<'a>),
+    /// `change`: what is left after the first steps of a change; after all where their number is left out.
+    Change(NewBytes<'a>, &'a Avoided<'a>, Option<u32>),
+    /// `rename`: what is left after the first steps of a rename of the volume with this number; the word shows its new name.
+    Rename(u32, &'a [u8], &'a Avoided<'a>, Option<u32>),
+}
 
-    // That there is something to write.
-    ghost writes: { Self → Sizes → Source → Agreed → Type 0 };
-
+impl Writing<'_> {
     /// Does its work over a source, into a writer, and adds the pages that a plan programs to `pages`.
     ///
     /// # Errors
@@ -64,129 +69,21 @@ pub trait Writing {
         requires { pages.old.items ≡ [] }
         ensures known { S.known source.new ≡ after_run (S.known source.old) result }
         ensures narrows { Narrows (S.agrees source.old) (S.agrees source.new) }
-        ensures answer { IfOk result (answers self.now geometry.now (S.known source.old) (S.agrees source.new) pages.new.items (W.contents writer.old) (W.contents writer.new)) }
+        ensures answer { IfOk result (writes self.now geometry.now (S.known source.old) (S.agrees source.new) pages.new.items (W.contents writer.old) (W.contents writer.new)) }
         ensures untouched { WhereNotDone (writer.new ≡ writer.old) result }
-        ensures done { IfOk result (λ o. o.status ≡ 0 → writes self.now geometry.now (S.known source.old) (S.agrees source.new)) }
-        ensures failed { result ≡ Err ToolError.Write → writes self.now geometry.now (S.known source.old) (S.agrees source.new) };
-}
-
-/// `normalise`: the normal image.
-#[derive(Clone, Copy)]
-pub struct Normalising;
-
-impl Writing for Normalising {
-    ghost use Rattle.ubi_commands.specs.Normalise.{HasMeaning, NormalisesOf};
-
-    ghost answers = { λ _ s k agrees _. NormalisesOf s k agrees };
-
-    ghost writes = { λ _ s k agrees. HasMeaning s agrees };
-
-    fn answer<S: BlockSource, W: Write>(
-        &self,
-        alloc: Global,
-        geometry: &Geometry,
-        source: &mut S,
-        writer: &mut W,
-        _pages: &mut Vec<u8>,
-    ) -> Result<Outcome, ToolError> {
-        run_normalise(alloc, geometry, source, writer)
-    }
-}
-
-/// `extract`: what a volume reads.
-#[derive(Clone, Copy)]
-pub struct Extracting<'a> {
-    /// The volume.
-    pub key: VolumeKey<'a>,
-}
-
-impl Writing for Extracting<'_> {
-    ghost use Rattle.ubi_commands.specs.Extract.{ExtractsOf, HasTextIn};
-
-    ghost answers = { λ extracting s k agrees _. ExtractsOf extracting.key s k agrees };
-
-    ghost writes = { λ extracting s k agrees. HasTextIn extracting.key s agrees };
-
-    fn answer<S: BlockSource, W: Write>(
-        &self,
-        alloc: Global,
-        geometry: &Geometry,
-        source: &mut S,
-        writer: &mut W,
-        _pages: &mut Vec<u8>,
-    ) -> Result<Outcome, ToolError> {
-        run_extract_from(alloc, geometry, source, self.key, writer)
-    }
-}
-
-/// `change`: what is left after the first steps of a change.
-#[derive(Clone, Copy)]
-pub struct Changing<'a> {
-    /// The new bytes, and where they go.
-    pub new: NewBytes<'a>,
-    /// What the plan avoids.
-    pub avoided: &'a Avoided<'a>,
-    /// After how many steps; after all where it is left out.
-    pub stop: Option<u32>,
-}
-
-impl Writing for Changing<'_> {
-    ghost use Rattle.ubi_commands.specs.Change.{ChangesFrom, HasPlan};
-
-    ghost answers = { λ changing. ChangesFrom changing.avoided.now changing.new.id changing.new.lnum changing.new.bytes.now changing.stop };
-
-    ghost writes = { λ changing. HasPlan changing.avoided.now changing.new.id changing.new.lnum changing.new.bytes.now };
-
-    fn answer<S: BlockSource, W: Write>(
-        &self,
-        alloc: Global,
-        geometry: &Geometry,
-        source: &mut S,
-        writer: &mut W,
-        pages: &mut Vec<u8>,
-    ) -> Result<Outcome, ToolError> {
-        let Changing { new, avoided, stop } = self;
-        run_change_from(alloc, geometry, source, avoided, new, *stop, writer, pages)
-    }
-}
-
-/// `rename`: what is left after the first steps of a rename.
-#[derive(Clone, Copy)]
-pub struct Renaming<'a> {
-    /// What the plan avoids.
-    pub avoided: &'a Avoided<'a>,
-    /// The number of the volume.
-    pub id: u32,
-    /// The word that shows the new name.
-    pub word: &'a [u8],
-    /// After how many steps; after all where it is left out.
-    pub stop: Option<u32>,
-}
-
-impl Writing for Renaming<'_> {
-    ghost use Rattle.ubi_commands.specs.Rename.{HasRename, RenamesFrom};
-
-    ghost answers = { λ renaming. RenamesFrom renaming.avoided.now renaming.id renaming.word.now renaming.stop };
-
-    ghost writes = { λ renaming. HasRename renaming.avoided.now renaming.id renaming.word.now };
-
-    fn answer<S: BlockSource, W: Write>(
-        &self,
-        alloc: Global,
-        geometry: &Geometry,
-        source: &mut S,
-        writer: &mut W,
-        pages: &mut Vec<u8>,
-    ) -> Result<Outcome, ToolError> {
-        let Renaming {
-            avoided,
-            id,
-            word,
-            stop,
-        } = self;
-        run_rename_from(
-            alloc, geometry, source, avoided, *id, word, *stop, writer, pages,
-        )
+        ensures done { IfOk result (λ o. o.status ≡ 0 → HasWork self.now geometry.now (S.known source.old) (S.agrees source.new)) }
+        ensures failed { result ≡ Err ToolError.Write → HasWork self.now geometry.now (S.known source.old) (S.agrees source.new) }
+    {
+        match self {
+            Writing::Normalise => run_normalise(alloc, geometry, source, writer),
+            Writing::Extract(key) => run_extract_from(alloc, geometry, source, *key, writer),
+            Writing::Change(new, avoided, stop) => {
+                run_change_from(alloc, geometry, source, avoided, new, *stop, writer, pages)
+            }
+            Writing::Rename(id, word, avoided, stop) => run_rename_from(
+                alloc, geometry, source, avoided, *id, word, *stop, writer, pages,
+            ),
+        }
     }
 }
 
@@ -269,13 +166,13 @@ pub struct Way<'a> {
 
 /// Does the work of a command over a source, into a file, which is opened at the first write, or once the work is done. Gives
 /// the disk back. (The outcome isn't in the result: beside memory, a caller learns nothing of a reference.)
-fn work_late<'a, D: Disk + Eprint, S: BlockSource, C: Writing, K: Target>(
+fn work_late<'a, D: Disk + Eprint, S: BlockSource, K: Target>(
     disk: &'a mut D,
     alloc: Global,
     geometry: &Geometry,
     source: &mut S,
     way: &Way<'_>,
-    command: &C,
+    command: &Writing<'_>,
     faults: Faults,
     pages: &mut Vec<u8>,
     outcome: &mut Result<Outcome, AllocError>,
@@ -289,7 +186,7 @@ fn work_late<'a, D: Disk + Eprint, S: BlockSource, C: Writing, K: Target>(
     requires unwritten { Gives faults.unwritten (says (file_line (codes "cannot write ") way.now.paths.out.now) 1) }
     ensures same { result.ghost_name ≡ K.disk }
     ensures narrows { Narrows (S.agrees source.old) (S.agrees source.new) }
-    ensures answer { IfOk outcome.new (Works (S.known source.old) (S.known source.new) way.now.paths.image.now (WritesInto way.now.paths.out.now K.files (D.files result.now) (C.answers command.now geometry.now (S.known source.old) (S.agrees source.new) pages.new.items) (C.writes command.now geometry.now (S.known source.old) (S.agrees source.new)))) }
+    ensures answer { IfOk outcome.new (Works (S.known source.old) (S.known source.new) way.now.paths.image.now (WritesInto way.now.paths.out.now K.files (D.files result.now) (writes command.now geometry.now (S.known source.old) (S.agrees source.new) pages.new.items) (HasWork command.now geometry.now (S.known source.old) (S.agrees source.new)))) }
     ensures others { OthersStay K.files (D.files result.now) way.now.paths.out.now }
     ensures shut { K.may_open ≡ false → D.files result.now ≡ K.files }
     ensures memory { OnErr outcome.new (AllStay K.files (D.files result.now)) }
@@ -307,18 +204,18 @@ fn work_late<'a, D: Disk + Eprint, S: BlockSource, C: Writing, K: Target>(
 }
 
 /// Does the work of a command over a source, into a file, which is opened at the first write, or once the work is done.
-fn work_into<D: Disk + Eprint, S: BlockSource, C: Writing>(
+fn work_into<D: Disk + Eprint, S: BlockSource>(
     disk: &mut D,
     alloc: Global,
     geometry: &Geometry,
     source: &mut S,
     way: &Way<'_>,
-    command: &C,
+    command: &Writing<'_>,
     pages: &mut Vec<u8>,
 ) -> Result<Outcome, AllocError>
     requires { pages.old.items ≡ [] }
     ensures narrows { Narrows (S.agrees source.old) (S.agrees source.new) }
-    ensures answer { IfOk result (Works (S.known source.old) (S.known source.new) way.now.paths.image.now (WritesInto way.now.paths.out.now (D.files disk.old) (D.files disk.new) (C.answers command.now geometry.now (S.known source.old) (S.agrees source.new) pages.new.items) (C.writes command.now geometry.now (S.known source.old) (S.agrees source.new)))) }
+    ensures answer { IfOk result (Works (S.known source.old) (S.known source.new) way.now.paths.image.now (WritesInto way.now.paths.out.now (D.files disk.old) (D.files disk.new) (writes command.now geometry.now (S.known source.old) (S.agrees source.new) pages.new.items) (HasWork command.now geometry.now (S.known source.old) (S.agrees source.new)))) }
     ensures others { OthersStay (D.files disk.old) (D.files disk.new) way.now.paths.out.now }
     ensures shut { way.now.may_open ≡ false → D.files disk.new ≡ D.files disk.old }
     ensures memory { OnErr result (AllStay (D.files disk.old) (D.files disk.new)) }
@@ -328,7 +225,7 @@ fn work_into<D: Disk + Eprint, S: BlockSource, C: Writing>(
         unwritten: unwritten_line(alloc, way.paths.out)?,
     };
     let mut outcome = Err(AllocError);
-    let _ = work_late::<D, S, C, Brand>(
+    let _ = work_late::<D, S, Brand>(
         disk,
         alloc,
         geometry,
@@ -343,16 +240,16 @@ fn work_into<D: Disk + Eprint, S: BlockSource, C: Writing>(
 }
 
 /// Does the work of a command over an image that was opened, into a file.
-pub fn write_opened<D: Disk + Eprint, C: Writing>(
+pub fn write_opened<D: Disk + Eprint>(
     disk: &mut D,
     alloc: Global,
     opened: OpenImage<DumpSource<'_, D::Placed>>,
     way: &Way<'_>,
-    command: &C,
+    command: &Writing<'_>,
     pages: &mut Vec<u8>,
 ) -> Result<Outcome, AllocError>
     requires { pages.old.items ≡ [] }
-    ensures answer { (d : Files) (dump : Dump) → IsOpened (λ s. IsUnreadOf (seen dump d) way.now.paths.image.now (⟦<Seen<'static, D::Placed> as PlacedFile>⟧.bytes s.file) s.failures) d way.now.paths.image.now dump opened.entry → IfOk result (OfFile d dump way.now.paths.image.now (λ s k agrees. WritesInto way.now.paths.out.now (D.files disk.old) (D.files disk.new) (C.answers command.now s k agrees pages.new.items) (C.writes command.now s k agrees))) }
+    ensures answer { (d : Files) (dump : Dump) → IsOpened (λ s. IsUnreadOf (seen dump d) way.now.paths.image.now (⟦<Seen<'static, D::Placed> as PlacedFile>⟧.bytes s.file) s.failures) d way.now.paths.image.now dump opened.entry → IfOk result (OfFile d dump way.now.paths.image.now (λ s k agrees. WritesInto way.now.paths.out.now (D.files disk.old) (D.files disk.new) (writes command.now s k agrees pages.new.items) (HasWork command.now s k agrees))) }
     ensures others { OthersStay (D.files disk.old) (D.files disk.new) way.now.paths.out.now }
     ensures shut { way.now.may_open ≡ false → D.files disk.new ≡ D.files disk.old }
     ensures memory { OnErr result (AllStay (D.files disk.old) (D.files disk.new)) }
@@ -379,16 +276,16 @@ pub fn write_opened<D: Disk + Eprint, C: Writing>(
 }
 
 /// Does the work of a command over a dump of which it is known how it is read, into a file. What it gives of pages isn't used.
-fn write_dump<D: Disk + Eprint, C: Writing>(
+fn write_dump<D: Disk + Eprint>(
     disk: &mut D,
     alloc: Global,
     known: KnownDump<'_>,
     paths: &Paths<'_>,
-    command: &C,
+    command: &Writing<'_>,
     is_watched: bool,
 ) -> Result<Outcome, AllocError>
     requires kept { ForSome known.kept (λ bytes. IsPartOf (D.files disk.old) known.dump paths.now.image.now bytes.items) }
-    ensures answer { IfOk result (λ o. (pages : List ℕ) × OfFile (D.files disk.old) known.entry.dump paths.now.image.now (λ s k agrees. WritesInto paths.now.out.now (D.files disk.old) (D.files disk.new) (C.answers command.now s k agrees pages) (C.writes command.now s k agrees)) o) }
+    ensures answer { IfOk result (λ o. (pages : List ℕ) × OfFile (D.files disk.old) known.entry.dump paths.now.image.now (λ s k agrees. WritesInto paths.now.out.now (D.files disk.old) (D.files disk.new) (writes command.now s k agrees pages) (HasWork command.now s k agrees)) o) }
     ensures others { OthersStay (D.files disk.old) (D.files disk.new) paths.now.out.now }
     ensures memory { OnErr result (AllStay (D.files disk.old) (D.files disk.new)) }
 {
@@ -410,15 +307,15 @@ fn write_dump<D: Disk + Eprint, C: Writing>(
 }
 
 /// Does the work of a command over one file, which is read as the words tell, or as its own headers do, into another.
-pub fn write_file<D: Disk + Eprint, C: Writing>(
+pub fn write_file<D: Disk + Eprint>(
     disk: &mut D,
     alloc: Global,
     asked: &Asked<'_>,
     paths: &Paths<'_>,
-    command: &C,
+    command: &Writing<'_>,
     is_watched: bool,
 ) -> Result<Outcome, AllocError>
-    ensures answer { IfOk result (λ o. (pages : List ℕ) × OfAsked (D.files disk.old) (D.files disk.new) asked.now paths.now.image.now (λ s k agrees. WritesInto paths.now.out.now (D.files disk.old) (D.files disk.new) (C.answers command.now s k agrees pages) (C.writes command.now s k agrees)) o) }
+    ensures answer { IfOk result (λ o. (pages : List ℕ) × OfAsked (D.files disk.old) (D.files disk.new) asked.now paths.now.image.now (λ s k agrees. WritesInto paths.now.out.now (D.files disk.old) (D.files disk.new) (writes command.now s k agrees pages) (HasWork command.now s k agrees)) o) }
     ensures others { OthersStay (D.files disk.old) (D.files disk.new) paths.now.out.now }
     ensures memory { OnErr result (AllStay (D.files disk.old) (D.files disk.new)) }
 {

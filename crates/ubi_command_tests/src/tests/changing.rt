@@ -4,8 +4,8 @@ use std::alloc::Global;
 use std::test::Fail;
 use ubi_change::Avoided;
 use ubi_commands::{
-    Checking, Listing, NewBytes, Outcome, Reading, Showing, run_change, run_change_from,
-    run_rename, run_rename_from, run_same, run_same_from,
+    NewBytes, Outcome, Reading, run_change, run_change_from, run_rename, run_rename_from, run_same,
+    run_same_from,
 };
 use ubi_compose::normalise_to;
 use ubi_probe::pebs::{
@@ -96,9 +96,9 @@ fn is_told(answer: &Outcome, want: &Outcome, has_to: bool) -> bool {
 
 /// Whether a command that reads has an answer for a source that changes after so many reads, and, where it has to be,
 /// that of one that doesn't.
-fn is_answered<C: Reading>(
+fn is_answered(
     alloc: Global,
-    command: &C,
+    command: Reading,
     (first, then): (&[u8], &[u8]),
     left: u64,
     has_to: bool,
@@ -136,9 +136,9 @@ fn is_compared<'a>(
 fn are_answered(alloc: Global, first: &[u8], then: &[u8], left: u64) -> Result<bool, Fail> {
     let (bytes, is_same) = ((first, then), left == 49);
     Ok(
-        is_answered(alloc, &Checking, bytes, left, is_same)?
-            && is_answered(alloc, &Listing, bytes, left, is_same)?
-            && is_answered(alloc, &Showing { block: 1 }, bytes, left, left >= 2)?
+        is_answered(alloc, Reading::Check, bytes, left, is_same)?
+            && is_answered(alloc, Reading::List, bytes, left, is_same)?
+            && is_answered(alloc, Reading::Show(1), bytes, left, left >= 2)?
             && is_compared(alloc, first, then, left)?
             && is_sound(alloc, first, then, left)?,
     )

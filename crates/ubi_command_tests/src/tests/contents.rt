@@ -203,25 +203,38 @@ impl Contents {
 
     /// The bytes.
     pub fn bytes(&self, alloc: Global) -> Result<Vec<u8>, Fail> {
-        let (mut bytes, over): (Vec<u8>, &[(usize, &[u8])]) = match self.parts() {
-            Contents::Pebs(pebs, over) => (small_image(alloc, pebs)?, over),
-            Contents::Unnumbered(pebs) => (unnumbered_of(alloc, &small()?, pebs)?, &[]),
-            Contents::UnnumberedBut(pebs, over) => (unnumbered_of(alloc, &small()?, pebs)?, over),
-            Contents::Wide(pebs) => {
-                let geometry = Geometry::new(1024, 256, 64, 256, 32)?;
-                (image_of(alloc, &geometry, pebs)?, &[])
-            }
-            Contents::Runs(runs) | Contents::First(runs, _) => (bytes_of(alloc, runs)?, &[]),
-            Contents::Chip(chip, _) => {
-                (chip.image(alloc, &chip.geometry()?, &[SMALL_ROOT])?, &[])
-            }
-            _ => return Err("a name of a name".into()),
-        };
+        let parts = self.parts();
+        let mut bytes = parts.plain(alloc)?;
         if let Contents::First(_, len) | Contents::Chip(_, len) = *self {
             bytes.truncate(len);
         }
-        put_over(bytes.as_mut_slice(), over);
+        put_over(bytes.as_mut_slice(), parts.over());
         Ok(bytes)
+    }
+
+    /// Those of its eraseblocks, or its own, before others are written over them.
+    fn plain(&self, alloc: Global) -> Result<Vec<u8>, Fail> {
+        match *self {
+            Contents::Pebs(pebs, _) => small_image(alloc, pebs),
+            Contents::Unnumbered(pebs) | Contents::UnnumberedBut(pebs, _) => {
+                unnumbered_of(alloc, &small()?, pebs)
+            }
+            Contents::Wide(pebs) => {
+                let geometry = Geometry::new(1024, 256, 64, 256, 32)?;
+                image_of(alloc, &geometry, pebs)
+            }
+            Contents::Runs(runs) | Contents::First(runs, _) => bytes_of(alloc, runs),
+            Contents::Chip(chip, _) => chip.image(alloc, &chip.geometry()?, &[SMALL_ROOT]),
+            _ => Err("a name of a name".into()),
+        }
+    }
+
+    /// What is written over them, each with its place.
+    fn over(&self) -> &'static [(usize, &'static [u8])] {
+        match *self {
+            Contents::Pebs(_, over) | Contents::UnnumberedBut(_, over) => over,
+            _ => &[],
+        }
     }
 }
 

@@ -1,14 +1,15 @@
 use Rattle.ubi_commands.proofs.Prelude.{List, ap, refl, subst, sym, ◌∙◌, ℕ, IfOk, Option, fresh, contents_of}
 use Rattle.ubi_commands.proofs.Into.{into_file, memory_ended, still_unopened}
 use Rattle.ubi_commands.proofs.Outcomes.{kept_since, others_stay}
+use Rattle.ubi_commands.specs.Work.{HasWork, writes}
 use Rattle.ubi_commands.proofs.writers.work_late.Goals as goal
 
 pub returns-clause-answer : goal.returns-clause-answer
 returns-clause-answer g c =
     let k = g.S.BlockSource.known c.args.source.now in
     let agrees = g.S.BlockSource.agrees c.answer-answer.new.source in
-    let answers = g.C.Writing.answers c.args.command.now c.args.geometry.now k agrees c.answer-answer.new.pages.items in
-    let writes = g.C.Writing.writes c.args.command.now c.args.geometry.now k agrees in
+    let answers = writes c.args.command.now c.args.geometry.now k agrees c.answer-answer.new.pages.items in
+    let work = HasWork c.args.command.now c.args.geometry.now k agrees in
     let file = c.ended.new.late.file in
     let empty = fresh g.K.Target.files in
     let parts = c.into_parts-disk.ensures in
@@ -20,7 +21,7 @@ returns-clause-answer g c =
     c.new-late.result c.into_writer-late.result c.ended.new.late c.new-progress.ensures c.new-late.ensures
     c.answer-answer.ensures.untouched c.into_writer-late.ensures c.ended.ensures.untouched in
     into_file c.answer-answer.result k (g.S.BlockSource.known c.answer-answer.new.source) c.args.way.now.paths.image.now c.args.way.now.paths.out.now
-    g.K.Target.files (g.D.Disk.files c.keep_file.new.disk) answers writes (λ f. g.D.Output.Write.contents f.writer)
+    g.K.Target.files (g.D.Disk.files c.keep_file.new.disk) answers work (λ f. g.D.Output.Write.contents f.writer)
     (λ f. f.path.now) g.K.Target.path empty file _ _ c.ended.result c.requires.named refl
     (rw parts.file at parts.named)
     (kept_since (λ f. g.D.Output.Write.contents f.writer) (λ f. f.path.now) g.K.Target.files (g.D.Disk.files c.into_parts-disk.result.0.now)

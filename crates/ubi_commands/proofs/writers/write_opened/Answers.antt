@@ -1,5 +1,6 @@
 use Rattle.ubi_commands.proofs.Prelude.{◌∙◌, IfOk-weaker, keeps_promise, WritesInto}
 use Rattle.ubi_commands.proofs.Ended.{at_places, by_bytes}
+use Rattle.ubi_commands.specs.Work.{HasWork, writes}
 use Rattle.ubi_commands.proofs.writers.write_opened.Goals as goal
 
 pub returns-in-AtPlaces-clause-answer : goal.returns-in-AtPlaces-clause-answer
@@ -10,7 +11,7 @@ returns-in-AtPlaces-clause-answer g c d dump is =
     let h = rw c.in-AtPlaces.is at is in
     IfOk-weaker c.work_into.result _ _
     (λ o work. at_places d dump paths.image.now
-    (λ s k agrees. WritesInto paths.out.now before e (g.C.Writing.answers c.args.command.now s k agrees c.work_into.new.pages.items) (g.C.Writing.writes c.args.command.now s k agrees))
+    (λ s k agrees. WritesInto paths.out.now before e (writes c.args.command.now s k agrees c.work_into.new.pages.items) (HasWork c.args.command.now s k agrees))
     c.in-AtPlaces.file.geometry h.0 _ _ _ o h.1 h.2 h.3 (keeps_promise _ _ _ c.work_into.new.source.told) work)
     c.work_into.ensures.answer
 
@@ -22,7 +23,7 @@ returns-in-Whole-clause-answer g c d dump is =
     let h = rw c.in-Whole.is at is in
     IfOk-weaker c.work_into-in-Whole.result _ _
     (λ o work. by_bytes d dump paths.image.now
-    (λ s k agrees. WritesInto paths.out.now before e (g.C.Writing.answers c.args.command.now s k agrees c.work_into-in-Whole.new.pages.items) (g.C.Writing.writes c.args.command.now s k agrees))
+    (λ s k agrees. WritesInto paths.out.now before e (writes c.args.command.now s k agrees c.work_into-in-Whole.new.pages.items) (HasWork c.args.command.now s k agrees))
     c.in-Whole.file.geometry h.0 c.in-Whole.file.bytes.items _ _ o h.1 h.2 h.3 (c.new-source.ensures ∙ c.as_slice.ensures.value)
     c.work_into-in-Whole.ensures.narrows work)
     c.work_into-in-Whole.ensures.answer
