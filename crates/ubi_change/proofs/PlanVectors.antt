@@ -1,5 +1,5 @@
 -- Plans, the places where they turn, and the images that they leave, computed by the definitions.
-use Rattle.ubi_change.proofs.Prelude.{◌≡◌, ℕ, List, [], ◌∷◌, ◌++◌, false, replicate, refl, FinMap, check_from, remainder, ec_fields, ec_reading, filled, overwrite, form_of, Sizes, vid_fields, vid_reading, VolumeRecord, leb_cmp, Whole, Meant, BlockState, turn, mapped_plan, unmapped_plan, after, takeable, Step}
+use Rattle.ubi_change.proofs.Prelude.{◌≡◌, ℕ, List, [], ◌∷◌, ◌++◌, false, replicate, refl, ⊤, FinMap, check_from, remainder, ec_fields, ec_reading, filled, overwrite, form_of, Sizes, vid_fields, vid_reading, VolumeRecord, leb_cmp, Whole, Meant, BlockState, turn, mapped_plan, unmapped_plan, after, takeable, Step}
 use Rattle.ubi_media.specs.Ec as ec
 use Rattle.ubi_media.specs.Vid as vid
 use Rattle.ubi_media.specs.declared.vid.VolKind.TheVariants as kind
@@ -183,6 +183,12 @@ peb e v text = filled 512 (e ++ v ++ text)
 abbrev wide_peb : List ℕ → List ℕ → List ℕ → List ℕ
 wide_peb e v text = filled 1024 (filled 256 (e ++ v) ++ text)
 
+-- what is unfolded to compute a plan on literals
+unfoldable on_literals : ⊤
+unfolding filled overwrite ec_reading ec_fields ec.first_fault ec.breaks ec.judged vid_reading vid_fields
+    vid.first_fault vid.breaks vid.judged vid.header_of vid.fields_from form_of check_from remainder
+on_literals = tt
+
 abbrev copied_image : List (List ℕ)
 copied_image = peb ec_0_named table_0 table ∷ peb ec_0_named table_1 table ∷ peb ec_0_named leb_0 (replicate 384 65)
     ∷ peb ec_0_named leb_1 (replicate 384 66) ∷ peb ec_0_named leb_2 (replicate 384 67) ∷ filled 512 ec_0_named ∷ []
@@ -198,30 +204,17 @@ abbrev copied_at : Meant → FinMap leb_cmp ℕ → Whole
 copied_at m w = attached m w (state.Table ∷ state.Table ∷ state.Used ∷ state.Used ∷ state.Used ∷ state.Free ∷ []) 0
     305419896 0
 
-copied_able : takeable g1 copied_image
-    (state.Table ∷ state.Table ∷ state.Used ∷ state.Used ∷ state.Used ∷ state.Free ∷ []) ≡ 5 ∷ []
-unfolding filled overwrite ec_reading ec_fields ec.first_fault ec.breaks ec.judged vid_reading vid_fields
-    vid.first_fault vid.breaks vid.judged vid.header_of vid.fields_from form_of check_from remainder
-copied_able = refl
-
-copied_plan : (m : Meant) (w : FinMap leb_cmp ℕ)
-    → mapped_plan g1 copied_image (copied_at m w) root 0 1 copied_new 5 3 ≡ copied_steps
-unfolding filled overwrite ec_reading ec_fields ec.first_fault ec.breaks ec.judged vid_reading vid_fields
-    vid.first_fault vid.breaks vid.judged vid.header_of vid.fields_from form_of check_from remainder
-copied_plan m w = refl
-
-copied_turn : turn g1 copied_steps copied_new ≡ 3
-unfolding filled overwrite ec_reading ec_fields ec.first_fault ec.breaks ec.judged vid_reading vid_fields
-    vid.first_fault vid.breaks vid.judged vid.header_of vid.fields_from form_of check_from remainder
-copied_turn = refl
-
-copied_after : after g1 copied_image copied_steps 5
+copied : (takeable g1 copied_image
+    (state.Table ∷ state.Table ∷ state.Used ∷ state.Used ∷ state.Used ∷ state.Free ∷ []) ≡ 5 ∷ [])
+    × ((m : Meant) (w : FinMap leb_cmp ℕ)
+    → mapped_plan g1 copied_image (copied_at m w) root 0 1 copied_new 5 3 ≡ copied_steps)
+    × (turn g1 copied_steps copied_new ≡ 3)
+    × (after g1 copied_image copied_steps 5
     ≡ peb ec_0_named table_0 table ∷ peb ec_0_named table_1 table ∷ peb ec_0_named leb_0 (replicate 384 65)
     ∷ filled 512 ec_1_named ∷ peb ec_0_named leb_2 (replicate 384 67)
-    ∷ peb ec_0_named copy_leb_1_at_1 (replicate 128 97) ∷ []
-unfolding filled overwrite ec_reading ec_fields ec.first_fault ec.breaks ec.judged vid_reading vid_fields
-    vid.first_fault vid.breaks vid.judged vid.header_of vid.fields_from form_of check_from remainder
-copied_after = refl
+    ∷ peb ec_0_named copy_leb_1_at_1 (replicate 128 97) ∷ [])
+unfolding on_literals
+copied = (refl, λ m w. refl, refl, refl)
 
 abbrev shared_page_image : List (List ℕ)
 shared_page_image = wide_peb ec_0_wide table_0 wide_table ∷ wide_peb ec_0_wide table_1 wide_table
@@ -237,28 +230,15 @@ shared_page_new = replicate 256 97
 abbrev shared_page_at : Meant → FinMap leb_cmp ℕ → Whole
 shared_page_at m w = attached m w (state.Table ∷ state.Table ∷ state.Used ∷ state.Free ∷ []) 0 0 0
 
-shared_page_able : takeable g2 shared_page_image (state.Table ∷ state.Table ∷ state.Used ∷ state.Free ∷ []) ≡ 3 ∷ []
-unfolding filled overwrite ec_reading ec_fields ec.first_fault ec.breaks ec.judged vid_reading vid_fields
-    vid.first_fault vid.breaks vid.judged vid.header_of vid.fields_from form_of check_from remainder
-shared_page_able = refl
-
-shared_page_plan : (m : Meant) (w : FinMap leb_cmp ℕ)
-    → mapped_plan g2 shared_page_image (shared_page_at m w) root 0 0 shared_page_new 3 2 ≡ shared_page_steps
-unfolding filled overwrite ec_reading ec_fields ec.first_fault ec.breaks ec.judged vid_reading vid_fields
-    vid.first_fault vid.breaks vid.judged vid.header_of vid.fields_from form_of check_from remainder
-shared_page_plan m w = refl
-
-shared_page_turn : turn g2 shared_page_steps shared_page_new ≡ 2
-unfolding filled overwrite ec_reading ec_fields ec.first_fault ec.breaks ec.judged vid_reading vid_fields
-    vid.first_fault vid.breaks vid.judged vid.header_of vid.fields_from form_of check_from remainder
-shared_page_turn = refl
-
-shared_page_after : after g2 shared_page_image shared_page_steps 4
+shared_page : (takeable g2 shared_page_image (state.Table ∷ state.Table ∷ state.Used ∷ state.Free ∷ []) ≡ 3 ∷ [])
+    × ((m : Meant) (w : FinMap leb_cmp ℕ)
+    → mapped_plan g2 shared_page_image (shared_page_at m w) root 0 0 shared_page_new 3 2 ≡ shared_page_steps)
+    × (turn g2 shared_page_steps shared_page_new ≡ 2)
+    × (after g2 shared_page_image shared_page_steps 4
     ≡ wide_peb ec_0_wide table_0 wide_table ∷ wide_peb ec_0_wide table_1 wide_table ∷ filled 1024 ec_1_wide
-    ∷ wide_peb ec_0_wide copy_leb_0_at_1 (replicate 256 97) ∷ []
-unfolding filled overwrite ec_reading ec_fields ec.first_fault ec.breaks ec.judged vid_reading vid_fields
-    vid.first_fault vid.breaks vid.judged vid.header_of vid.fields_from form_of check_from remainder
-shared_page_after = refl
+    ∷ wide_peb ec_0_wide copy_leb_0_at_1 (replicate 256 97) ∷ [])
+unfolding on_literals
+shared_page = (refl, λ m w. refl, refl, refl)
 
 abbrev blank_leb_image : List (List ℕ)
 blank_leb_image = peb ec_0_named table_0 table ∷ peb ec_0_named table_1 table ∷ peb ec_0_named leb_0 (replicate 384 65)
@@ -276,30 +256,17 @@ abbrev blank_leb_at : Meant → FinMap leb_cmp ℕ → Whole
 blank_leb_at m w = attached m w (state.Table ∷ state.Table ∷ state.Used ∷ state.Used ∷ state.Used ∷ state.Free
     ∷ state.Free ∷ []) 0 305419896 0
 
-blank_leb_able : takeable g1 blank_leb_image
-    (state.Table ∷ state.Table ∷ state.Used ∷ state.Used ∷ state.Used ∷ state.Free ∷ state.Free ∷ []) ≡ 5 ∷ 6 ∷ []
-unfolding filled overwrite ec_reading ec_fields ec.first_fault ec.breaks ec.judged vid_reading vid_fields
-    vid.first_fault vid.breaks vid.judged vid.header_of vid.fields_from form_of check_from remainder
-blank_leb_able = refl
-
-blank_leb_plan : (m : Meant) (w : FinMap leb_cmp ℕ)
-    → unmapped_plan g1 blank_leb_image (blank_leb_at m w) root 0 7 blank_leb_new 5 6 ≡ blank_leb_steps
-unfolding filled overwrite ec_reading ec_fields ec.first_fault ec.breaks ec.judged vid_reading vid_fields
-    vid.first_fault vid.breaks vid.judged vid.header_of vid.fields_from form_of check_from remainder
-blank_leb_plan m w = refl
-
-blank_leb_turn : turn g1 blank_leb_steps blank_leb_new ≡ 3
-unfolding filled overwrite ec_reading ec_fields ec.first_fault ec.breaks ec.judged vid_reading vid_fields
-    vid.first_fault vid.breaks vid.judged vid.header_of vid.fields_from form_of check_from remainder
-blank_leb_turn = refl
-
-blank_leb_after : after g1 blank_leb_image blank_leb_steps 5
+blank_leb : (takeable g1 blank_leb_image
+    (state.Table ∷ state.Table ∷ state.Used ∷ state.Used ∷ state.Used ∷ state.Free ∷ state.Free ∷ []) ≡ 5 ∷ 6 ∷ [])
+    × ((m : Meant) (w : FinMap leb_cmp ℕ)
+    → unmapped_plan g1 blank_leb_image (blank_leb_at m w) root 0 7 blank_leb_new 5 6 ≡ blank_leb_steps)
+    × (turn g1 blank_leb_steps blank_leb_new ≡ 3)
+    × (after g1 blank_leb_image blank_leb_steps 5
     ≡ peb ec_0_named table_0 table ∷ peb ec_0_named table_1 table ∷ peb ec_0_named leb_0 (replicate 384 65)
     ∷ peb ec_0_named leb_1 (replicate 384 66) ∷ peb ec_0_named leb_2 (replicate 384 67) ∷ filled 512 ec_1_named
-    ∷ peb ec_0_named copy_leb_7_at_2 (replicate 64 97) ∷ []
-unfolding filled overwrite ec_reading ec_fields ec.first_fault ec.breaks ec.judged vid_reading vid_fields
-    vid.first_fault vid.breaks vid.judged vid.header_of vid.fields_from form_of check_from remainder
-blank_leb_after = refl
+    ∷ peb ec_0_named copy_leb_7_at_2 (replicate 64 97) ∷ [])
+unfolding on_literals
+blank_leb = (refl, λ m w. refl, refl, refl)
 
 abbrev reused_image : List (List ℕ)
 reused_image = peb ec_0 table_0 table ∷ peb ec_0 table_1 table ∷ peb ec_4 leb_0_at_5 (replicate 384 53)
@@ -315,29 +282,16 @@ reused_new = replicate 64 97
 abbrev reused_at : Meant → FinMap leb_cmp ℕ → Whole
 reused_at m w = attached m w (state.Table ∷ state.Table ∷ state.Stale ∷ state.Used ∷ state.Stale ∷ []) 9 0 0
 
-reused_able : takeable g1 reused_image (state.Table ∷ state.Table ∷ state.Stale ∷ state.Used ∷ state.Stale ∷ [])
-    ≡ 2 ∷ 4 ∷ []
-unfolding filled overwrite ec_reading ec_fields ec.first_fault ec.breaks ec.judged vid_reading vid_fields
-    vid.first_fault vid.breaks vid.judged vid.header_of vid.fields_from form_of check_from remainder
-reused_able = refl
-
-reused_plan : (m : Meant) (w : FinMap leb_cmp ℕ)
-    → mapped_plan g1 reused_image (reused_at m w) root 0 0 reused_new 2 3 ≡ reused_steps
-unfolding filled overwrite ec_reading ec_fields ec.first_fault ec.breaks ec.judged vid_reading vid_fields
-    vid.first_fault vid.breaks vid.judged vid.header_of vid.fields_from form_of check_from remainder
-reused_plan m w = refl
-
-reused_turn : turn g1 reused_steps reused_new ≡ 4
-unfolding filled overwrite ec_reading ec_fields ec.first_fault ec.breaks ec.judged vid_reading vid_fields
-    vid.first_fault vid.breaks vid.judged vid.header_of vid.fields_from form_of check_from remainder
-reused_turn = refl
-
-reused_after : after g1 reused_image reused_steps 6
+reused : (takeable g1 reused_image (state.Table ∷ state.Table ∷ state.Stale ∷ state.Used ∷ state.Stale ∷ [])
+    ≡ 2 ∷ 4 ∷ [])
+    × ((m : Meant) (w : FinMap leb_cmp ℕ)
+    → mapped_plan g1 reused_image (reused_at m w) root 0 0 reused_new 2 3 ≡ reused_steps)
+    × (turn g1 reused_steps reused_new ≡ 4)
+    × (after g1 reused_image reused_steps 6
     ≡ peb ec_0 table_0 table ∷ peb ec_0 table_1 table ∷ peb ec_5 copy_leb_0_at_10 (replicate 64 97) ∷ filled 512 ec_1
-    ∷ peb ec_0 copy_leb_0_at_9 (replicate 64 57) ∷ []
-unfolding filled overwrite ec_reading ec_fields ec.first_fault ec.breaks ec.judged vid_reading vid_fields
-    vid.first_fault vid.breaks vid.judged vid.header_of vid.fields_from form_of check_from remainder
-reused_after = refl
+    ∷ peb ec_0 copy_leb_0_at_9 (replicate 64 57) ∷ [])
+unfolding on_literals
+reused = (refl, λ m w. refl, refl, refl)
 
 abbrev worn_image : List (List ℕ)
 worn_image = peb ec_0_named table_0 table ∷ peb ec_0_named table_1 table ∷ peb ec_0_named leb_0 (replicate 384 65)
@@ -354,30 +308,17 @@ abbrev worn_at : Meant → FinMap leb_cmp ℕ → Whole
 worn_at m w = attached m w (state.Table ∷ state.Table ∷ state.Used ∷ state.Used ∷ state.Used ∷ state.Free ∷ []) 0
     305419896 357913941
 
-worn_able : takeable g1 worn_image (state.Table ∷ state.Table ∷ state.Used ∷ state.Used ∷ state.Used ∷ state.Free ∷ [])
-    ≡ 5 ∷ []
-unfolding filled overwrite ec_reading ec_fields ec.first_fault ec.breaks ec.judged vid_reading vid_fields
-    vid.first_fault vid.breaks vid.judged vid.header_of vid.fields_from form_of check_from remainder
-worn_able = refl
-
-worn_plan : (m : Meant) (w : FinMap leb_cmp ℕ) → mapped_plan g1 worn_image (worn_at m w) root 0 1 worn_new 5 3
-    ≡ worn_steps
-unfolding filled overwrite ec_reading ec_fields ec.first_fault ec.breaks ec.judged vid_reading vid_fields
-    vid.first_fault vid.breaks vid.judged vid.header_of vid.fields_from form_of check_from remainder
-worn_plan m w = refl
-
-worn_turn : turn g1 worn_steps worn_new ≡ 3
-unfolding filled overwrite ec_reading ec_fields ec.first_fault ec.breaks ec.judged vid_reading vid_fields
-    vid.first_fault vid.breaks vid.judged vid.header_of vid.fields_from form_of check_from remainder
-worn_turn = refl
-
-worn_after : after g1 worn_image worn_steps 3
+worn : (takeable g1 worn_image (state.Table ∷ state.Table ∷ state.Used ∷ state.Used ∷ state.Used ∷ state.Free ∷ [])
+    ≡ 5 ∷ [])
+    × ((m : Meant) (w : FinMap leb_cmp ℕ) → mapped_plan g1 worn_image (worn_at m w) root 0 1 worn_new 5 3
+    ≡ worn_steps)
+    × (turn g1 worn_steps worn_new ≡ 3)
+    × (after g1 worn_image worn_steps 3
     ≡ peb ec_0_named table_0 table ∷ peb ec_0_named table_1 table ∷ peb ec_0_named leb_0 (replicate 384 65)
     ∷ peb ec_worn_named leb_1 (replicate 384 66) ∷ peb ec_0_named leb_2 (replicate 384 67)
-    ∷ peb ec_0_named copy_leb_1_at_1 (replicate 128 97) ∷ []
-unfolding filled overwrite ec_reading ec_fields ec.first_fault ec.breaks ec.judged vid_reading vid_fields
-    vid.first_fault vid.breaks vid.judged vid.header_of vid.fields_from form_of check_from remainder
-worn_after = refl
+    ∷ peb ec_0_named copy_leb_1_at_1 (replicate 128 97) ∷ [])
+unfolding on_literals
+worn = (refl, λ m w. refl, refl, refl)
 
 abbrev blank_image : List (List ℕ)
 blank_image = peb ec_0_named table_0 table ∷ peb ec_0_named table_1 table ∷ peb ec_0_named leb_0 (replicate 384 65)
@@ -394,30 +335,17 @@ abbrev blank_at : Meant → FinMap leb_cmp ℕ → Whole
 blank_at m w = attached m w (state.Table ∷ state.Table ∷ state.Used ∷ state.Used ∷ state.Used ∷ state.Blank ∷ []) 0
     305419896 0
 
-blank_able : takeable g1 blank_image
-    (state.Table ∷ state.Table ∷ state.Used ∷ state.Used ∷ state.Used ∷ state.Blank ∷ []) ≡ 5 ∷ []
-unfolding filled overwrite ec_reading ec_fields ec.first_fault ec.breaks ec.judged vid_reading vid_fields
-    vid.first_fault vid.breaks vid.judged vid.header_of vid.fields_from form_of check_from remainder
-blank_able = refl
-
-blank_plan : (m : Meant) (w : FinMap leb_cmp ℕ) → mapped_plan g1 blank_image (blank_at m w) root 0 1 blank_new 5 3
-    ≡ blank_steps
-unfolding filled overwrite ec_reading ec_fields ec.first_fault ec.breaks ec.judged vid_reading vid_fields
-    vid.first_fault vid.breaks vid.judged vid.header_of vid.fields_from form_of check_from remainder
-blank_plan m w = refl
-
-blank_turn : turn g1 blank_steps blank_new ≡ 4
-unfolding filled overwrite ec_reading ec_fields ec.first_fault ec.breaks ec.judged vid_reading vid_fields
-    vid.first_fault vid.breaks vid.judged vid.header_of vid.fields_from form_of check_from remainder
-blank_turn = refl
-
-blank_after : after g1 blank_image blank_steps 6
+blank : (takeable g1 blank_image
+    (state.Table ∷ state.Table ∷ state.Used ∷ state.Used ∷ state.Used ∷ state.Blank ∷ []) ≡ 5 ∷ [])
+    × ((m : Meant) (w : FinMap leb_cmp ℕ) → mapped_plan g1 blank_image (blank_at m w) root 0 1 blank_new 5 3
+    ≡ blank_steps)
+    × (turn g1 blank_steps blank_new ≡ 4)
+    × (after g1 blank_image blank_steps 6
     ≡ peb ec_0_named table_0 table ∷ peb ec_0_named table_1 table ∷ peb ec_0_named leb_0 (replicate 384 65)
     ∷ filled 512 ec_1_named ∷ peb ec_0_named leb_2 (replicate 384 67)
-    ∷ peb ec_0_named copy_leb_1_at_1_of_64 (replicate 64 97) ∷ []
-unfolding filled overwrite ec_reading ec_fields ec.first_fault ec.breaks ec.judged vid_reading vid_fields
-    vid.first_fault vid.breaks vid.judged vid.header_of vid.fields_from form_of check_from remainder
-blank_after = refl
+    ∷ peb ec_0_named copy_leb_1_at_1_of_64 (replicate 64 97) ∷ [])
+unfolding on_literals
+blank = (refl, λ m w. refl, refl, refl)
 
 abbrev mixed_mapped_image : List (List ℕ)
 mixed_mapped_image = peb ec_0 table_0 table ∷ peb ec_0 table_1 table ∷ peb ec_0 leb_0_at_5 (replicate 384 53)
@@ -436,31 +364,18 @@ abbrev mixed_mapped_at : Meant → FinMap leb_cmp ℕ → Whole
 mixed_mapped_at m w = attached m w (state.Table ∷ state.Table ∷ state.Used ∷ state.Stale ∷ state.Orphan ∷ state.Orphan
     ∷ state.Garbage ∷ state.Dropped ∷ state.Corrupt ∷ []) 12 0 0
 
-mixed_mapped_able : takeable g1 mixed_mapped_image
+mixed_mapped : (takeable g1 mixed_mapped_image
     (state.Table ∷ state.Table ∷ state.Used ∷ state.Stale ∷ state.Orphan ∷ state.Orphan ∷ state.Garbage ∷ state.Dropped
-    ∷ state.Corrupt ∷ []) ≡ 3 ∷ 4 ∷ 5 ∷ 6 ∷ 7 ∷ []
-unfolding filled overwrite ec_reading ec_fields ec.first_fault ec.breaks ec.judged vid_reading vid_fields
-    vid.first_fault vid.breaks vid.judged vid.header_of vid.fields_from form_of check_from remainder
-mixed_mapped_able = refl
-
-mixed_mapped_plan : (m : Meant) (w : FinMap leb_cmp ℕ)
-    → mapped_plan g1 mixed_mapped_image (mixed_mapped_at m w) root 0 0 mixed_mapped_new 3 2 ≡ mixed_mapped_steps
-unfolding filled overwrite ec_reading ec_fields ec.first_fault ec.breaks ec.judged vid_reading vid_fields
-    vid.first_fault vid.breaks vid.judged vid.header_of vid.fields_from form_of check_from remainder
-mixed_mapped_plan m w = refl
-
-mixed_mapped_turn : turn g1 mixed_mapped_steps mixed_mapped_new ≡ 4
-unfolding filled overwrite ec_reading ec_fields ec.first_fault ec.breaks ec.judged vid_reading vid_fields
-    vid.first_fault vid.breaks vid.judged vid.header_of vid.fields_from form_of check_from remainder
-mixed_mapped_turn = refl
-
-mixed_mapped_after : after g1 mixed_mapped_image mixed_mapped_steps 6
+    ∷ state.Corrupt ∷ []) ≡ 3 ∷ 4 ∷ 5 ∷ 6 ∷ 7 ∷ [])
+    × ((m : Meant) (w : FinMap leb_cmp ℕ)
+    → mapped_plan g1 mixed_mapped_image (mixed_mapped_at m w) root 0 0 mixed_mapped_new 3 2 ≡ mixed_mapped_steps)
+    × (turn g1 mixed_mapped_steps mixed_mapped_new ≡ 4)
+    × (after g1 mixed_mapped_image mixed_mapped_steps 6
     ≡ peb ec_0 table_0 table ∷ peb ec_0 table_1 table ∷ filled 512 ec_1 ∷ peb ec_1 copy_leb_0_at_13 (replicate 64 97)
     ∷ peb ec_0 leb_20_at_8 (replicate 384 68) ∷ peb ec_0 static_leb_20_at_7 (replicate 384 68) ∷ peb ec_0 corrupt_vid []
-    ∷ peb ec_0 internal [] ∷ filled 512 corrupt_ec ∷ []
-unfolding filled overwrite ec_reading ec_fields ec.first_fault ec.breaks ec.judged vid_reading vid_fields
-    vid.first_fault vid.breaks vid.judged vid.header_of vid.fields_from form_of check_from remainder
-mixed_mapped_after = refl
+    ∷ peb ec_0 internal [] ∷ filled 512 corrupt_ec ∷ [])
+unfolding on_literals
+mixed_mapped = (refl, λ m w. refl, refl, refl)
 
 abbrev mixed_unmapped_image : List (List ℕ)
 mixed_unmapped_image = peb ec_0 table_0 table ∷ peb ec_0 table_1 table ∷ peb ec_0 leb_0_at_5 (replicate 384 53)
@@ -481,29 +396,16 @@ mixed_unmapped_at m w = attached m w
     (state.Table ∷ state.Table ∷ state.Used ∷ state.Stale ∷ state.Orphan ∷ state.Orphan ∷ state.Garbage ∷ state.Dropped
     ∷ state.Corrupt ∷ []) 12 0 0
 
-mixed_unmapped_able : takeable g1 mixed_unmapped_image
+mixed_unmapped : (takeable g1 mixed_unmapped_image
     (state.Table ∷ state.Table ∷ state.Used ∷ state.Stale ∷ state.Orphan ∷ state.Orphan ∷ state.Garbage ∷ state.Dropped
-    ∷ state.Corrupt ∷ []) ≡ 3 ∷ 4 ∷ 5 ∷ 6 ∷ 7 ∷ []
-unfolding filled overwrite ec_reading ec_fields ec.first_fault ec.breaks ec.judged vid_reading vid_fields
-    vid.first_fault vid.breaks vid.judged vid.header_of vid.fields_from form_of check_from remainder
-mixed_unmapped_able = refl
-
-mixed_unmapped_plan : (m : Meant) (w : FinMap leb_cmp ℕ)
+    ∷ state.Corrupt ∷ []) ≡ 3 ∷ 4 ∷ 5 ∷ 6 ∷ 7 ∷ [])
+    × ((m : Meant) (w : FinMap leb_cmp ℕ)
     → unmapped_plan g1 mixed_unmapped_image (mixed_unmapped_at m w) root 0 1 mixed_unmapped_new 3 4
-    ≡ mixed_unmapped_steps
-unfolding filled overwrite ec_reading ec_fields ec.first_fault ec.breaks ec.judged vid_reading vid_fields
-    vid.first_fault vid.breaks vid.judged vid.header_of vid.fields_from form_of check_from remainder
-mixed_unmapped_plan m w = refl
-
-mixed_unmapped_turn : turn g1 mixed_unmapped_steps mixed_unmapped_new ≡ 7
-unfolding filled overwrite ec_reading ec_fields ec.first_fault ec.breaks ec.judged vid_reading vid_fields
-    vid.first_fault vid.breaks vid.judged vid.header_of vid.fields_from form_of check_from remainder
-mixed_unmapped_turn = refl
-
-mixed_unmapped_after : after g1 mixed_unmapped_image mixed_unmapped_steps 9
+    ≡ mixed_unmapped_steps)
+    × (turn g1 mixed_unmapped_steps mixed_unmapped_new ≡ 7)
+    × (after g1 mixed_unmapped_image mixed_unmapped_steps 9
     ≡ peb ec_0 table_0 table ∷ peb ec_0 table_1 table ∷ peb ec_0 leb_0_at_5 (replicate 384 53) ∷ filled 512 ec_2
     ∷ peb ec_1 copy_leb_1_at_14 (replicate 64 97) ∷ peb ec_0 static_leb_20_at_7 (replicate 384 68)
-    ∷ peb ec_0 corrupt_vid [] ∷ peb ec_0 internal [] ∷ filled 512 corrupt_ec ∷ []
-unfolding filled overwrite ec_reading ec_fields ec.first_fault ec.breaks ec.judged vid_reading vid_fields
-    vid.first_fault vid.breaks vid.judged vid.header_of vid.fields_from form_of check_from remainder
-mixed_unmapped_after = refl
+    ∷ peb ec_0 corrupt_vid [] ∷ peb ec_0 internal [] ∷ filled 512 corrupt_ec ∷ [])
+unfolding on_literals
+mixed_unmapped = (refl, λ m w. refl, refl, refl)

@@ -23,7 +23,7 @@ pub use Rattle.std.specs.Int.Bits.{and_self}
 pub use Rattle.std.specs.List.{concat, cons_option, enumerate_from, position_or_len, range_with_len, sum_by}
 pub use Rattle.std.specs.Option.{option_map_or}
 pub use Rattle.std.specs.Ordering.{eq_by_cmp, nat_cmp}
-pub use Rattle.std.specs.Prelude.{Contains, Err, IfSome, IsSome, None, Ok, OnOk, Option, Result, Some, bit_and, count_by, filter, filter_map, find, flat_map, fold, is_some, max, nat_eq, nat_lt, option_and_then, option_copied, option_map, slice_get, slice_index, sum, unwrap_or, ◌&&◌, ◌==◌, ◌||◌}
+pub use Rattle.std.specs.Prelude.{Contains, Err, IfSome, IsSome, None, Ok, OnOk, Option, Result, Some, bit_and, count_by, filter, filter_map, find, flat_map, fold, is_some, max, nat_eq, nat_lt, option_and_then, option_copied, option_map, slice_get, slice_index, sum, unwrap_or, ⊤, ◌&&◌, ◌==◌, ◌||◌}
 pub use Rattle.std.specs.Result.{is_ok}
 pub use Rattle.std.specs.Simd.{first_chunks}
 pub use Rattle.ubi_media.proofs.ByteLists.{bytes-append, bytes-blank, bytes-drop, bytes-take, bytes_each}

@@ -1,5 +1,5 @@
 -- A config on literals: its first fault, and its sections.
-use Rattle.ubi_config.proofs.Prelude.{◌≡◌, false, List, ℕ, [], ◌∷◌, ◌++◌, refl, ⊤, Some, None, Ok, Err, codes, replicate, digits, join_with_byte, breaks, fields_from, small, heading_cause, later_cause, setting_cause, cause_at, line_fault, saying, sayings, section_fault, sections_in, sections_of, config_error_text, flag_of, heading_line, is_one_line, kind_of, line_of, line_said, setting, setting_at, setting_line, title_of, record_in, draft_of, finished, key_of, plain_value, quoted_value, value_of, is_number, number_of, size_of, trimmed, unit_named, unit_of, Section, first_fault as config_fault}
+use Rattle.ubi_config.proofs.Prelude.{◌≡◌, false, List, Option, ConfigCause, map, ℕ, [], ◌∷◌, ◌++◌, refl, ⊤, Some, None, Ok, Err, codes, replicate, digits, join_with_byte, breaks, fields_from, small, heading_cause, later_cause, setting_cause, cause_at, line_fault, saying, sayings, section_fault, sections_in, sections_of, config_error_text, flag_of, heading_line, is_one_line, kind_of, line_of, line_said, setting, setting_at, setting_line, title_of, record_in, draft_of, finished, key_of, plain_value, quoted_value, value_of, is_number, number_of, size_of, trimmed, unit_named, unit_of, Section, first_fault as config_fault}
 use Rattle.ubi_media.specs.Record.{first_fault}
 use Rattle.ubi_media.specs.declared.record.RecFault.TheVariants as fault
 use Rattle.ubi_media.specs.declared.vid.VolKind.TheVariants as kind
@@ -18,154 +18,87 @@ config_on_literals = tt
 abbrev text : List (List ℕ) → List ℕ
 text lines = join_with_byte 10 lines
 
-no_byte : config_fault (text (codes "" ∷ [])) ≡ Some (1, cause.NoSection)
-unfolding config_on_literals
-no_byte = refl
+-- the first faults of texts of lines are those beside them
+abbrev HaveFaults : List (List (List ℕ) × Option (ℕ × ConfigCause)) → Type 0
+HaveFaults rows = map (λ e. config_fault (text e.0)) rows ≡ map (λ e. e.1) rows
 
-a_volume : config_fault (text (codes "[v]" ∷ codes "mode=ubi" ∷ codes "vol_id=1" ∷ codes "vol_name=a"
-    ∷ codes "vol_size=9" ∷ [])) ≡ None
+-- no line has a fault
+sound_configs : HaveFaults (
+    (codes "[v]" ∷ codes "mode=ubi" ∷ codes "vol_id=1" ∷ codes "vol_name=a" ∷ codes "vol_size=9" ∷ [], None) ∷
+    (codes "  [ v ] " ∷ codes "" ∷ codes "# a" ∷ codes " Mode = ubi ; a" ∷ codes "VOL_ID=1" ∷ codes "vol_name=a"
+        ∷ codes "vol_size=9 KiB" ∷ [], None) ∷
+    [])
 unfolding config_on_literals
-a_volume = refl
+sound_configs = refl
 
-blanks_and_cases : config_fault (text (codes "  [ v ] " ∷ codes "" ∷ codes "# a" ∷ codes " Mode = ubi ; a"
-    ∷ codes "VOL_ID=1" ∷ codes "vol_name=a" ∷ codes "vol_size=9 KiB" ∷ [])) ≡ None
+-- a line that is none, or none of its kind
+wrong_lines : HaveFaults (
+    (codes "" ∷ [], Some (1, cause.NoSection)) ∷
+    (codes "mode=ubi" ∷ codes "[v]" ∷ [], Some (1, cause.NoSection)) ∷
+    (codes "[v:w]" ∷ [], Some (1, cause.Form)) ∷
+    (codes "[v] # a" ∷ [], Some (1, cause.Form)) ∷
+    (codes "[v]" ∷ codes "mode ubi" ∷ [], Some (2, cause.Form)) ∷
+    (codes "[v]" ∷ codes "# a\\ " ∷ [], Some (2, cause.Line)) ∷
+    (codes "[v]" ∷ (codes "#" ++ 0 ∷ []) ∷ [], Some (2, cause.Line)) ∷
+    (codes "[v]" ∷ replicate 1023 35 ∷ [], Some (2, cause.Line)) ∷
+    (codes "[v]" ∷ codes "vol_flag=autoresize" ∷ [], Some (2, cause.Key)) ∷
+    [])
 unfolding config_on_literals
-blanks_and_cases = refl
+wrong_lines = refl
 
-colon_in_a_name : config_fault (text (codes "[v:w]" ∷ [])) ≡ Some (1, cause.Form)
+-- no value, or another than its key has: of quotes, of numbers, of sizes
+wrong_values : HaveFaults (
+    (codes "[v]" ∷ codes "image= # a" ∷ [], Some (2, cause.Value)) ∷
+    (codes "[v]" ∷ codes "image=\"a'" ∷ [], Some (2, cause.Value)) ∷
+    (codes "[v]" ∷ codes "image='a' b" ∷ [], Some (2, cause.Value)) ∷
+    (codes "[v]" ∷ codes "image='a '" ∷ [], Some (2, cause.Value)) ∷
+    (codes "[v]" ∷ codes "vol_id=010" ∷ [], Some (2, cause.Unfit)) ∷
+    (codes "[v]" ∷ codes "vol_id=4294967296" ∷ [], Some (2, cause.Unfit)) ∷
+    (codes "[v]" ∷ codes "vol_size=8589934592GiB" ∷ [], Some (2, cause.Unfit)) ∷
+    (codes "[v]" ∷ codes "vol_size=0KiB" ∷ [], Some (2, cause.Unfit)) ∷
+    (codes "[v]" ∷ codes "vol_size=1kib" ∷ [], Some (2, cause.Unfit)) ∷
+    [])
 unfolding config_on_literals
-colon_in_a_name = refl
+wrong_values = refl
 
-remark_behind_a_name : config_fault (text (codes "[v] # a" ∷ [])) ≡ Some (1, cause.Form)
+-- the longest line and the largest numbers, quotes and flags, of sections that lack something
+right_values : HaveFaults (
+    (codes "[v]" ∷ replicate 1022 35 ∷ [], Some (1, cause.Missing key.Mode)) ∷
+    (codes "[v]" ∷ codes "image='#;\"' # b" ∷ [], Some (1, cause.Missing key.Mode)) ∷
+    (codes "[v]" ∷ codes "vol_id=4294967295" ∷ [], Some (1, cause.Missing key.Mode)) ∷
+    (codes "[v]" ∷ codes "vol_size=9223372036854775807" ∷ [], Some (1, cause.Missing key.Mode)) ∷
+    (codes "[v]" ∷ codes "vol_flags=skip-check" ∷ codes "[w]" ∷ codes "vol_flags=skip-check"
+        ∷ [], Some (1, cause.Missing key.Mode)) ∷
+    [])
 unfolding config_on_literals
-remark_behind_a_name = refl
+right_values = refl
 
-no_equals_sign : config_fault (text (codes "[v]" ∷ codes "mode ubi" ∷ [])) ≡ Some (2, cause.Form)
+-- what stands twice
+again : HaveFaults (
+    (codes "[v]" ∷ codes "[V]" ∷ [], Some (2, cause.Again)) ∷
+    (codes "[v]" ∷ codes "mode=ubi" ∷ codes "mode=ubi" ∷ [], Some (3, cause.Again)) ∷
+    (codes "[v]" ∷ codes "vol_id=1" ∷ codes "[w]" ∷ codes "vol_id=1" ∷ [], Some (4, cause.SameId)) ∷
+    (codes "[v]" ∷ codes "vol_name=a" ∷ codes "[w]" ∷ codes "vol_name=a" ∷ [], Some (4, cause.SameName)) ∷
+    (codes "[v]" ∷ codes "vol_flags=autoresize" ∷ codes "[w]" ∷ codes "vol_flags=autoresize"
+        ∷ [], Some (4, cause.Autoresize)) ∷
+    [])
 unfolding config_on_literals
-no_equals_sign = refl
+again = refl
 
-backslash : config_fault (text (codes "[v]" ∷ codes "# a\\ " ∷ [])) ≡ Some (2, cause.Line)
+-- what a section lacks
+lacking : HaveFaults (
+    (codes "[v]" ∷ codes "mode=ubi" ∷ codes "[w]" ∷ codes "mode=ubi" ∷ [], Some (1, cause.Missing key.Id)) ∷
+    (codes "[v]" ∷ codes "mode=ubi" ∷ codes "vol_id=1" ∷ codes "vol_size=9" ∷ [], Some (1, cause.Missing key.Name)) ∷
+    (codes "[v]" ∷ codes "mode=ubi" ∷ codes "vol_id=1" ∷ codes "vol_name=a" ∷ [], Some (1, cause.Missing key.Image)) ∷
+    (codes "# a" ∷ codes "[v]" ∷ codes "mode=ubi" ∷ codes "vol_id=1" ∷ codes "vol_name=a" ∷ codes "vol_size=9"
+        ∷ codes "vol_type=static" ∷ [], Some (2, cause.Missing key.Image)) ∷
+    (codes "[v]" ∷ codes "mode=ubi" ∷ codes "vol_id=1" ∷ codes "vol_name=a" ∷ codes "image=a"
+        ∷ codes "vol_flags=skip-check" ∷ [], Some (1, cause.SkipCheck)) ∷
+    [])
 unfolding config_on_literals
-backslash = refl
+lacking = refl
 
-zero_byte : config_fault (text (codes "[v]" ∷ (codes "#" ++ 0 ∷ []) ∷ [])) ≡ Some (2, cause.Line)
-unfolding config_on_literals
-zero_byte = refl
-
-longest_line : config_fault (text (codes "[v]" ∷ replicate 1022 35 ∷ [])) ≡ Some (1, cause.Missing key.Mode)
-unfolding config_on_literals
-longest_line = refl
-
-longer_line : config_fault (text (codes "[v]" ∷ replicate 1023 35 ∷ [])) ≡ Some (2, cause.Line)
-unfolding config_on_literals
-longer_line = refl
-
-no_key : config_fault (text (codes "[v]" ∷ codes "vol_flag=autoresize" ∷ [])) ≡ Some (2, cause.Key)
-unfolding config_on_literals
-no_key = refl
-
-empty_value : config_fault (text (codes "[v]" ∷ codes "image= # a" ∷ [])) ≡ Some (2, cause.Value)
-unfolding config_on_literals
-empty_value = refl
-
-open_quote : config_fault (text (codes "[v]" ∷ codes "image=\"a'" ∷ [])) ≡ Some (2, cause.Value)
-unfolding config_on_literals
-open_quote = refl
-
-behind_a_quote : config_fault (text (codes "[v]" ∷ codes "image='a' b" ∷ [])) ≡ Some (2, cause.Value)
-unfolding config_on_literals
-behind_a_quote = refl
-
-blank_before_a_quote : config_fault (text (codes "[v]" ∷ codes "image='a '" ∷ [])) ≡ Some (2, cause.Value)
-unfolding config_on_literals
-blank_before_a_quote = refl
-
-remark_behind_a_quote : config_fault (text (codes "[v]" ∷ codes "image='#;\"' # b" ∷ []))
-    ≡ Some (1, cause.Missing key.Mode)
-unfolding config_on_literals
-remark_behind_a_quote = refl
-
-leading_zero : config_fault (text (codes "[v]" ∷ codes "vol_id=010" ∷ [])) ≡ Some (2, cause.Unfit)
-unfolding config_on_literals
-leading_zero = refl
-
-largest_id : config_fault (text (codes "[v]" ∷ codes "vol_id=4294967295" ∷ [])) ≡ Some (1, cause.Missing key.Mode)
-unfolding config_on_literals
-largest_id = refl
-
-larger_id : config_fault (text (codes "[v]" ∷ codes "vol_id=4294967296" ∷ [])) ≡ Some (2, cause.Unfit)
-unfolding config_on_literals
-larger_id = refl
-
-largest_size : config_fault (text (codes "[v]" ∷ codes "vol_size=9223372036854775807" ∷ []))
-    ≡ Some (1, cause.Missing key.Mode)
-unfolding config_on_literals
-largest_size = refl
-
-larger_size : config_fault (text (codes "[v]" ∷ codes "vol_size=8589934592GiB" ∷ [])) ≡ Some (2, cause.Unfit)
-unfolding config_on_literals
-larger_size = refl
-
-size_of_nothing : config_fault (text (codes "[v]" ∷ codes "vol_size=0KiB" ∷ [])) ≡ Some (2, cause.Unfit)
-unfolding config_on_literals
-size_of_nothing = refl
-
-unit_in_another_case : config_fault (text (codes "[v]" ∷ codes "vol_size=1kib" ∷ [])) ≡ Some (2, cause.Unfit)
-unfolding config_on_literals
-unit_in_another_case = refl
-
-before_a_section : config_fault (text (codes "mode=ubi" ∷ codes "[v]" ∷ [])) ≡ Some (1, cause.NoSection)
-unfolding config_on_literals
-before_a_section = refl
-
-name_again : config_fault (text (codes "[v]" ∷ codes "[V]" ∷ [])) ≡ Some (2, cause.Again)
-unfolding config_on_literals
-name_again = refl
-
-key_again : config_fault (text (codes "[v]" ∷ codes "mode=ubi" ∷ codes "mode=ubi" ∷ [])) ≡ Some (3, cause.Again)
-unfolding config_on_literals
-key_again = refl
-
-key_in_two_sections : config_fault (text (codes "[v]" ∷ codes "mode=ubi" ∷ codes "[w]" ∷ codes "mode=ubi"
-    ∷ [])) ≡ Some (1, cause.Missing key.Id)
-unfolding config_on_literals
-key_in_two_sections = refl
-
-same_id : config_fault (text (codes "[v]" ∷ codes "vol_id=1" ∷ codes "[w]" ∷ codes "vol_id=1" ∷ []))
-    ≡ Some (4, cause.SameId)
-unfolding config_on_literals
-same_id = refl
-
-same_name : config_fault (text (codes "[v]" ∷ codes "vol_name=a" ∷ codes "[w]" ∷ codes "vol_name=a" ∷ []))
-    ≡ Some (4, cause.SameName)
-unfolding config_on_literals
-same_name = refl
-
-autoresize_again : config_fault (text (codes "[v]" ∷ codes "vol_flags=autoresize" ∷ codes "[w]"
-    ∷ codes "vol_flags=autoresize" ∷ [])) ≡ Some (4, cause.Autoresize)
-unfolding config_on_literals
-autoresize_again = refl
-
-no_name : config_fault (text (codes "[v]" ∷ codes "mode=ubi" ∷ codes "vol_id=1" ∷ codes "vol_size=9" ∷ []))
-    ≡ Some (1, cause.Missing key.Name)
-unfolding config_on_literals
-no_name = refl
-
-neither_image_nor_size : config_fault (text (codes "[v]" ∷ codes "mode=ubi" ∷ codes "vol_id=1"
-    ∷ codes "vol_name=a" ∷ [])) ≡ Some (1, cause.Missing key.Image)
-unfolding config_on_literals
-neither_image_nor_size = refl
-
-static_without_image : config_fault (text (codes "# a" ∷ codes "[v]" ∷ codes "mode=ubi" ∷ codes "vol_id=1"
-    ∷ codes "vol_name=a" ∷ codes "vol_size=9" ∷ codes "vol_type=static" ∷ [])) ≡ Some (2, cause.Missing key.Image)
-unfolding config_on_literals
-static_without_image = refl
-
-dynamic_without_check : config_fault (text (codes "[v]" ∷ codes "mode=ubi" ∷ codes "vol_id=1" ∷ codes "vol_name=a"
-    ∷ codes "image=a" ∷ codes "vol_flags=skip-check" ∷ [])) ≡ Some (1, cause.SkipCheck)
-unfolding config_on_literals
-dynamic_without_check = refl
-
+-- a static volume may go without a check
 static_without_check : sections_of (text (codes "[v]" ∷ codes "vol_flags=skip-check" ∷ codes "mode=ubi" ∷ codes "vol_id=1"
     ∷ codes "vol_name=a" ∷ codes "image=b" ∷ codes "vol_type=static" ∷ []))
     ≡ record {
@@ -180,11 +113,6 @@ static_without_check : sections_of (text (codes "[v]" ∷ codes "vol_flags=skip-
     } ∷ []
 unfolding config_on_literals
 static_without_check = refl
-
-skip_check_twice : config_fault (text (codes "[v]" ∷ codes "vol_flags=skip-check" ∷ codes "[w]"
-    ∷ codes "vol_flags=skip-check" ∷ [])) ≡ Some (1, cause.Missing key.Mode)
-unfolding config_on_literals
-skip_check_twice = refl
 
 -- the example of ubinize's manual
 abbrev manual : List ℕ

@@ -1,5 +1,5 @@
 -- Readings and bytes of erase-counter headers on literals.
-use Rattle.ubi_media.proofs.Prelude.{◌≡◌, List, ℕ, [], ◌∷◌, replicate, refl, check_from, remainder, ec_bytes, ec_fields, ec_reading, ec_start, form_of, Version, Offsets, Counter, EcHeader, Blank, Corrupt, Fault}
+use Rattle.ubi_media.proofs.Prelude.{◌≡◌, List, ℕ, [], ◌∷◌, replicate, refl, check_from, remainder, ec_bytes, ec_fields, ec_reading, ec_start, form_of, Version, Offsets, Counter, EcHeader, Blank, Corrupt, Fault, ⊤, map}
 use Rattle.ubi_media.specs.Ec.{judged, first_fault, breaks}
 use Rattle.ubi_media.specs.declared.ec.EcRead.TheVariants.{Valid}
 use Rattle.ubi_media.specs.declared.ec.EcStart.TheVariants as start
@@ -13,81 +13,60 @@ base_words : List ℕ
 base_words = 0x55424923 ∷ 0x01000000 ∷ 0 ∷ 0 ∷ 0x40 ∷ 0x80 ∷ 0x12345678 ∷ 0 ∷ 0 ∷ 0 ∷ 0 ∷ 0 ∷ 0 ∷ 0 ∷ 0 ∷ 0x5b73f913
     ∷ []
 
+-- what is unfolded to compute a header on a literal
+unfoldable on_literals : ⊤
+unfolding base base_words ec_start ec_reading form_of judged first_fault breaks ec_fields check_from remainder
+on_literals = tt
+
+-- a header by its version, its counter, the place of its data, and its check, which another program has worked out
+abbrev header : ℕ → ℕ → ℕ → ℕ → List ℕ
+header version counter data sum =
+    words (0x55424923 ∷ version ∷ 0 ∷ counter ∷ 0x40 ∷ data ∷ 0 ∷ 0 ∷ 0 ∷ 0 ∷ 0 ∷ 0 ∷ 0 ∷ 0 ∷ 0 ∷ sum ∷ [])
+
 written : ec_bytes small base ≡ words base_words
-unfolding base base_words check_from remainder
+unfolding on_literals
 written = refl
 
-read_back : ec_reading small (words base_words) ≡ Valid base
-unfolding base base_words ec_reading form_of judged first_fault breaks ec_fields check_from remainder
-read_back = refl
-
-version_2 : ec_reading small
-    (words (0x55424923 ∷ 0x02000000 ∷ 0 ∷ 0 ∷ 0x40 ∷ 0x80 ∷ 0 ∷ 0 ∷ 0 ∷ 0 ∷ 0 ∷ 0 ∷ 0 ∷ 0 ∷ 0 ∷ 0x51ed87bd ∷ []))
-    ≡ Fault Version
-unfolding ec_reading form_of judged first_fault breaks ec_fields check_from remainder
-version_2 = refl
-
-other_data_offset : ec_reading small
-    (words (0x55424923 ∷ 0x01000000 ∷ 0 ∷ 5 ∷ 0x40 ∷ 0xc0 ∷ 0 ∷ 0 ∷ 0 ∷ 0 ∷ 0 ∷ 0 ∷ 0 ∷ 0 ∷ 0 ∷ 0x648f44ce ∷ []))
-    ≡ Fault Offsets
-unfolding ec_reading form_of judged first_fault breaks ec_fields check_from remainder
-other_data_offset = refl
-
-counter_of_32_bits : ec_reading small
-    (words (0x55424923 ∷ 0x01000000 ∷ 0 ∷ 0x80000000 ∷ 0x40 ∷ 0x80 ∷ 0 ∷ 0 ∷ 0 ∷ 0 ∷ 0 ∷ 0 ∷ 0 ∷ 0 ∷ 0 ∷ 0xae56b556
-    ∷ [])) ≡ Fault Counter
-unfolding ec_reading form_of judged first_fault breaks ec_fields check_from remainder
-counter_of_32_bits = refl
-
-largest_counter : ec_reading small
-    (words (0x55424923 ∷ 0x01000000 ∷ 0 ∷ 0x7fffffff ∷ 0x40 ∷ 0x80 ∷ 0 ∷ 0 ∷ 0 ∷ 0 ∷ 0 ∷ 0 ∷ 0 ∷ 0 ∷ 0 ∷ 0xa321f93c
-    ∷ [])) ≡ Valid (record { counter = 0x7fffffff; image_seq = 0 })
-unfolding ec_reading form_of judged first_fault breaks ec_fields check_from remainder
-largest_counter = refl
-
-wrong_check : ec_reading small
-    (words (0x55424923 ∷ 0x01000000 ∷ 0 ∷ 0x7fffffff ∷ 0x40 ∷ 0x80 ∷ 0 ∷ 0 ∷ 0 ∷ 0 ∷ 0 ∷ 0 ∷ 0 ∷ 0 ∷ 0 ∷ 0xa321f93d
-    ∷ [])) ≡ Corrupt
-unfolding ec_reading form_of judged first_fault breaks ec_fields check_from remainder
-wrong_check = refl
-
-erased : ec_reading small (replicate 64 255) ≡ Blank
-unfolding ec_reading form_of
-erased = refl
-
-zeros : ec_reading small (replicate 64 0) ≡ Corrupt
-unfolding ec_reading form_of
-zeros = refl
+-- bytes are read as what stands beside them
+read : map (ec_reading small) (
+    words base_words ∷
+    header 0x02000000 0 0x80 0x51ed87bd ∷
+    header 0x01000000 5 0xc0 0x648f44ce ∷
+    header 0x01000000 0x80000000 0x80 0xae56b556 ∷
+    header 0x01000000 0x7fffffff 0x80 0xa321f93c ∷
+    header 0x01000000 0x7fffffff 0x80 0xa321f93d ∷
+    replicate 64 255 ∷
+    replicate 64 0 ∷
+    [])
+    ≡
+    Valid base ∷
+    Fault Version ∷
+    Fault Offsets ∷
+    Fault Counter ∷
+    Valid (record { counter = 0x7fffffff; image_seq = 0 }) ∷
+    Corrupt ∷
+    Blank ∷
+    Corrupt ∷
+    []
+unfolding on_literals
+read = refl
 
 -- the same where no geometry is known
-starts : ec_start (words base_words) ≡ start.Header (record { vid_offset = 64; data_offset = 128 })
-unfolding base_words ec_start ec_reading form_of judged first_fault breaks ec_fields check_from remainder
-starts = refl
-
-starts_data_offset : ec_start
-    (words (0x55424923 ∷ 0x01000000 ∷ 0 ∷ 5 ∷ 0x40 ∷ 0xc0 ∷ 0 ∷ 0 ∷ 0 ∷ 0 ∷ 0 ∷ 0 ∷ 0 ∷ 0 ∷ 0 ∷ 0x648f44ce ∷ []))
-    ≡ start.Header (record { vid_offset = 64; data_offset = 192 })
-unfolding ec_start ec_reading form_of judged first_fault breaks ec_fields check_from remainder
-starts_data_offset = refl
-
-starts_version_2 : ec_start
-    (words (0x55424923 ∷ 0x02000000 ∷ 0 ∷ 0 ∷ 0x40 ∷ 0x80 ∷ 0 ∷ 0 ∷ 0 ∷ 0 ∷ 0 ∷ 0 ∷ 0 ∷ 0 ∷ 0 ∷ 0x51ed87bd ∷ []))
-    ≡ start.Other
-unfolding ec_start ec_reading form_of judged first_fault breaks ec_fields check_from remainder
-starts_version_2 = refl
-
-starts_counter : ec_start
-    (words (0x55424923 ∷ 0x01000000 ∷ 0 ∷ 0x80000000 ∷ 0x40 ∷ 0x80 ∷ 0 ∷ 0 ∷ 0 ∷ 0 ∷ 0 ∷ 0 ∷ 0 ∷ 0 ∷ 0 ∷ 0xae56b556
-    ∷ [])) ≡ start.Other
-unfolding ec_start ec_reading form_of judged first_fault breaks ec_fields check_from remainder
-starts_counter = refl
-
-starts_wrong_check : ec_start
-    (words (0x55424923 ∷ 0x01000000 ∷ 0 ∷ 0x7fffffff ∷ 0x40 ∷ 0x80 ∷ 0 ∷ 0 ∷ 0 ∷ 0 ∷ 0 ∷ 0 ∷ 0 ∷ 0 ∷ 0 ∷ 0xa321f93d
-    ∷ [])) ≡ start.Other
-unfolding ec_start ec_reading form_of judged first_fault breaks ec_fields check_from remainder
-starts_wrong_check = refl
-
-starts_erased : ec_start (replicate 64 255) ≡ start.Blank
-unfolding ec_start ec_reading form_of ec_fields
-starts_erased = refl
+started : map ec_start (
+    words base_words ∷
+    header 0x01000000 5 0xc0 0x648f44ce ∷
+    header 0x02000000 0 0x80 0x51ed87bd ∷
+    header 0x01000000 0x80000000 0x80 0xae56b556 ∷
+    header 0x01000000 0x7fffffff 0x80 0xa321f93d ∷
+    replicate 64 255 ∷
+    [])
+    ≡
+    start.Header (record { vid_offset = 64; data_offset = 128 }) ∷
+    start.Header (record { vid_offset = 64; data_offset = 192 }) ∷
+    start.Other ∷
+    start.Other ∷
+    start.Other ∷
+    start.Blank ∷
+    []
+unfolding on_literals
+started = refl

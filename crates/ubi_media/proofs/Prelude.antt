@@ -1,5 +1,5 @@
 -- The names that the proofs of this crate speak of, and where they come from.
-pub use Rattle.std.proofs.Common.{Bool, IfSome, List, [], ap, append_assoc, arith, bit_and, bit_xor, codes, cond, drop, eq-eqb, eqb-true, false, get_or, inl, inr, length, length-append, length-take, lit<, min, nat_lt, not, position, refl, replicate, rules, set, slice_index, slice_range, subst, suc, sym, take, true, zero, zero-add, ℕ, ◌%◌, ◌&&◌, ◌*◌, ◌++◌, ◌+◌, ◌-◌, ◌/◌, ◌<◌, ◌==◌, ◌^◌, ◌∙◌, ◌∷◌, ◌≡◌, ◌≢◌, ◌≤◌, ◌⊎◌}
+pub use Rattle.std.proofs.Common.{Bool, IfSome, List, [], ap, append_assoc, arith, bit_and, bit_xor, codes, cond, drop, eq-eqb, eqb-true, false, get_or, inl, inr, length, length-append, length-take, lit<, map, min, nat_lt, not, position, refl, replicate, rules, set, slice_index, slice_range, subst, suc, sym, take, true, zero, zero-add, ℕ, ◌%◌, ◌&&◌, ◌*◌, ◌++◌, ◌+◌, ◌-◌, ◌/◌, ◌<◌, ◌==◌, ◌^◌, ◌∙◌, ◌∷◌, ◌≡◌, ◌≢◌, ◌≤◌, ◌⊎◌}
 pub use Rattle.std.proofs.Math.ListN.{drop_of_length-le}
 pub use Rattle.std.proofs.Math.Nat.{add-zero, add_comm, div-add-mod, div-eq_of_lt, div-lt_iff_lt-mul, mod-eq_of_lt, mod-lt, mul-le-mul_right, pow-suc}
 pub use Rattle.std.proofs.Math.Pow.{pow_mono}
@@ -22,7 +22,7 @@ unfoldable pub use Rattle.std.specs.Fmt.{digits}
 pub use Rattle.std.specs.Int.{bit_at, byte_at, bytes_low_first, from_le_bytes, to_le_bytes, w32, w64, ◌∣◌}
 pub use Rattle.std.specs.List.{AllByRecursion, CopiedTo, SameBelow, concat, flat_map, list_any, position_or_len, range_with_len}
 pub use Rattle.std.specs.Option.{ForSome, option_copied, option_map_or}
-pub use Rattle.std.specs.Prelude.{All, None, Option, Some, find, if◌then◌else◌, nat_eq, ◌↔◌}
+pub use Rattle.std.specs.Prelude.{All, None, Option, Some, find, if◌then◌else◌, nat_eq, ⊤, ◌↔◌}
 pub use Rattle.std.specs.Simd.{first_chunks}
 pub use Rattle.byteorder.specs.Endian.{big_bytes, big_number}
 pub use Rattle.byteorder.specs.Numbers.{big_from-lt, big_number-reads_back}

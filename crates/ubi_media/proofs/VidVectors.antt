@@ -1,5 +1,5 @@
 -- Readings and bytes of volume-identifier headers on literals.
-use Rattle.ubi_media.proofs.Prelude.{◌≡◌, [], ◌∷◌, replicate, true, false, refl, check_from, remainder, form_of, vid_bytes, vid_fields, vid_reading, header_of, VidHeader, Valid, Dynamic, Static}
+use Rattle.ubi_media.proofs.Prelude.{◌≡◌, ℕ, List, VidRead, [], ◌∷◌, replicate, true, false, refl, check_from, remainder, form_of, vid_bytes, vid_fields, vid_reading, header_of, VidHeader, Valid, Dynamic, Static, ⊤, map}
 use Rattle.ubi_media.specs.Vid.{fields_from, judged, first_fault, breaks}
 use Rattle.ubi_media.specs.declared.vid.VidFault.TheVariants as fault
 use Rattle.ubi_media.specs.declared.vid.VidRead.TheVariants.{Blank, Corrupt, Fault}
@@ -20,136 +20,74 @@ base = record {
   sqnum = 0;
 }
 
-plain : vid_reading small
-    (words (0x55424921 ∷ 0x01010000 ∷ 0 ∷ 0 ∷ 0 ∷ 0 ∷ 0 ∷ 0 ∷ 0 ∷ 0 ∷ 0 ∷ 0 ∷ 0 ∷ 0 ∷ 0 ∷ 0x73b1ab57 ∷ [])) ≡ Valid base
+-- what is unfolded to compute a header on a literal
+unfoldable on_literals : ⊤
 unfolding base vid_reading form_of judged first_fault breaks vid_fields header_of check_from remainder
-plain = refl
+on_literals = tt
 
--- the version isn't compared
-other_version : vid_reading small
-    (words (0x55424921 ∷ 0x09010000 ∷ 0 ∷ 0 ∷ 0 ∷ 0 ∷ 0 ∷ 0 ∷ 0 ∷ 0 ∷ 0 ∷ 0 ∷ 0 ∷ 0 ∷ 0 ∷ 0x9f1935ef ∷ [])) ≡ Valid base
-unfolding base vid_reading form_of judged first_fault breaks vid_fields header_of check_from remainder
-other_version = refl
+-- a header by its version, kind, copy flag and compat, its volume, its number, the size of its data, how many eraseblocks are used,
+-- its pad, the check of its data, and its check, which another program has worked out
+abbrev header : ℕ → ℕ → ℕ → ℕ → ℕ → ℕ → ℕ → ℕ → List ℕ
+header kinds vol lnum size used pad crc sum =
+    words (0x55424921 ∷ kinds ∷ vol ∷ lnum ∷ 0 ∷ size ∷ used ∷ pad ∷ crc ∷ 0 ∷ 0 ∷ 0 ∷ 0 ∷ 0 ∷ 0 ∷ sum ∷ [])
 
--- the first of two broken rules
-copy_flag_2 : vid_reading small
-    (words (0x55424921 ∷ 0x01010200 ∷ 0x000000c8 ∷ 0 ∷ 0 ∷ 0 ∷ 0 ∷ 0 ∷ 0 ∷ 0 ∷ 0 ∷ 0 ∷ 0 ∷ 0 ∷ 0 ∷ 0xc0a9187c ∷ []))
-    ≡ Fault fault.CopyFlag
-unfolding vid_reading form_of judged first_fault breaks vid_fields header_of check_from remainder
-copy_flag_2 = refl
+-- bytes are read as what stands beside them
+abbrev HaveReadings : List (List ℕ × VidRead) → Type 0
+HaveReadings rows = map (λ e. vid_reading small e.0) rows ≡ map (λ e. e.1) rows
 
-negative_lnum : vid_reading small
-    (words (0x55424921 ∷ 0x01010000 ∷ 0 ∷ 0x80000000 ∷ 0 ∷ 0 ∷ 0 ∷ 0 ∷ 0 ∷ 0 ∷ 0 ∷ 0 ∷ 0 ∷ 0 ∷ 0 ∷ 0xaab5adc5 ∷ []))
-    ≡ Fault fault.Negative
-unfolding vid_reading form_of judged first_fault breaks vid_fields header_of check_from remainder
-negative_lnum = refl
+valid : HaveReadings (
+    -- plain
+    (header 0x01010000 0 0 0 0 0 0 0x73b1ab57, Valid base) ∷
+    -- another version, which isn't compared
+    (header 0x09010000 0 0 0 0 0 0 0x9f1935ef, Valid base) ∷
+    -- preserved
+    (header 0x01010004 0x7fffefff 0 0 0 0 0 0xc6fdd4e9, Valid (record base { compat = 4; vol_id = 0x7fffefff })) ∷
+    -- largest pad
+    (header 0x01010000 0 0 0 0 0x000000bf 0 0x92418ba8, Valid (record base { data_pad = 191 })) ∷
+    -- not full at the last
+    (header 0x01020000 0 1 0x0000017f 2 0 0 0x4b1edffc, Valid (record base { kind = Static; used_ebs = 2; data_size = 383; lnum = 1 })) ∷
+    [])
+unfolding on_literals
+valid = refl
 
-above_the_users : vid_reading small
-    (words (0x55424921 ∷ 0x01010000 ∷ 0x00000080 ∷ 0 ∷ 0 ∷ 0 ∷ 0 ∷ 0 ∷ 0 ∷ 0 ∷ 0 ∷ 0 ∷ 0 ∷ 0 ∷ 0 ∷ 0x6d695d39 ∷ []))
-    ≡ Fault fault.VolumeId
-unfolding vid_reading form_of judged first_fault breaks vid_fields header_of check_from remainder
-above_the_users = refl
-
-below_the_internal : vid_reading small
-    (words (0x55424921 ∷ 0x01010000 ∷ 0x7fffeffe ∷ 0 ∷ 0 ∷ 0 ∷ 0 ∷ 0 ∷ 0 ∷ 0 ∷ 0 ∷ 0 ∷ 0 ∷ 0 ∷ 0 ∷ 0x69b63cbf ∷ []))
-    ≡ Fault fault.VolumeId
-unfolding vid_reading form_of judged first_fault breaks vid_fields header_of check_from remainder
-below_the_internal = refl
-
-compat_of_a_user : vid_reading small
-    (words (0x55424921 ∷ 0x01010001 ∷ 0 ∷ 0 ∷ 0 ∷ 0 ∷ 0 ∷ 0 ∷ 0 ∷ 0 ∷ 0 ∷ 0 ∷ 0 ∷ 0 ∷ 0 ∷ 0x0d691b16 ∷ []))
-    ≡ Fault fault.Compat
-unfolding vid_reading form_of judged first_fault breaks vid_fields header_of check_from remainder
-compat_of_a_user = refl
-
-no_compat_of_the_layout : vid_reading small
-    (words (0x55424921 ∷ 0x01010000 ∷ 0x7fffefff ∷ 0 ∷ 0 ∷ 0 ∷ 0 ∷ 0 ∷ 0 ∷ 0 ∷ 0 ∷ 0 ∷ 0 ∷ 0 ∷ 0 ∷ 0xe6ee13ac ∷ []))
-    ≡ Fault fault.Compat
-unfolding vid_reading form_of judged first_fault breaks vid_fields header_of check_from remainder
-no_compat_of_the_layout = refl
-
-compat_3 : vid_reading small
-    (words (0x55424921 ∷ 0x01010003 ∷ 0x7fffefff ∷ 0 ∷ 0 ∷ 0 ∷ 0 ∷ 0 ∷ 0 ∷ 0 ∷ 0 ∷ 0 ∷ 0 ∷ 0 ∷ 0 ∷ 0x6587c36f ∷ []))
-    ≡ Fault fault.Compat
-unfolding vid_reading form_of judged first_fault breaks vid_fields header_of check_from remainder
-compat_3 = refl
-
-preserved : vid_reading small
-    (words (0x55424921 ∷ 0x01010004 ∷ 0x7fffefff ∷ 0 ∷ 0 ∷ 0 ∷ 0 ∷ 0 ∷ 0 ∷ 0 ∷ 0 ∷ 0 ∷ 0 ∷ 0 ∷ 0 ∷ 0xc6fdd4e9 ∷ []))
-    ≡ Valid (record base { compat = 4; vol_id = 0x7fffefff })
-unfolding base vid_reading form_of judged first_fault breaks vid_fields header_of check_from remainder
-preserved = refl
-
-kind_3 : vid_reading small
-    (words (0x55424921 ∷ 0x01030000 ∷ 0 ∷ 0 ∷ 0 ∷ 0 ∷ 0 ∷ 0 ∷ 0 ∷ 0 ∷ 0 ∷ 0 ∷ 0 ∷ 0 ∷ 0 ∷ 0x37b6cd77 ∷ []))
-    ≡ Fault fault.Kind
-unfolding vid_reading form_of judged first_fault breaks vid_fields header_of check_from remainder
-kind_3 = refl
-
-largest_pad : vid_reading small
-    (words (0x55424921 ∷ 0x01010000 ∷ 0 ∷ 0 ∷ 0 ∷ 0 ∷ 0 ∷ 0x000000bf ∷ 0 ∷ 0 ∷ 0 ∷ 0 ∷ 0 ∷ 0 ∷ 0 ∷ 0x92418ba8 ∷ []))
-    ≡ Valid (record base { data_pad = 191 })
-unfolding base vid_reading form_of judged first_fault breaks vid_fields header_of check_from remainder
-largest_pad = refl
-
-pad_of_half : vid_reading small
-    (words (0x55424921 ∷ 0x01010000 ∷ 0 ∷ 0 ∷ 0 ∷ 0 ∷ 0 ∷ 0x000000c0 ∷ 0 ∷ 0 ∷ 0 ∷ 0 ∷ 0 ∷ 0 ∷ 0 ∷ 0xe862e82e ∷ []))
-    ≡ Fault fault.Pad
-unfolding vid_reading form_of judged first_fault breaks vid_fields header_of check_from remainder
-pad_of_half = refl
-
-copy_too_large : vid_reading small
-    (words (0x55424921 ∷ 0x01010100 ∷ 0 ∷ 0 ∷ 0 ∷ 0x00000181 ∷ 0 ∷ 0 ∷ 0 ∷ 0 ∷ 0 ∷ 0 ∷ 0 ∷ 0 ∷ 0 ∷ 0xd86c0176 ∷ []))
-    ≡ Fault fault.Size
-unfolding vid_reading form_of judged first_fault breaks vid_fields header_of check_from remainder
-copy_too_large = refl
-
-not_full_before_the_last : vid_reading small
-    (words (0x55424921 ∷ 0x01020000 ∷ 0 ∷ 0 ∷ 0 ∷ 0x0000017f ∷ 2 ∷ 0 ∷ 0 ∷ 0 ∷ 0 ∷ 0 ∷ 0 ∷ 0 ∷ 0 ∷ 0xe888f7b0 ∷ []))
-    ≡ Fault fault.Size
-unfolding vid_reading form_of judged first_fault breaks vid_fields header_of check_from remainder
-not_full_before_the_last = refl
-
-not_full_at_the_last : vid_reading small
-    (words (0x55424921 ∷ 0x01020000 ∷ 0 ∷ 1 ∷ 0 ∷ 0x0000017f ∷ 2 ∷ 0 ∷ 0 ∷ 0 ∷ 0 ∷ 0 ∷ 0 ∷ 0 ∷ 0 ∷ 0x4b1edffc ∷ []))
-    ≡ Valid (record base { kind = Static; used_ebs = 2; data_size = 383; lnum = 1 })
-unfolding base vid_reading form_of judged first_fault breaks vid_fields header_of check_from remainder
-not_full_at_the_last = refl
-
-behind_the_last : vid_reading small
-    (words (0x55424921 ∷ 0x01020000 ∷ 0 ∷ 2 ∷ 0 ∷ 0x0000017f ∷ 2 ∷ 0 ∷ 0 ∷ 0 ∷ 0 ∷ 0 ∷ 0 ∷ 0 ∷ 0 ∷ 0x74d5a169 ∷ []))
-    ≡ Fault fault.Lnum
-unfolding vid_reading form_of judged first_fault breaks vid_fields header_of check_from remainder
-behind_the_last = refl
-
-static_without_used_ebs : vid_reading small
-    (words (0x55424921 ∷ 0x01020000 ∷ 0 ∷ 0 ∷ 0 ∷ 1 ∷ 0 ∷ 0 ∷ 0 ∷ 0 ∷ 0 ∷ 0 ∷ 0 ∷ 0 ∷ 0 ∷ 0x95456978 ∷ []))
-    ≡ Fault fault.UsedEbs
-unfolding vid_reading form_of judged first_fault breaks vid_fields header_of check_from remainder
-static_without_used_ebs = refl
-
-dynamic_with_used_ebs : vid_reading small
-    (words (0x55424921 ∷ 0x01010000 ∷ 0 ∷ 0 ∷ 0 ∷ 0 ∷ 1 ∷ 0 ∷ 0 ∷ 0 ∷ 0 ∷ 0 ∷ 0 ∷ 0 ∷ 0 ∷ 0x45433ba4 ∷ []))
-    ≡ Fault fault.UsedEbs
-unfolding vid_reading form_of judged first_fault breaks vid_fields header_of check_from remainder
-dynamic_with_used_ebs = refl
-
-check_of_no_copy : vid_reading small
-    (words (0x55424921 ∷ 0x01010000 ∷ 0 ∷ 0 ∷ 0 ∷ 0 ∷ 0 ∷ 0 ∷ 1 ∷ 0 ∷ 0 ∷ 0 ∷ 0 ∷ 0 ∷ 0 ∷ 0xd63a3b59 ∷ []))
-    ≡ Fault fault.CopyFields
-unfolding vid_reading form_of judged first_fault breaks vid_fields header_of check_from remainder
-check_of_no_copy = refl
-
-copy_of_nothing : vid_reading small
-    (words (0x55424921 ∷ 0x01010100 ∷ 0 ∷ 0 ∷ 0 ∷ 0 ∷ 0 ∷ 0 ∷ 0 ∷ 0 ∷ 0 ∷ 0 ∷ 0 ∷ 0 ∷ 0 ∷ 0x721402e1 ∷ []))
-    ≡ Fault fault.CopyFields
-unfolding vid_reading form_of judged first_fault breaks vid_fields header_of check_from remainder
-copy_of_nothing = refl
-
-wrong_check : vid_reading small
-    (words (0x55424921 ∷ 0x01010000 ∷ 0 ∷ 0 ∷ 0 ∷ 0 ∷ 0 ∷ 0 ∷ 0 ∷ 0 ∷ 0 ∷ 0 ∷ 0 ∷ 0 ∷ 0 ∷ 0x73b1ab56 ∷ [])) ≡ Corrupt
-unfolding vid_reading form_of check_from remainder
-wrong_check = refl
+faulty : HaveReadings (
+    -- the copy flag 2, the first of two broken rules
+    (header 0x01010200 0x000000c8 0 0 0 0 0 0xc0a9187c, Fault fault.CopyFlag) ∷
+    -- negative lnum
+    (header 0x01010000 0 0x80000000 0 0 0 0 0xaab5adc5, Fault fault.Negative) ∷
+    -- above the users
+    (header 0x01010000 0x00000080 0 0 0 0 0 0x6d695d39, Fault fault.VolumeId) ∷
+    -- below the internal
+    (header 0x01010000 0x7fffeffe 0 0 0 0 0 0x69b63cbf, Fault fault.VolumeId) ∷
+    -- compat of a user
+    (header 0x01010001 0 0 0 0 0 0 0x0d691b16, Fault fault.Compat) ∷
+    -- no compat of the layout
+    (header 0x01010000 0x7fffefff 0 0 0 0 0 0xe6ee13ac, Fault fault.Compat) ∷
+    -- compat 3
+    (header 0x01010003 0x7fffefff 0 0 0 0 0 0x6587c36f, Fault fault.Compat) ∷
+    -- kind 3
+    (header 0x01030000 0 0 0 0 0 0 0x37b6cd77, Fault fault.Kind) ∷
+    -- pad of half
+    (header 0x01010000 0 0 0 0 0x000000c0 0 0xe862e82e, Fault fault.Pad) ∷
+    -- copy too large
+    (header 0x01010100 0 0 0x00000181 0 0 0 0xd86c0176, Fault fault.Size) ∷
+    -- not full before the last
+    (header 0x01020000 0 0 0x0000017f 2 0 0 0xe888f7b0, Fault fault.Size) ∷
+    -- behind the last
+    (header 0x01020000 0 2 0x0000017f 2 0 0 0x74d5a169, Fault fault.Lnum) ∷
+    -- static without used ebs
+    (header 0x01020000 0 0 1 0 0 0 0x95456978, Fault fault.UsedEbs) ∷
+    -- dynamic with used ebs
+    (header 0x01010000 0 0 0 1 0 0 0x45433ba4, Fault fault.UsedEbs) ∷
+    -- check of no copy
+    (header 0x01010000 0 0 0 0 0 1 0xd63a3b59, Fault fault.CopyFields) ∷
+    -- copy of nothing
+    (header 0x01010100 0 0 0 0 0 0 0x721402e1, Fault fault.CopyFields) ∷
+    -- wrong check
+    (header 0x01010000 0 0 0 0 0 0 0x73b1ab56, Corrupt) ∷
+    [])
+unfolding on_literals
+faulty = refl
 
 erased : vid_reading small (replicate 64 255) ≡ Blank
 unfolding vid_reading form_of

@@ -35,7 +35,7 @@ unfoldable pub use Rattle.std.specs.List.Sorted.{IsStrictlySortedBy}
 pub use Rattle.std.specs.Map.{lookup}
 pub use Rattle.std.specs.Option.{ForSome, option_map_or, option_or, option_to_list}
 pub use Rattle.std.specs.Ordering.{eq_by_cmp, is_eq, is_gt, is_lt, nat_cmp, ordering_reverse, ordering_then}
-pub use Rattle.std.specs.Prelude.{Contains, Err, IfErr, IfOk, IfSome, IsFalse, IsSome, IsTrue, MatchOption, None, Ok, OnErr, Option, Result, Some, count_by, find, if◌then◌else◌, is_none, map, max, min, nat_le, nat_lt, not, option_and_then, option_map, slice_get, slice_index_or, slice_set, sum, swap, unwrap_or, ◌&&◌, ◌==◌, ◌||◌, ◌↔◌}
+pub use Rattle.std.specs.Prelude.{Contains, Err, IfErr, IfOk, IfSome, IsFalse, IsSome, IsTrue, MatchOption, None, Ok, OnErr, Option, Result, Some, count_by, find, if◌then◌else◌, is_none, map, max, min, nat_le, nat_lt, not, option_and_then, option_map, slice_get, slice_index_or, slice_set, sum, swap, unwrap_or, ⊤, ◌&&◌, ◌==◌, ◌||◌, ◌↔◌}
 pub use Rattle.std.specs.Simd.{first_chunks}
 pub use Rattle.std.specs.declared.cmp.Ordering.{Ordering}
 pub use Rattle.std.specs.declared.cmp.Ordering.TheVariants.{Equal, Greater, Less}

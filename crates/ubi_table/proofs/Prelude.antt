@@ -21,7 +21,7 @@ pub use Rattle.std.specs.List.{AllPairs, cons_option, enumerate_from, flat_map, 
 pub use Rattle.std.specs.List.Sorted.{IsPermutation}
 pub use Rattle.std.specs.Option.{ForSome, option_copied, option_map_or, option_or}
 pub use Rattle.std.specs.Ordering.{eq_by_cmp, is_lt, nat_cmp}
-pub use Rattle.std.specs.Prelude.{All, IfSome, IsSome, IsTrue, MatchOption, None, Option, Some, find, fold, option_map, swap}
+pub use Rattle.std.specs.Prelude.{All, IfSome, IsSome, IsTrue, MatchOption, None, Option, Some, find, fold, option_map, swap, ⊤}
 pub use Rattle.std.specs.Simd.{first_chunks}
 pub use Rattle.std.specs.declared.cmp.Ordering.TheVariants.{Less}
 pub use Rattle.ubi_media.proofs.Cases.{within_or_past}

@@ -1,7 +1,6 @@
-use Rattle.ubi_commands.proofs.Prelude.{◌∙◌, IfOk-weaker, keeps_promise, no_file, unreadable}
+use Rattle.ubi_commands.proofs.Prelude.{◌∙◌, IfOk-weaker, keeps_promise, no_file, unreadable, reads}
 use Rattle.ubi_commands.proofs.Ended.{told_at_places, told_by_bytes}
 use Rattle.ubi_commands.proofs.Outcomes.{told}
-use Rattle.ubi_commands.specs.Work.{reads}
 use Rattle.ubi_commands.proofs.readers.read_dump.Goals as goal
 
 pub returns-in-Ok-AtPlaces : goal.returns-in-Ok-AtPlaces

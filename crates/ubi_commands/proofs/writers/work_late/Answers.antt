@@ -1,7 +1,6 @@
-use Rattle.ubi_commands.proofs.Prelude.{List, ap, refl, subst, sym, ◌∙◌, ℕ, IfOk, Option, fresh, contents_of}
+use Rattle.ubi_commands.proofs.Prelude.{List, ap, refl, subst, sym, ◌∙◌, ℕ, IfOk, Option, fresh, contents_of, HasWork, writes}
 use Rattle.ubi_commands.proofs.Into.{into_file, memory_ended, still_unopened}
 use Rattle.ubi_commands.proofs.Outcomes.{kept_since, others_stay}
-use Rattle.ubi_commands.specs.Work.{HasWork, writes}
 use Rattle.ubi_commands.proofs.writers.work_late.Goals as goal
 
 pub returns-clause-answer : goal.returns-clause-answer

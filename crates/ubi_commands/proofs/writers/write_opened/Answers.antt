@@ -1,6 +1,5 @@
-use Rattle.ubi_commands.proofs.Prelude.{◌∙◌, IfOk-weaker, keeps_promise, WritesInto}
+use Rattle.ubi_commands.proofs.Prelude.{◌∙◌, IfOk-weaker, keeps_promise, WritesInto, HasWork, writes}
 use Rattle.ubi_commands.proofs.Ended.{at_places, by_bytes}
-use Rattle.ubi_commands.specs.Work.{HasWork, writes}
 use Rattle.ubi_commands.proofs.writers.write_opened.Goals as goal
 
 pub returns-in-AtPlaces-clause-answer : goal.returns-in-AtPlaces-clause-answer
