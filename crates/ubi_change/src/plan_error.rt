@@ -1,5 +1,7 @@
 //! Why the image of a source has no plan.
 
+ghost use Rattle.ubi_change.specs.ErrorTexts.{plan_error_text};
+
 use std::error::Error;
 use std::fmt;
 
@@ -15,8 +17,6 @@ pub enum PlanError<C> {
 }
 
 impl<C: fmt::Display> fmt::Display for PlanError<C> {
-    ghost use Rattle.ubi_change.specs.ErrorTexts.{plan_error_text};
-
     ghost output = { plan_error_text C.output };
 
     fn fmt<W: fmt::Write>(&self, f: &mut fmt::Formatter<W>) -> fmt::Result {

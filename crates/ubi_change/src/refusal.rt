@@ -1,5 +1,8 @@
 //! Why a change isn't planned.
 
+ghost use Rattle.std.specs.Prelude.{Some, ◌≡◌};
+ghost use Rattle.ubi_change.specs.ErrorTexts.{change_refusal_text};
+
 use std::alloc::AllocError;
 use std::error::Error;
 use std::fmt;
@@ -33,9 +36,6 @@ pub enum ChangeRefusal {
 }
 
 impl fmt::Display for ChangeRefusal {
-    ghost use Rattle.std.specs.Prelude.{Some};
-    ghost use Rattle.ubi_change.specs.ErrorTexts.{change_refusal_text};
-
     ghost output = { λ cause. Some (change_refusal_text cause) };
 
     fn fmt<W: fmt::Write>(&self, f: &mut fmt::Formatter<W>) -> fmt::Result {
@@ -57,10 +57,7 @@ impl fmt::Display for ChangeRefusal {
 impl Error for ChangeRefusal {}
 
 impl From<AllocError> for ChangeRefusal {
-    ghost use Rattle.std.specs.Prelude.{◌≡◌};
-    ghost use Rattle.ubi_change.specs.declared.refusal.ChangeRefusal.TheVariants.{Memory};
-
-    ghost from_gives = { λ _ e. e ≡ Memory };
+    ghost from_gives = { λ _ e. e ≡ ChangeRefusal.Memory };
 
     fn from(_: AllocError) -> ChangeRefusal {
         ChangeRefusal::Memory

@@ -1,5 +1,8 @@
 //! Why a rename isn't planned.
 
+ghost use Rattle.std.specs.Prelude.{Some, ◌≡◌};
+ghost use Rattle.ubi_change.specs.ErrorTexts.{rename_refusal_text};
+
 use std::alloc::AllocError;
 use std::error::Error;
 use std::fmt;
@@ -31,9 +34,6 @@ pub enum RenameRefusal {
 }
 
 impl fmt::Display for RenameRefusal {
-    ghost use Rattle.std.specs.Prelude.{Some};
-    ghost use Rattle.ubi_change.specs.ErrorTexts.{rename_refusal_text};
-
     ghost output = { λ cause. Some (rename_refusal_text cause) };
 
     fn fmt<W: fmt::Write>(&self, f: &mut fmt::Formatter<W>) -> fmt::Result {
@@ -54,10 +54,7 @@ impl fmt::Display for RenameRefusal {
 impl Error for RenameRefusal {}
 
 impl From<AllocError> for RenameRefusal {
-    ghost use Rattle.std.specs.Prelude.{◌≡◌};
-    ghost use Rattle.ubi_change.specs.declared.rename_refusal.RenameRefusal.TheVariants.{Memory};
-
-    ghost from_gives = { λ _ e. e ≡ Memory };
+    ghost from_gives = { λ _ e. e ≡ RenameRefusal.Memory };
 
     fn from(_: AllocError) -> RenameRefusal {
         RenameRefusal::Memory

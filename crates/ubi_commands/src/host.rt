@@ -1,6 +1,6 @@
 //! The files of the system.
 
-ghost use Rattle.std.specs.Prelude.{◌≡◌};
+ghost use Rattle.std.specs.Prelude.{◌≡◌, None};
 
 use crate::disk::{Disk, OutputFile, WholeFile};
 use crate::file_row::SizedFile;
@@ -37,8 +37,6 @@ pub struct HostFile<F> {
 }
 
 impl<F: Write> Write for HostFile<F> {
-    ghost use Rattle.std.specs.Prelude.{None};
-
     ghost contents = { λ _. None };
 
     fn write(&mut self, buf: &[u8]) -> io::Result<usize> {

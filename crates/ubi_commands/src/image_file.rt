@@ -59,10 +59,7 @@ impl Unread {
 }
 
 impl From<AllocError> for Unread {
-    ghost use Rattle.std.specs.Prelude.{◌≡◌};
-    ghost use Rattle.ubi_commands.specs.declared.image_file.Unread.TheVariants.{Memory};
-
-    ghost from_gives = { λ _ e. e ≡ Memory };
+    ghost from_gives = { λ _ e. e ≡ Unread.Memory };
 
     fn from(_: AllocError) -> Unread {
         Unread::Memory

@@ -3,8 +3,8 @@
 ghost use Rattle.std.specs.Io.KnownBytes.{WriteAppends};
 ghost use Rattle.std.specs.Io.{WritesAtMost};
 ghost use Rattle.std.specs.Option.{ForSome};
-ghost use Rattle.std.specs.Prelude.{◌≡◌, ℕ, Bool, IsSome, List, None, OnErr, OnOk, Option, false};
-ghost use Rattle.ubi_commands.specs.Disk.{Files, OthersStay, fresh};
+ghost use Rattle.std.specs.Prelude.{◌≡◌, ℕ, Bool, IsSome, List, None, OnErr, OnOk, Option, false, []};
+ghost use Rattle.ubi_commands.specs.Disk.{Files, OthersStay, fresh, untold};
 ghost use Rattle.ubi_commands.specs.inner.Late.{contents_of};
 
 use crate::disk::{Disk, OutputFile};
@@ -29,9 +29,6 @@ pub trait Target {
 }
 
 impl Target for Brand {
-    ghost use Rattle.std.specs.Prelude.{[], false};
-    ghost use Rattle.ubi_commands.specs.Disk.{untold};
-
     ghost path = { [] };
 
     ghost files = { untold };

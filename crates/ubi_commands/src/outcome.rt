@@ -85,10 +85,7 @@ pub enum SidesError {
 }
 
 impl From<AllocError> for SidesError {
-    ghost use Rattle.std.specs.Prelude.{◌≡◌};
-    ghost use Rattle.ubi_commands.specs.declared.outcome.SidesError.TheVariants.{Memory};
-
-    ghost from_gives = { λ _ e. e ≡ Memory };
+    ghost from_gives = { λ _ e. e ≡ SidesError.Memory };
 
     fn from(_: AllocError) -> SidesError {
         SidesError::Memory

@@ -1,7 +1,8 @@
 //! How the bytes of a file are seen: which part of it, and whether that can be seen so.
 
-ghost use Rattle.std.specs.Prelude.{◌≡◌, ◌<◌};
+ghost use Rattle.std.specs.Prelude.{◌≡◌, ◌<◌, Some};
 ghost use Rattle.ubi_commands.specs.Views.{misfit};
+ghost use Rattle.ubi_commands.specs.Lines.{misfit_text};
 
 use std::fmt;
 
@@ -30,9 +31,6 @@ pub enum Misfit {
 }
 
 impl fmt::Display for Misfit {
-    ghost use Rattle.std.specs.Prelude.{Some};
-    ghost use Rattle.ubi_commands.specs.Lines.{misfit_text};
-
     ghost output = { λ misfit. Some (misfit_text misfit) };
 
     fn fmt<W: fmt::Write>(&self, f: &mut fmt::Formatter<W>) -> fmt::Result {

@@ -3,7 +3,7 @@
 ghost use Rattle.std.specs.Prelude.{◌≡◌, ℕ, ◌+◌, ◌*◌, ◌<◌, ◌≤◌, ◌^◌, None};
 ghost use Rattle.ubi_media.specs.Record.{rec_fault, usable};
 ghost use Rattle.ubi_compose.specs.Built.{pieces_of};
-ghost use Rattle.ubi_compose.specs.inner.Building.{built_piece};
+ghost use Rattle.ubi_compose.specs.inner.Building.{built_piece, HasParts, built_pieces};
 
 use crate::header::piece_header;
 use crate::piece::{Origin, Piece};
@@ -46,9 +46,6 @@ fn piece_of(geometry: &Geometry, part: &Part, lnum: u32) -> Piece
 }
 
 impl Contents for Recipe {
-    ghost use Rattle.std.specs.Prelude.{◌^◌, ◌<◌};
-    ghost use Rattle.ubi_compose.specs.inner.Building.{HasParts, built_pieces};
-
     ghost sizes = { λ ps. ps.sizes };
 
     ghost pieces = { λ ps. built_pieces ps };

@@ -1,7 +1,7 @@
 //! The volumes of an image whose places are known.
 
 ghost use Rattle.std.specs.FinMap as finite;
-ghost use Rattle.std.specs.Prelude.{◌≡◌, ℕ, None, Some};
+ghost use Rattle.std.specs.Prelude.{◌≡◌, ℕ, None, Some, ◌/◌};
 ghost use Rattle.ubi_media.specs.Record.{rec_fault};
 ghost use Rattle.ubi_volume.specs.Places.{AreWithin};
 ghost use Rattle.ubi_compose.specs.inner.Pieces.{IsNext};
@@ -90,10 +90,6 @@ fn next_piece(
 }
 
 impl Contents for Places {
-    ghost use Rattle.std.specs.Prelude.{◌/◌};
-    ghost use Rattle.ubi_compose.specs.inner.Stored.{stored_pieces};
-    ghost use Rattle.ubi_volume.specs.Places.{AreWithin};
-
     ghost sizes = { λ p. p.records.sizes };
 
     ghost pieces = { λ p. stored_pieces p };

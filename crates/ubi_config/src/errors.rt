@@ -1,7 +1,7 @@
 //! Why a config isn't read, or a section has no record.
 
-ghost use Rattle.std.specs.Prelude.{◌≡◌};
-ghost use Rattle.ubi_config.specs.ErrorTexts.{config_cause_name};
+ghost use Rattle.std.specs.Prelude.{◌≡◌, Some};
+ghost use Rattle.ubi_config.specs.ErrorTexts.{config_cause_name, config_cause_text, config_error_text};
 ghost use Rattle.ubi_config.specs.inner.Reading.{error_at};
 
 use crate::key::Key;
@@ -81,9 +81,6 @@ impl ConfigCause {
 }
 
 impl fmt::Display for ConfigCause {
-    ghost use Rattle.std.specs.Prelude.{Some};
-    ghost use Rattle.ubi_config.specs.ErrorTexts.{config_cause_text};
-
     ghost output = { λ cause. Some (config_cause_text cause) };
 
     fn fmt<W: fmt::Write>(&self, f: &mut fmt::Formatter<W>) -> fmt::Result {
@@ -110,9 +107,6 @@ pub enum ConfigError {
 }
 
 impl fmt::Display for ConfigError {
-    ghost use Rattle.std.specs.Prelude.{Some};
-    ghost use Rattle.ubi_config.specs.ErrorTexts.{config_error_text};
-
     ghost output = { λ error. Some (config_error_text error) };
 
     fn fmt<W: fmt::Write>(&self, f: &mut fmt::Formatter<W>) -> fmt::Result {
@@ -140,10 +134,7 @@ impl fmt::Display for ConfigError {
 impl Error for ConfigError {}
 
 impl From<AllocError> for ConfigError {
-    ghost use Rattle.std.specs.Prelude.{◌≡◌};
-    ghost use Rattle.ubi_config.specs.declared.errors.ConfigError.TheVariants.{Memory};
-
-    ghost from_gives = { λ _ e. e ≡ Memory };
+    ghost from_gives = { λ _ e. e ≡ ConfigError.Memory };
 
     fn from(_: AllocError) -> ConfigError {
         ConfigError::Memory
@@ -172,10 +163,7 @@ impl LineError {
 }
 
 impl From<AllocError> for LineError {
-    ghost use Rattle.std.specs.Prelude.{◌≡◌};
-    ghost use Rattle.ubi_config.specs.declared.errors.LineError.TheVariants.{Memory};
-
-    ghost from_gives = { λ _ e. e ≡ Memory };
+    ghost from_gives = { λ _ e. e ≡ LineError.Memory };
 
     fn from(_: AllocError) -> LineError {
         LineError::Memory
@@ -183,10 +171,7 @@ impl From<AllocError> for LineError {
 }
 
 impl From<ConfigCause> for LineError {
-    ghost use Rattle.std.specs.Prelude.{◌≡◌};
-    ghost use Rattle.ubi_config.specs.declared.errors.LineError.TheVariants.{Cause};
-
-    ghost from_gives = { λ c e. e ≡ Cause c };
+    ghost from_gives = { λ c e. e ≡ LineError.Cause c };
 
     fn from(cause: ConfigCause) -> LineError {
         LineError::Cause(cause)

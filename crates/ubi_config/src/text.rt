@@ -1,6 +1,8 @@
 //! Bytes that are kept as a config has them.
 
-ghost use Rattle.std.specs.Prelude.{◌≡◌, IfOk};
+ghost use Rattle.std.specs.Prelude.{◌≡◌, IfOk, ◌==◌};
+ghost use Rattle.std.specs.Cmp.{partial_equiv_from_equiv};
+ghost use Rattle.std.specs.Cmp.Lexicographic.{nat_list_eq_equiv, pointwise};
 
 use std::alloc::{AllocError, Global};
 use std::marker::Model;
@@ -41,10 +43,6 @@ impl Text {
 }
 
 impl PartialEq for Text {
-    ghost use Rattle.std.specs.Prelude.{◌==◌};
-    ghost use Rattle.std.specs.Cmp.{partial_equiv_from_equiv};
-    ghost use Rattle.std.specs.Cmp.Lexicographic.{nat_list_eq_equiv, pointwise};
-
     ghost eq = { pointwise ◌==◌ };
 
     ghost laws = { partial_equiv_from_equiv nat_list_eq_equiv };

@@ -1,6 +1,6 @@
 //! The erase-counter header, which stands at the start of each eraseblock (`ubi-media.h`, `struct ubi_ec_hdr`).
 
-ghost use Rattle.std.specs.Prelude.{◌≡◌, ◌^◌, ◌<◌, ◌++◌, replicate};
+ghost use Rattle.std.specs.Prelude.{◌≡◌, ◌^◌, ◌<◌, ◌++◌, replicate, Some};
 ghost use Rattle.ubi_media.specs.ErrorTexts.{ec_fault_name};
 ghost use Rattle.ubi_media.specs.Ec.{EcIs, breaks, ec_bytes, ec_fields, ec_front, ec_reading, ec_start, first_fault, judged, offsets_of, sizes_naming, start_by};
 ghost use Rattle.ubi_media.specs.Geometry.{IsGeometry};
@@ -47,9 +47,6 @@ impl EcFault {
 }
 
 impl fmt::Display for EcFault {
-    ghost use Rattle.std.specs.Prelude.{Some};
-    ghost use Rattle.ubi_media.specs.ErrorTexts.{ec_fault_name};
-
     ghost output = { λ fault. Some (ec_fault_name fault) };
 
     fn fmt<W: fmt::Write>(&self, f: &mut fmt::Formatter<W>) -> fmt::Result {

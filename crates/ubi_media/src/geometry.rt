@@ -3,6 +3,7 @@
 ghost use Rattle.std.specs.Prelude.{◌≡◌, Some, None, MatchResult};
 ghost use Rattle.ubi_media.specs.Geometry.{Sizes, IsGeometry, leb_size, slots};
 ghost use Rattle.ubi_media.specs.Limits.{first_broken};
+ghost use Rattle.ubi_media.specs.ErrorTexts.{geometry_error_text};
 
 use crate::record;
 use std::error::Error;
@@ -51,9 +52,6 @@ pub enum GeometryError {
 }
 
 impl fmt::Display for GeometryError {
-    ghost use Rattle.std.specs.Prelude.{Some};
-    ghost use Rattle.ubi_media.specs.ErrorTexts.{geometry_error_text};
-
     ghost output = { λ limit. Some (geometry_error_text limit) };
 
     fn fmt<W: fmt::Write>(&self, f: &mut fmt::Formatter<W>) -> fmt::Result {

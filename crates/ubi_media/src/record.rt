@@ -71,9 +71,6 @@ impl RecFault {
 }
 
 impl fmt::Display for RecFault {
-    ghost use Rattle.std.specs.Prelude.{Some};
-    ghost use Rattle.ubi_media.specs.ErrorTexts.{rec_fault_name};
-
     ghost output = { λ fault. Some (rec_fault_name fault) };
 
     fn fmt<W: fmt::Write>(&self, f: &mut fmt::Formatter<W>) -> fmt::Result {

@@ -1,5 +1,8 @@
 //! Why an image is refused.
 
+ghost use Rattle.std.specs.Prelude.{Some, ◌≡◌};
+ghost use Rattle.ubi_media.specs.ErrorTexts.{refusal_text, attach_error_text};
+
 use crate::ec::EcFault;
 use crate::record::RecFault;
 use crate::vid::VidFault;
@@ -45,9 +48,6 @@ pub enum Refusal {
 }
 
 impl fmt::Display for Refusal {
-    ghost use Rattle.std.specs.Prelude.{Some};
-    ghost use Rattle.ubi_media.specs.ErrorTexts.{refusal_text};
-
     ghost output = { λ cause. Some (refusal_text cause) };
 
     fn fmt<W: fmt::Write>(&self, f: &mut fmt::Formatter<W>) -> fmt::Result {
@@ -90,9 +90,6 @@ pub enum AttachError {
 }
 
 impl fmt::Display for AttachError {
-    ghost use Rattle.std.specs.Prelude.{Some};
-    ghost use Rattle.ubi_media.specs.ErrorTexts.{attach_error_text};
-
     ghost output = { λ error. Some (attach_error_text error) };
 
     fn fmt<W: fmt::Write>(&self, f: &mut fmt::Formatter<W>) -> fmt::Result {
@@ -106,10 +103,7 @@ impl fmt::Display for AttachError {
 impl Error for AttachError {}
 
 impl From<AllocError> for AttachError {
-    ghost use Rattle.std.specs.Prelude.{◌≡◌};
-    ghost use Rattle.ubi_media.specs.declared.refusal.AttachError.TheVariants.{Memory};
-
-    ghost from_gives = { λ _ e. e ≡ Memory };
+    ghost from_gives = { λ _ e. e ≡ AttachError.Memory };
 
     fn from(_: AllocError) -> AttachError {
         AttachError::Memory
@@ -117,10 +111,7 @@ impl From<AllocError> for AttachError {
 }
 
 impl From<Refusal> for AttachError {
-    ghost use Rattle.std.specs.Prelude.{◌≡◌};
-    ghost use Rattle.ubi_media.specs.declared.refusal.AttachError.TheVariants.{Refused};
-
-    ghost from_gives = { λ r e. e ≡ Refused r };
+    ghost from_gives = { λ r e. e ≡ AttachError.Refused r };
 
     fn from(refusal: Refusal) -> AttachError {
         AttachError::Refused(refusal)

@@ -1,7 +1,7 @@
 //! The volume-identifier header, which says to which logical eraseblock an eraseblock belongs (`ubi-media.h`,
 //! `struct ubi_vid_hdr`).
 
-ghost use Rattle.std.specs.Prelude.{◌≡◌, ◌++◌, None, replicate};
+ghost use Rattle.std.specs.Prelude.{◌≡◌, ◌++◌, None, replicate, Some};
 ghost use Rattle.ubi_media.specs.Geometry.{Sizes};
 ghost use Rattle.ubi_media.specs.ErrorTexts.{vid_fault_name};
 ghost use Rattle.ubi_media.specs.Vid.{VidIs, breaks, fields_from, first_fault, header_of, judged, kind_number, kind_of, plain, vid_bytes, vid_fault, vid_fields, vid_front, vid_reading};
@@ -88,9 +88,6 @@ impl VidFault {
 }
 
 impl fmt::Display for VidFault {
-    ghost use Rattle.std.specs.Prelude.{Some};
-    ghost use Rattle.ubi_media.specs.ErrorTexts.{vid_fault_name};
-
     ghost output = { λ fault. Some (vid_fault_name fault) };
 
     fn fmt<W: fmt::Write>(&self, f: &mut fmt::Formatter<W>) -> fmt::Result {

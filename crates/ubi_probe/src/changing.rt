@@ -1,6 +1,8 @@
 //! A source that changes while it is read.
 
-ghost use Rattle.std.specs.Prelude.{◌≡◌, []};
+ghost use Rattle.std.specs.Prelude.{◌≡◌, [], length};
+ghost use Rattle.ubi_probe.specs.ChangingSource.{changing_source};
+ghost use Rattle.ubi_scan.specs.Source.{file_owned, file_sized, known_by};
 
 use ubi_scan::{BlockSource, SourceFault, Trace};
 
@@ -32,10 +34,6 @@ impl<'a> ChangingSource<'a> {
 }
 
 impl BlockSource for ChangingSource<'_> {
-    ghost use Rattle.std.specs.Prelude.{length};
-    ghost use Rattle.ubi_probe.specs.ChangingSource.{changing_source};
-    ghost use Rattle.ubi_scan.specs.Source.{file_owned, file_sized, known_by};
-
     ghost known = { λ s. changing_source (length s.first.now) };
 
     ghost reads = { λ s. s.trace.reads };

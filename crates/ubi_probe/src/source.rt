@@ -1,7 +1,8 @@
 //! Sources for tests.
 
-ghost use Rattle.std.specs.Prelude.{◌≡◌, ◌+◌, ◌/◌, ◌<◌, IfOk, length, replicate, slice_index};
-ghost use Rattle.ubi_probe.specs.ProbedSource.{bumped, next};
+ghost use Rattle.std.specs.Prelude.{◌≡◌, ◌+◌, ◌/◌, ◌<◌, IfOk, length, replicate, slice_index, ◌≤◌, [], None, Some, slice_range, OnErr, OnOk, refl};
+ghost use Rattle.ubi_probe.specs.ProbedSource.{bumped, next, IsCounted, IsSameProbe, no_reads, probe_sized, probe_source};
+ghost use Rattle.ubi_scan.specs.Source.{Narrows, Reads, WhereHeld, after_read, holds, memory_owned, noted};
 
 use std::alloc::{AllocError, Global};
 use std::marker::Model;
@@ -102,10 +103,6 @@ impl<'a> ProbeSource<'a> {
 }
 
 impl BlockSource for ProbeSource<'_> {
-    ghost use Rattle.std.specs.Prelude.{◌≤◌, [], None, Some, slice_range, OnErr, OnOk, refl};
-    ghost use Rattle.ubi_scan.specs.Source.{Narrows, Reads, WhereHeld, after_read, holds, memory_owned, noted};
-    ghost use Rattle.ubi_probe.specs.ProbedSource.{IsCounted, IsSameProbe, no_reads, probe_sized, probe_source};
-
     ghost known = { λ s. probe_source s };
 
     ghost reads = { λ s. no_reads s };

@@ -1,6 +1,9 @@
 //! A writer for tests.
 
-ghost use Rattle.std.specs.Prelude.{◌≡◌, [], IfOk};
+ghost use Rattle.std.specs.Prelude.{◌≡◌, [], IfOk, Some, None, MatchResult, IsOk, length};
+ghost use Rattle.std.specs.Io.KnownBytes.{Keeps, WriteAppends};
+ghost use Rattle.std.specs.Io.{WritesAtMost};
+ghost use Rattle.ubi_probe.specs.ProbedWriter.{IsSameProbe, answer};
 
 use std::alloc::{AllocError, Global};
 use std::io;
@@ -71,11 +74,6 @@ impl ProbeWriter {
 }
 
 impl Write for ProbeWriter {
-    ghost use Rattle.std.specs.Prelude.{Some, None, MatchResult, IsOk, length};
-    ghost use Rattle.std.specs.Io.KnownBytes.{Keeps, WriteAppends};
-    ghost use Rattle.std.specs.Io.{WritesAtMost};
-    ghost use Rattle.ubi_probe.specs.ProbedWriter.{IsSameProbe, answer};
-
     ghost contents = { λ writer. Some writer.taken };
 
     fn write(&mut self, buf: &[u8]) -> io::Result<usize>

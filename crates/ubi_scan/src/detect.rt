@@ -1,12 +1,13 @@
 //! The geometry of a file of which nothing else is known, and where in it the image lies.
 
-ghost use Rattle.std.specs.Prelude.{◌≡◌, ◌≢◌, ℕ, ◌<◌, ◌≤◌, ◌^◌, [], IfErr, IfOk, IfSome, MatchOption};
+ghost use Rattle.std.specs.Prelude.{◌≡◌, ◌≢◌, ℕ, ◌<◌, ◌≤◌, ◌^◌, [], IfErr, IfOk, IfSome, MatchOption, Some};
 ghost use Rattle.ubi_scan.specs.Detected.{AreDetectedOf, IsDetectError, IsFound, IsWhole, NamesPlace, NonePlain, after_detecting};
 ghost use Rattle.ubi_scan.specs.Place.{end_of_last, told};
 ghost use Rattle.ubi_scan.specs.Plain.{IsSurelyPlain};
 ghost use Rattle.ubi_scan.specs.Source.{Narrows, WhereHeld};
 ghost use Rattle.ubi_scan.specs.inner.Detecting.{AreWays, IsReadAt, IsReadError, IsUntold, LiesIn};
 ghost use Rattle.ubi_scan.specs.inner.Joined.{IsAlone, NoneAlone};
+ghost use Rattle.ubi_scan.specs.ErrorTexts.{undetected_text, detect_error_text};
 
 use crate::groups::{Group, image_among};
 use crate::place::told;
@@ -50,9 +51,6 @@ pub enum Undetected {
 }
 
 impl fmt::Display for Undetected {
-    ghost use Rattle.std.specs.Prelude.{Some};
-    ghost use Rattle.ubi_scan.specs.ErrorTexts.{undetected_text};
-
     ghost output = { λ cause. Some (undetected_text cause) };
 
     fn fmt<W: fmt::Write>(&self, f: &mut fmt::Formatter<W>) -> fmt::Result {
@@ -86,9 +84,6 @@ pub enum DetectError {
 }
 
 impl fmt::Display for DetectError {
-    ghost use Rattle.std.specs.Prelude.{Some};
-    ghost use Rattle.ubi_scan.specs.ErrorTexts.{detect_error_text};
-
     ghost output = { λ error. Some (detect_error_text error) };
 
     fn fmt<W: fmt::Write>(&self, f: &mut fmt::Formatter<W>) -> fmt::Result {
@@ -103,10 +98,7 @@ impl fmt::Display for DetectError {
 impl Error for DetectError {}
 
 impl From<AllocError> for DetectError {
-    ghost use Rattle.std.specs.Prelude.{◌≡◌};
-    ghost use Rattle.ubi_scan.specs.declared.detect.DetectError.TheVariants.{Memory};
-
-    ghost from_gives = { λ _ e. e ≡ Memory };
+    ghost from_gives = { λ _ e. e ≡ DetectError.Memory };
 
     fn from(_: AllocError) -> DetectError {
         DetectError::Memory
@@ -114,10 +106,7 @@ impl From<AllocError> for DetectError {
 }
 
 impl<T: Drop> From<AllocFailed<T>> for DetectError {
-    ghost use Rattle.std.specs.Prelude.{◌≡◌};
-    ghost use Rattle.ubi_scan.specs.declared.detect.DetectError.TheVariants.{Memory};
-
-    ghost from_gives = { λ _ e. e ≡ Memory };
+    ghost from_gives = { λ _ e. e ≡ DetectError.Memory };
 
     fn from(_: AllocFailed<T>) -> DetectError {
         DetectError::Memory

@@ -1,5 +1,8 @@
 //! Why a call over a source fails.
 
+ghost use Rattle.std.specs.Prelude.{Some, ◌≡◌};
+ghost use Rattle.ubi_scan.specs.ErrorTexts.{stream_error_text};
+
 use std::alloc::AllocError;
 use std::error::Error;
 use std::fmt;
@@ -19,9 +22,6 @@ pub enum StreamError {
 }
 
 impl fmt::Display for StreamError {
-    ghost use Rattle.std.specs.Prelude.{Some};
-    ghost use Rattle.ubi_scan.specs.ErrorTexts.{stream_error_text};
-
     ghost output = { λ error. Some (stream_error_text error) };
 
     fn fmt<W: fmt::Write>(&self, f: &mut fmt::Formatter<W>) -> fmt::Result {
@@ -37,10 +37,7 @@ impl fmt::Display for StreamError {
 impl Error for StreamError {}
 
 impl From<AllocError> for StreamError {
-    ghost use Rattle.std.specs.Prelude.{◌≡◌};
-    ghost use Rattle.ubi_scan.specs.declared.errors.StreamError.TheVariants.{Memory};
-
-    ghost from_gives = { λ _ e. e ≡ Memory };
+    ghost from_gives = { λ _ e. e ≡ StreamError.Memory };
 
     fn from(_: AllocError) -> StreamError {
         StreamError::Memory
@@ -48,10 +45,7 @@ impl From<AllocError> for StreamError {
 }
 
 impl From<Refusal> for StreamError {
-    ghost use Rattle.std.specs.Prelude.{◌≡◌};
-    ghost use Rattle.ubi_scan.specs.declared.errors.StreamError.TheVariants.{Refused};
-
-    ghost from_gives = { λ r e. e ≡ Refused r };
+    ghost from_gives = { λ r e. e ≡ StreamError.Refused r };
 
     fn from(refusal: Refusal) -> StreamError {
         StreamError::Refused(refusal)

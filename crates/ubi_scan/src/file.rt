@@ -3,6 +3,8 @@
 ghost use Rattle.std.specs.Option.{ForSome};
 ghost use Rattle.std.specs.Prelude.{◌≡◌, ◌+◌, ◌<◌, ◌^◌, [], IfOk, length, true, take};
 ghost use Rattle.ubi_scan.specs.Placed.{IsSourceOf, StandsAt};
+ghost use Rattle.ubi_scan.specs.Source.{file_owned, file_sized, known_by};
+ghost use Rattle.ubi_scan.specs.Promised.{keeps_promise};
 
 use crate::placed::{PlacedFile, SystemFile, file_len};
 use crate::source::{BlockSource, SourceFault};
@@ -110,9 +112,6 @@ impl<F: FileExt + OpenFile + Seek + Drop> FileSource<SystemFile<F>> {
 }
 
 impl<F: PlacedFile + Drop> BlockSource for FileSource<F> {
-    ghost use Rattle.ubi_scan.specs.Source.{file_owned, file_sized, known_by};
-    ghost use Rattle.ubi_scan.specs.Promised.{keeps_promise};
-
     ghost known = { λ s. record { size = s.len; failures = s.failures; held = F.bytes s.file } };
 
     ghost reads = { λ s. s.trace.reads };

@@ -3,7 +3,7 @@
 ghost use Rattle.std.specs.List.{filter, fold};
 ghost use Rattle.std.specs.Prelude.{◌≡◌, ℕ, ◌+◌, ◌-◌, ◌/◌, ◌<◌, ◌≤◌, ◌^◌, ◌==◌, ◌&&◌, IfErr, IfOk, length, map, max, nat_lt, vec_len};
 ghost use Rattle.ubi_scan.specs.Detected.{NamesPlace, after_detecting};
-ghost use Rattle.ubi_scan.specs.Place.{blanks_before, blanks_behind, end_of_image, end_of_last, has_vote, start_of_image, told, told_by, told_ways, votes, ways_without};
+ghost use Rattle.ubi_scan.specs.Place.{blanks_before, blanks_behind, end_of_image, end_of_last, has_vote, start_of_image, told, told_by, told_ways, votes, ways_without, has_vid};
 ghost use Rattle.ubi_scan.specs.Source.{Narrows, WhereHeld};
 ghost use Rattle.ubi_scan.specs.declared.way.Way.{Way};
 ghost use Rattle.ubi_scan.specs.inner.Detecting.{AreWays, IsReadAt, IsReadError, LiesIn, is_most_voted};
@@ -25,8 +25,6 @@ struct HasVid<'a> {
 }
 
 impl BlockTest for HasVid<'_> {
-    ghost use Rattle.ubi_scan.specs.Place.{has_vid};
-
     ghost holds = { λ test bytes. has_vid bytes test.way.now };
 
     ghost reach = { λ _. 0 };

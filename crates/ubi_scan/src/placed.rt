@@ -2,7 +2,7 @@
 
 ghost use Rattle.std.specs.Io.{ReadsAtMost};
 ghost use Rattle.std.specs.Option.{ForSome};
-ghost use Rattle.std.specs.Prelude.{◌≡◌, List, ℕ, Option, IfOk, IfSome, length, take};
+ghost use Rattle.std.specs.Prelude.{◌≡◌, List, ℕ, Option, IfOk, IfSome, length, take, None};
 ghost use Rattle.ubi_scan.specs.Placed.{StandsAt};
 
 use std::fs::File;
@@ -52,8 +52,6 @@ impl<F> SystemFile<F> {
 }
 
 impl<F: FileExt> PlacedFile for SystemFile<F> {
-    ghost use Rattle.std.specs.Prelude.{None};
-
     ghost bytes = { λ _. None };
 
     fn read_from(&self, at: u64, out: &mut [u8]) -> io::Result<usize> {

@@ -1,7 +1,7 @@
 //! Sources: bytes that are read at places, and what is known of them.
 
-ghost use Rattle.std.specs.Prelude.{◌≡◌, ℕ, ◌+◌, ◌≤◌, List, None, length, slice_range, OnErr, OnOk};
-ghost use Rattle.ubi_scan.specs.Source.{Agreed, AreKnownBy, IsSource, MayHold, Narrows, Reads, Source, WhereHeld, after_read, noted};
+ghost use Rattle.std.specs.Prelude.{◌≡◌, ℕ, ◌+◌, ◌≤◌, List, None, length, slice_range, OnErr, OnOk, Some, codes, [], refl};
+ghost use Rattle.ubi_scan.specs.Source.{Agreed, AreKnownBy, IsSource, MayHold, Narrows, Reads, Source, WhereHeld, after_read, noted, holds, memory, memory_owned, memory_sized};
 
 use std::error::Error;
 use std::fmt;
@@ -12,8 +12,6 @@ use std::marker::Model;
 pub struct SourceFault;
 
 impl fmt::Display for SourceFault {
-    ghost use Rattle.std.specs.Prelude.{Some, codes};
-
     ghost output = { λ _. Some (codes "a read failed") };
 
     fn fmt<W: fmt::Write>(&self, f: &mut fmt::Formatter<W>) -> fmt::Result {
@@ -90,9 +88,6 @@ impl<'a> MemorySource<'a> {
 }
 
 impl BlockSource for MemorySource<'_> {
-    ghost use Rattle.std.specs.Prelude.{[], refl};
-    ghost use Rattle.ubi_scan.specs.Source.{holds, memory, memory_owned, memory_sized};
-
     ghost known = { λ s. memory s };
 
     ghost reads = { λ _. [] };

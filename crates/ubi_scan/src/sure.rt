@@ -1,11 +1,11 @@
 //! Whether the size that a group of headers says is sure, by what stands at the places of its eraseblocks.
 
-ghost use Rattle.std.specs.Prelude.{◌≡◌, ℕ, ◌+◌, ◌/◌, ◌<◌, ◌≤◌, ◌^◌, ◌||◌, IfErr, IfOk, not};
+ghost use Rattle.std.specs.Prelude.{◌≡◌, ℕ, ◌+◌, ◌/◌, ◌<◌, ◌≤◌, ◌^◌, ◌||◌, IfErr, IfOk, not, ◌-◌};
 ghost use Rattle.ubi_scan.specs.Detected.{NamesPlace, after_detecting};
 ghost use Rattle.ubi_scan.specs.Groups.{greatest_size};
 ghost use Rattle.ubi_scan.specs.Place.{ways_with};
 ghost use Rattle.ubi_scan.specs.Source.{Narrows, WhereHeld};
-ghost use Rattle.ubi_scan.specs.Sure.{are_no_parts, end_in, goes_on, has_inner_start, has_part_start, has_room, have_copies, holds_table, is_dense, is_filled, is_hole, is_prime, is_seen, is_sure, is_whole_size, may_be_parts, may_be_size, meet_in, says_so, some_ends_blank, tables_meet};
+ghost use Rattle.ubi_scan.specs.Sure.{are_no_parts, end_in, goes_on, has_inner_start, has_part_start, has_room, have_copies, holds_table, is_dense, is_filled, is_hole, is_prime, is_seen, is_sure, is_whole_size, may_be_parts, may_be_size, meet_in, says_so, some_ends_blank, tables_meet, all_are, meets, is_start, some_part, some_inner};
 ghost use Rattle.ubi_scan.specs.inner.Detecting.{AreWays, IsReadAt, IsReadError, LiesIn};
 
 use crate::at_places::{all_are, is_start, number_at};
@@ -28,9 +28,6 @@ struct EndsBlank {
 }
 
 impl BlockTest for EndsBlank {
-    ghost use Rattle.ubi_scan.specs.Sure.{all_are};
-    ghost use Rattle.std.specs.Prelude.{◌+◌, ◌-◌};
-
     ghost holds = { λ test bytes p. all_are 0xFF 16 bytes (p + test.size - (test.oob + 16)) };
 
     ghost reach = { λ _. 0 };
@@ -177,8 +174,6 @@ struct Meets<'a> {
 }
 
 impl BlockTest for Meets<'_> {
-    ghost use Rattle.ubi_scan.specs.Sure.{meets};
-
     ghost holds = { λ test bytes p. meets bytes test.group.now test.way.now p };
 
     ghost reach = { λ _. 0 };
@@ -209,8 +204,6 @@ struct GoesOn {
 }
 
 impl BlockTest for GoesOn {
-    ghost use Rattle.ubi_scan.specs.Sure.{goes_on};
-
     ghost holds = { λ test. goes_on test.count };
 
     ghost reach = { λ _. 0 };
@@ -225,8 +218,6 @@ impl BlockTest for GoesOn {
 struct Hole;
 
 impl BlockTest for Hole {
-    ghost use Rattle.ubi_scan.specs.Sure.{is_hole};
-
     ghost holds = { λ _. is_hole };
 
     ghost reach = { λ _. 0 };
@@ -243,8 +234,6 @@ struct Starts<'a> {
 }
 
 impl BlockTest for Starts<'_> {
-    ghost use Rattle.ubi_scan.specs.Sure.{is_start};
-
     ghost holds = { λ test bytes. is_start bytes test.group.now };
 
     ghost reach = { λ _. 0 };
@@ -267,9 +256,6 @@ struct SomePart<'a, T: BlockTest> {
 }
 
 impl<T: BlockTest> BlockTest for SomePart<'_, T> {
-    ghost use Rattle.std.specs.Prelude.{◌+◌};
-    ghost use Rattle.ubi_scan.specs.Sure.{some_part};
-
     ghost holds = { λ test bytes. some_part test.size test.parts (T.holds test.test.now bytes) };
 
     ghost reach = { λ test. test.size + T.reach test.test.now };
@@ -293,9 +279,6 @@ struct SomeInner<'a, T: BlockTest> {
 }
 
 impl<T: BlockTest> BlockTest for SomeInner<'_, T> {
-    ghost use Rattle.std.specs.Prelude.{◌+◌};
-    ghost use Rattle.ubi_scan.specs.Sure.{some_inner};
-
     ghost holds = { λ test bytes. some_inner test.last test.part.size test.part.parts (T.holds test.part.test.now bytes) };
 
     ghost reach = { λ test. test.part.size + T.reach test.part.test.now };

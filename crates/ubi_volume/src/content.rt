@@ -1,6 +1,6 @@
 //! What a volume reads.
 
-ghost use Rattle.std.specs.Prelude.{◌≡◌, ◌↔◌, ◌++◌, ◌<◌, ℕ, List, IfSome, IsTrue, OnErr, OnOk, length};
+ghost use Rattle.std.specs.Prelude.{◌≡◌, ◌↔◌, ◌++◌, ◌<◌, ℕ, List, IfSome, IsTrue, OnErr, OnOk, length, ◌==◌};
 ghost use Rattle.std.specs.BTreeMap.{IsOrdered};
 ghost use Rattle.std.specs.FinMap as finite;
 ghost use Rattle.std.specs.List.{list_all};
@@ -9,6 +9,9 @@ ghost use Rattle.std.specs.Option.{option_copied};
 ghost use Rattle.std.specs.Ordering.{nat_cmp};
 ghost use Rattle.ubi_volume.specs.inner.Making.{leb_fits};
 ghost use Rattle.ubi_volume.specs.Made.{lebs_without_blank, without_blank};
+ghost use Rattle.std.specs.Cmp.{partial_equiv_from_equiv};
+ghost use Rattle.std.specs.Cmp.Lexicographic.{nat_list_eq_equiv, pointwise};
+ghost use Rattle.ubi_volume.specs.EqualLebs.{same_lebs, same_lebs_per};
 
 use std::alloc::{AllocError, Global};
 use std::collections::BTreeMap;
@@ -65,10 +68,6 @@ impl Bytes {
 }
 
 impl PartialEq for Bytes {
-    ghost use Rattle.std.specs.Prelude.{◌==◌};
-    ghost use Rattle.std.specs.Cmp.{partial_equiv_from_equiv};
-    ghost use Rattle.std.specs.Cmp.Lexicographic.{nat_list_eq_equiv, pointwise};
-
     ghost eq = { pointwise ◌==◌ };
 
     ghost laws = { partial_equiv_from_equiv nat_list_eq_equiv };
@@ -101,8 +100,6 @@ impl Model for Lebs {
 }
 
 impl PartialEq for Lebs {
-    ghost use Rattle.ubi_volume.specs.EqualLebs.{same_lebs, same_lebs_per};
-
     ghost eq = { same_lebs };
 
     ghost laws = { same_lebs_per };

@@ -1,5 +1,8 @@
 //! Why a volume isn't read, and why volumes have no meaning together.
 
+ghost use Rattle.std.specs.Prelude.{Some, ◌≡◌};
+ghost use Rattle.ubi_volume.specs.ErrorTexts.{read_error_text, meaning_cause_text};
+
 use crate::content::Volume;
 use std::alloc::AllocError;
 use std::error::Error;
@@ -24,9 +27,6 @@ pub enum ReadError {
 }
 
 impl fmt::Display for ReadError {
-    ghost use Rattle.std.specs.Prelude.{Some};
-    ghost use Rattle.ubi_volume.specs.ErrorTexts.{read_error_text};
-
     ghost output = { λ error. Some (read_error_text error) };
 
     fn fmt<W: fmt::Write>(&self, f: &mut fmt::Formatter<W>) -> fmt::Result {
@@ -44,10 +44,7 @@ impl fmt::Display for ReadError {
 impl Error for ReadError {}
 
 impl From<AllocError> for ReadError {
-    ghost use Rattle.std.specs.Prelude.{◌≡◌};
-    ghost use Rattle.ubi_volume.specs.declared.errors.ReadError.TheVariants.{Memory};
-
-    ghost from_gives = { λ _ e. e ≡ Memory };
+    ghost from_gives = { λ _ e. e ≡ ReadError.Memory };
 
     fn from(_: AllocError) -> ReadError {
         ReadError::Memory
@@ -75,9 +72,6 @@ pub enum MeaningCause {
 }
 
 impl fmt::Display for MeaningCause {
-    ghost use Rattle.std.specs.Prelude.{Some};
-    ghost use Rattle.ubi_volume.specs.ErrorTexts.{meaning_cause_text};
-
     ghost output = { λ cause. Some (meaning_cause_text cause) };
 
     fn fmt<W: fmt::Write>(&self, f: &mut fmt::Formatter<W>) -> fmt::Result {
@@ -107,9 +101,6 @@ pub struct MeaningError {
 }
 
 impl fmt::Display for MeaningError {
-    ghost use Rattle.std.specs.Prelude.{Some};
-    ghost use Rattle.ubi_volume.specs.ErrorTexts.{meaning_cause_text};
-
     ghost output = { λ error. Some (meaning_cause_text error.cause) };
 
     fn fmt<W: fmt::Write>(&self, f: &mut fmt::Formatter<W>) -> fmt::Result {

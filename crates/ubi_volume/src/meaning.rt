@@ -6,7 +6,7 @@ ghost use Rattle.std.specs.Prelude.{◌≡◌, ◌==◌, ◌↔◌, IfErr, IfOk,
 ghost use Rattle.ubi_media.specs.Fields.{same_bytes};
 ghost use Rattle.ubi_media.specs.Geometry.{IsGeometry};
 ghost use Rattle.ubi_media.specs.Record.{rec_fault};
-ghost use Rattle.ubi_volume.specs.EqualMeanings.{same_meaning};
+ghost use Rattle.ubi_volume.specs.EqualMeanings.{same_meaning, same_meaning_per};
 ghost use Rattle.ubi_volume.specs.Made.{IsFirst, NoCause, meaning_of, item_without_blank};
 ghost use Rattle.ubi_volume.specs.Meant.{IsMeaning, VolumeMap, Fits};
 ghost use Rattle.ubi_volume.specs.MeantCoded.{AreVolumes};
@@ -121,8 +121,6 @@ impl Meaning {
 /// Two meanings are equal if their geometries, their image sequence numbers, the records of their volumes and what these
 /// read are.
 impl PartialEq for Meaning {
-    ghost use Rattle.ubi_volume.specs.EqualMeanings.{same_meaning, same_meaning_per};
-
     ghost eq = { same_meaning };
 
     ghost laws = { same_meaning_per };
