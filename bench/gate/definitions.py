@@ -26,7 +26,7 @@ import sys
 import contracts
 
 ROOT = os.path.dirname(os.path.dirname(os.path.dirname(os.path.abspath(__file__))))
-CRATES = ("ubi_media", "ubi_config", "ubi_scan", "ubi_table", "ubi_volume", "ubi_compose", "ubi_change", "ubi_probe", "ubi_commands", "ubi_tool")
+CRATES = ("ubi_media", "ubi_config", "ubi_scan", "ubi_detect", "ubi_table", "ubi_volume", "ubi_compose", "ubi_change", "ubi_probe", "ubi_commands", "ubi_tool")
 HEADLINE = ("ubi_commands", "Headline", "Headline")
 # The calls that compute what the headline speaks of, by their files.
 CALLS = (
@@ -40,7 +40,7 @@ CALLS = (
 # The calls that the program makes of the libraries, over sources and writers, and the one that `main` makes. What `show`, `compose` and
 # `build` read first is in docs/PROVED.md.
 PROGRAM_CALLS = (
-    ("ubi_scan", "detect", "detect_from"),
+    ("ubi_detect", "detect", "detect_from"),
     ("ubi_volume", "places", "attach_places"),
     ("ubi_volume", "surveyed", "survey_from"),
     ("ubi_volume", "extract", "write_places"),

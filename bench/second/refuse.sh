@@ -51,7 +51,7 @@ if [ $# = 2 ]; then
 fi
 wrong=0
 refuse_each ubi_tests tests::scan::memory::finds_all_or_runs_out_of_memory || wrong=1
-refuse_each ubi_tests tests::scan::detect::detects_or_runs_out_of_memory || wrong=1
+refuse_each ubi_tests tests::detect::detects_or_runs_out_of_memory || wrong=1
 refuse_each ubi_tests tests::table::memory::reads_and_names_or_runs_out_of_memory || wrong=1
 refuse_each ubi_tests tests::volume::memory::reads_all_or_runs_out_of_memory || wrong=1
 refuse_each ubi_tests tests::change::memory::plans_all_or_runs_out_of_memory || wrong=1

@@ -1,6 +1,6 @@
 -- What is told of a part of a file, of whatever the source over it may hold.
 use Rattle.ubi_commands.proofs.Prelude.{List, ℕ, subst, sym, AreDetectedOf, IsDetectError, Agreed, IsSource, Source, Detected, Undetected, Gives, says, Detects, detected, options_lines, undetected, undetected_line, Outcome, FilePart}
-use Rattle.ubi_scan.specs.declared.detect.DetectError.TheVariants as error
+use Rattle.ubi_detect.specs.declared.detect.DetectError.TheVariants as error
 
 module _ (part : FilePart) (k : Source) (agrees : Agreed) (bytes : List ℕ) (holds : agrees bytes) (o : Outcome) where
   -- of bytes that it may hold the same is told

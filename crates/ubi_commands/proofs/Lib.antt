@@ -20,6 +20,7 @@ pub mod GivenWords
 pub mod Into
 pub mod KeptPart
 pub mod Lacking
+pub mod LeastTold
 pub mod Levels
 pub mod ListedLines
 pub mod Marked

@@ -78,6 +78,7 @@ pub use Rattle.ubi_change.specs.declared.step.Step.{Step}
 pub use Rattle.ubi_compose.proofs.BuiltReads.{built_reads}
 pub use Rattle.ubi_compose.proofs.BuiltRoom.{built_accepted}
 pub use Rattle.ubi_compose.proofs.Form.{count-composed, count-normal_bytes, normalising}
+pub use Rattle.ubi_compose.proofs.LesserPage.{normal_kept}
 pub use Rattle.ubi_compose.proofs.Lists.{all_append, all_from}
 pub use Rattle.ubi_compose.proofs.Refusals.{refuses}
 pub use Rattle.ubi_compose.proofs.StoredVolumes.{count, volume_at}
@@ -85,7 +86,7 @@ pub use Rattle.ubi_compose.specs.Building.{CanBuild, IsBuildError, WhereNotBegun
 pub use Rattle.ubi_compose.specs.Built.{HaveMeaning, Parts, Reaches, text_of}
 pub use Rattle.ubi_compose.specs.BuiltLaws.{text_read}
 pub use Rattle.ubi_compose.specs.Composed.{HasRoom, IsComparison, composed}
-pub use Rattle.ubi_compose.specs.Normal.{normal_blocks}
+pub use Rattle.ubi_compose.specs.Normal.{IsNormalised, normal_blocks}
 pub use Rattle.ubi_compose.specs.Spec.{volumes_of}
 pub use Rattle.ubi_compose.specs.Streamed.{HasGot, IsStreamed}
 pub use Rattle.ubi_compose.specs.TextLaws.{ComesTo}
@@ -97,28 +98,30 @@ pub use Rattle.ubi_config.specs.Config.{sections_of}
 unfoldable pub use Rattle.ubi_config.specs.Config.{first_fault}
 unfoldable pub use Rattle.ubi_config.specs.Records.{record_in}
 pub use Rattle.ubi_config.specs.declared.section.Section.{Section}
+pub use Rattle.ubi_detect.proofs.LeastWay.{IsLesserTold, least_first}
+pub use Rattle.ubi_detect.proofs.OnGrid.{each_on_grid}
+pub use Rattle.ubi_detect.specs.Detected.{AreDetected, AreDetectedOf, IsDetectError}
+pub use Rattle.ubi_detect.specs.Heads.{first_place, heads_of}
+pub use Rattle.ubi_detect.specs.Place.{blanks_behind, end_of_image, end_of_last, run, start_of_image, told_by, told_ways}
+pub use Rattle.ubi_detect.specs.declared.detect.Detected.{Detected}
+pub use Rattle.ubi_detect.specs.declared.detect.Undetected.{Undetected}
+pub use Rattle.ubi_detect.specs.declared.groups.Group.{Group}
+pub use Rattle.ubi_detect.specs.declared.way.Way.{Way}
 pub use Rattle.ubi_media.specs.Geometry.{IsGeometry, Sizes, page_sizes}
 unfoldable pub use Rattle.ubi_media.specs.Limits.{first_broken}
+pub use Rattle.ubi_media.specs.OtherPage.{with_page}
 pub use Rattle.ubi_media.specs.Record.{rec_fault, usable}
 pub use Rattle.ubi_media.specs.declared.record.VolumeRecord.{VolumeRecord}
 pub use Rattle.ubi_media.specs.declared.refusal.Refusal.{Refusal}
 pub use Rattle.ubi_scan.proofs.InMemory.{still}
 pub use Rattle.ubi_scan.proofs.Narrowed.{source_narrowed}
-pub use Rattle.ubi_scan.proofs.OnGrid.{each_on_grid}
 pub use Rattle.ubi_scan.proofs.ReadParts.{count_blocks}
 pub use Rattle.ubi_scan.proofs.Stands.{stand_within}
-pub use Rattle.ubi_scan.specs.Detected.{AreDetected, AreDetectedOf, IsDetectError}
-pub use Rattle.ubi_scan.specs.Heads.{first_place, heads_of}
 pub use Rattle.ubi_scan.specs.Image.{Image, IsLengthFault, IsWhole, IsWholeSize, block, eraseblocks, image_of, judged}
-pub use Rattle.ubi_scan.specs.Place.{blanks_behind, end_of_image, end_of_last, run, start_of_image, told_by, told_ways}
 pub use Rattle.ubi_scan.specs.Placed.{StandsAt}
 pub use Rattle.ubi_scan.specs.Promised.{keeps_promise}
 pub use Rattle.ubi_scan.specs.Source.{Agreed, IsSource, Narrows, Source, WhereHeld, blocks_in, blocks_of, holds, known_by, memory}
-pub use Rattle.ubi_scan.specs.declared.detect.Detected.{Detected}
-pub use Rattle.ubi_scan.specs.declared.detect.Undetected.{Undetected}
 pub use Rattle.ubi_scan.specs.declared.errors.StreamError.{StreamError}
-pub use Rattle.ubi_scan.specs.declared.groups.Group.{Group}
-pub use Rattle.ubi_scan.specs.declared.way.Way.{Way}
 pub use Rattle.ubi_table.specs.Records.{AreRecords, Records}
 pub use Rattle.ubi_volume.proofs.Either.{accepted_or_refused}
 pub use Rattle.ubi_volume.proofs.Extracted.{len_none, len_some}
@@ -132,6 +135,7 @@ pub use Rattle.ubi_volume.specs.Accepts.{Accepts, AcceptsBlocks}
 pub use Rattle.ubi_volume.specs.Amounts.{AmountIs}
 pub use Rattle.ubi_volume.specs.Extract.{extent_in, extent_len, extent_of, read_text}
 pub use Rattle.ubi_volume.specs.Meant.{Meant, records_of}
+pub use Rattle.ubi_volume.specs.PageLaws.{meaning_with_page}
 pub use Rattle.ubi_volume.specs.Places.{ArePlaces, ArePlacesOf, AreWithin, Placed}
 pub use Rattle.ubi_volume.specs.Reading.{read_volume, volume_len}
 pub use Rattle.ubi_volume.specs.Wrote.{All, First, IsWroteError, NotAll, Wanted, Wrote}
@@ -165,6 +169,7 @@ pub use Rattle.ubi_commands.specs.List.{Lists, list_lines, listed, record_line, 
 unfoldable pub use Rattle.ubi_commands.specs.List.{room_words, sizes_line}
 pub use Rattle.ubi_commands.specs.Normalise.{HasMeaning, IsNormaliseError, Normalises, wrote_nothing}
 pub use Rattle.ubi_commands.specs.Numbers.{greatest, sizes_of}
+pub use Rattle.ubi_commands.specs.PageLaws.{AreOfFirst, LeastTold}
 pub use Rattle.ubi_commands.specs.Plan.{CutAccepts, IsCarryFault, cut_bytes, cut_text, plan_answer, plan_lines, step_line, steps_done}
 pub use Rattle.ubi_commands.specs.Program.{IsDump, IsRead, IsToldFirst, IsUnseen, OfFile, OfImage, OfText, TellsNothing, WhereRead, WritesInto, WritesPlan, alike, avoided, bad_limit, cannot_read, file, given, image, no_file, no_left, no_list, no_pages, no_right, no_text, of_dump, places, planned, text_limit, told, unfit, unfit_whole, unlike, unreadable, untold, whole, with_list, written}
 pub use Rattle.ubi_commands.specs.Rename.{CutIsNamed, HasRename, IsRenameFault, Renames, RenamesFrom, nameless_from}

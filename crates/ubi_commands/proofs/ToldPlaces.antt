@@ -1,8 +1,8 @@
 -- Where what is told of a file lies in it.
 use Rattle.ubi_commands.proofs.Prelude.{◌≡◌, ℕ, ◌+◌, ◌-◌, ◌*◌, ◌/◌, ◌≤◌, Bool, List, [], ◌∷◌, ap, arith, inl, inr, length, refl, mod-add-div', mul-le-mul_right, length-range_with_len, prefix_len-le-length, range_with_len, Contains, AreDetected, first_place, heads_of, blanks_behind, end_of_image, end_of_last, run, start_of_image, told_by, told_ways, holds, Detected, Group, Way, each_on_grid, IsToldFirst}
 use Rattle.std.specs.Prelude.{map}
-use Rattle.ubi_scan.specs.Detected.{IsFound}
-use Rattle.ubi_scan.specs.Heads.{places}
+use Rattle.ubi_detect.specs.Detected.{IsFound}
+use Rattle.ubi_detect.specs.Heads.{places}
 
 -- the first of some places is one of them
 contains_first : (ps : List ℕ) → 1 ≤ length ps → Contains ps (first_place ps)

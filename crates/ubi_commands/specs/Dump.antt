@@ -1,7 +1,7 @@
 -- A dump as it is read: of what the files hold a part, of that the pages, and 0xFF in the place of bad eraseblocks.
 use Rattle.std.specs.Prelude.{◌≡◌, ℕ, ◌*◌, ◌+◌, Bool, IfSome, List, [], None, Option, Some, length, min, option_map}
 use Rattle.std.specs.Option.{option_map_or}
-use Rattle.ubi_scan.specs.declared.detect.Detected.{Detected}
+use Rattle.ubi_detect.specs.declared.detect.Detected.{Detected}
 use Rattle.ubi_commands.specs.BadBlocks.{bad_marks, masked}
 use Rattle.ubi_commands.specs.Disk.{Files}
 use Rattle.ubi_commands.specs.Numbers.{greatest, numbers_of, sizes_of}

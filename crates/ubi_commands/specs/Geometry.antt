@@ -2,11 +2,11 @@
 use Rattle.std.specs.Prelude.{◌≢◌, ℕ, ◌+◌, ◌==◌, ◌&&◌, Bool, List, [], ◌++◌, codes, decimal, if◌then◌else◌, is_none, length}
 use Rattle.std.specs.List.{flat_map}
 use Rattle.ubi_media.specs.Geometry.{Sizes}
-use Rattle.ubi_scan.specs.Detected.{AreDetected, AreDetectedOf, IsDetectError, IsUndetected}
+use Rattle.ubi_detect.specs.Detected.{AreDetected, AreDetectedOf, IsDetectError, IsUndetected}
 use Rattle.ubi_scan.specs.Source.{Agreed, Source, WhereHeld}
-use Rattle.ubi_scan.specs.declared.detect.DetectError.TheVariants as error
-use Rattle.ubi_scan.specs.declared.detect.Detected.{Detected}
-use Rattle.ubi_scan.specs.declared.detect.Undetected.{Undetected}
+use Rattle.ubi_detect.specs.declared.detect.DetectError.TheVariants as error
+use Rattle.ubi_detect.specs.declared.detect.Detected.{Detected}
+use Rattle.ubi_detect.specs.declared.detect.Undetected.{Undetected}
 use Rattle.ubi_commands.specs.Answer.{Gives, says}
 use Rattle.ubi_commands.specs.Lines.{undetected_line}
 use Rattle.ubi_commands.specs.declared.outcome.Outcome.{Outcome}

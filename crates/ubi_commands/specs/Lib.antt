@@ -19,6 +19,7 @@ pub mod Lines
 pub mod List
 pub mod Normalise
 pub mod Numbers
+pub mod PageLaws
 pub mod Plan
 pub mod Printed
 pub mod Program

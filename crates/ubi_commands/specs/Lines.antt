@@ -4,8 +4,8 @@ use Rattle.ubi_media.specs.ErrorTexts.{geometry_error_text, refusal_text}
 use Rattle.ubi_media.specs.Geometry.{Sizes}
 use Rattle.ubi_media.specs.declared.geometry.GeometryError.{GeometryError}
 use Rattle.ubi_media.specs.declared.refusal.Refusal.{Refusal}
-use Rattle.ubi_scan.specs.ErrorTexts.{undetected_text}
-use Rattle.ubi_scan.specs.declared.detect.Undetected.{Undetected}
+use Rattle.ubi_detect.specs.ErrorTexts.{undetected_text}
+use Rattle.ubi_detect.specs.declared.detect.Undetected.{Undetected}
 use Rattle.ubi_commands.specs.declared.view.Misfit.{Misfit}
 use Rattle.ubi_commands.specs.declared.view.Misfit.TheVariants as why
 

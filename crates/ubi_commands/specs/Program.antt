@@ -5,12 +5,12 @@ use Rattle.std.specs.Prelude.{◌≡◌, ◌≢◌, ℕ, ◌*◌, ◌+◌, ◌�
 use Rattle.ubi_media.specs.Geometry.{Sizes}
 use Rattle.ubi_media.specs.Limits.{first_broken}
 use Rattle.ubi_media.specs.declared.geometry.GeometryError.{GeometryError}
-use Rattle.ubi_scan.specs.Detected.{AreDetectedOf, IsDetectError}
+use Rattle.ubi_detect.specs.Detected.{AreDetectedOf, IsDetectError}
 use Rattle.ubi_scan.specs.Image.{Image, image_of}
 use Rattle.ubi_scan.specs.Source.{Agreed, Source, holds, known_by, memory}
-use Rattle.ubi_scan.specs.declared.detect.DetectError.TheVariants as error
-use Rattle.ubi_scan.specs.declared.detect.Detected.{Detected}
-use Rattle.ubi_scan.specs.declared.detect.Undetected.{Undetected}
+use Rattle.ubi_detect.specs.declared.detect.DetectError.TheVariants as error
+use Rattle.ubi_detect.specs.declared.detect.Detected.{Detected}
+use Rattle.ubi_detect.specs.declared.detect.Undetected.{Undetected}
 use Rattle.ubi_change.specs.Avoided.{Avoided}
 use Rattle.ubi_commands.specs.Answer.{Gives, says}
 use Rattle.ubi_commands.specs.Disk.{AllStay, Files, IsJudgedOf, IsLeft, IsTextOf, OthersStayBeside, Receives, Stays, fresh}

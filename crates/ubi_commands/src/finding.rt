@@ -3,7 +3,7 @@
 ghost use Rattle.std.specs.Option.{ForSome, IsSomeAnd};
 ghost use Rattle.std.specs.Prelude.{◌≡◌, ◌≢◌, ◌+◌, ◌^◌, ◌≤◌, ◌⊎◌, IfErr, IfOk, IfSome, IsOkAnd, None, [], codes, drop, length, take, true};
 ghost use Rattle.ubi_scan.specs.Source.{Narrows, holds, memory};
-ghost use Rattle.ubi_scan.specs.declared.detect.Detected.{Detected};
+ghost use Rattle.ubi_detect.specs.declared.detect.Detected.{Detected};
 ghost use Rattle.ubi_commands.specs.Answer.{Gives, says};
 ghost use Rattle.ubi_commands.specs.Dump.{greatest_dump, misfit_of, seen, told_dump};
 ghost use Rattle.ubi_commands.specs.inner.Kept.{IsPartOf};

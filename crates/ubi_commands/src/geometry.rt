@@ -11,8 +11,9 @@ use crate::outcome::{DONE, FAILED, Outcome, ToolError, in_memory};
 use crate::view::{FilePart, WHOLE_FILE};
 use itoa::Buffer;
 use std::alloc::{AllocError, Global};
+use ubi_detect::{DetectError, Detected, detect_from};
 use ubi_media::Geometry;
-use ubi_scan::{BlockSource, DetectError, Detected, MemorySource, detect_from};
+use ubi_scan::{BlockSource, MemorySource};
 
 /// Adds the options by which the other commands are given the sizes of a device.
 fn put_sizes(text: &mut Vec<u8>, geometry: &Geometry) -> Result<(), AllocError>

@@ -3,6 +3,7 @@
 ghost use Rattle.ubi_commands.specs.BuildLaws.{BuildReads};
 ghost use Rattle.ubi_commands.specs.Headline.{Headline};
 ghost use Rattle.ubi_commands.specs.Laws.{ListsComposed, OneComposed};
+ghost use Rattle.ubi_commands.specs.PageLaws.{LeastTold};
 
 /// Of accepted images of one geometry, two mean the same exactly if their normalised images are equal byte for byte;
 /// normalising keeps the meaning and twice is once; an image has one meaning at most; it is refused exactly where a stated
@@ -26,4 +27,11 @@ pub fn lists_composed()
 /// the end of what it reserves.
 pub fn build_reads()
     ensures { BuildReads }
+{}
+
+/// Of what is told of a file, the first has the least page: where pages have no out-of-band bytes, nothing else
+/// differs, and an image that is accepted with another one is accepted with the first, with the same meaning but for
+/// the page, and the same normal image.
+pub fn least_told()
+    ensures { LeastTold }
 {}

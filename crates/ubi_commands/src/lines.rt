@@ -9,8 +9,8 @@ use crate::view::Misfit;
 use itoa::Buffer;
 use std::alloc::{AllocError, Global};
 use std::fmt;
+use ubi_detect::Undetected;
 use ubi_media::{GeometryError, Refusal};
-use ubi_scan::Undetected;
 
 /// Adds a word.
 pub fn put_word(text: &mut Vec<u8>, word: &str) -> Result<(), AllocError>

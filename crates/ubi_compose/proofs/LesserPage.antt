@@ -1,39 +1,14 @@
--- The normal image is the same bytes with each page, and of what is told of a file the first accepts what another one
--- does.
-use Rattle.ubi_compose.proofs.Prelude.{◌≡◌, ℕ, List, refl, sym, ◌∙◌, subst, ◌∣◌, Sizes, with_page, rec_bytes, IsLesserTold, least_first, Image, image_of, Detected, Accepts, Meant, image_with_page, meaning_with_page, lesser_page, IsNormalised, normal_bytes, AreTold, LeastTold, NormalWithLesserPage}
+-- The normal image is the same bytes with each page.
+use Rattle.ubi_compose.proofs.Prelude.{◌≡◌, ℕ, List, refl, sym, ◌∙◌, ◌∣◌, with_page, rec_bytes, Image, Meant, image_with_page, meaning_with_page, lesser_page, IsNormalised, normal_bytes, NormalWithLesserPage}
 
 same_normal : (m : Meant) (page : ℕ) → normal_bytes (meaning_with_page m page) ≡ normal_bytes m
 unfolding normal_bytes rec_bytes
 same_normal m page = refl
 
-normal_kept : (image : Image) (out : List ℕ) (page : ℕ) → page ∣ image.sizes.page → IsNormalised image out
+pub normal_kept : (image : Image) (out : List ℕ) (page : ℕ) → page ∣ image.sizes.page → IsNormalised image out
     → IsNormalised (image_with_page image page) out
 normal_kept image out page divides h =
     (meaning_with_page h.0 page, lesser_page.accepted image h.0 page divides h.1, h.2 ∙ sym (same_normal h.0 page))
 
 pub normal_with_lesser_page : NormalWithLesserPage
 normal_with_lesser_page = record { same = same_normal; kept = normal_kept }
-
-told_least : (bytes : List ℕ) (first other : Detected) → AreTold bytes first other → IsLesserTold first other
-told_least bytes first other told = least_first bytes first other told.0 told.1 told.2
-
--- what holds of bytes under the sizes of another one with the page of the first holds of them under the sizes of the
--- first
-by_first : (P : Sizes → Type 0) (bytes : List ℕ) (first other : Detected) → AreTold bytes first other → other.oob ≡ 0
-    → P (with_page other.geometry first.geometry.page) → P first.geometry
-by_first P bytes first other told none h = subst P (sym ((told_least bytes first other told).3 none).1) h
-
-pub least_told : LeastTold
-least_told = record {
-  page = λ bytes first other told. (told_least bytes first other told).0;
-  place = λ bytes first other told. (let l = told_least bytes first other told in (l.1, l.2));
-  sizes = λ bytes first other told. (told_least bytes first other told).3;
-  accepted = λ bytes image first other m told none a.
-      by_first (λ s. Accepts (image_of s image) (meaning_with_page m first.geometry.page)) bytes first other told none
-      (lesser_page.accepted (image_of other.geometry image) m first.geometry.page
-      (told_least bytes first other told).0 a);
-  normal = λ bytes image out first other told none h.
-      by_first (λ s. IsNormalised (image_of s image) out) bytes first other told none
-      (normal_kept (image_of other.geometry image) out first.geometry.page
-      (told_least bytes first other told).0 h);
-}

@@ -84,7 +84,6 @@ pub use Rattle.ubi_scan.proofs.Filled.{behind, drop_blank, filled-by, filled-is,
 pub use Rattle.ubi_scan.proofs.Finite.{find_at}
 pub use Rattle.ubi_scan.proofs.InMemory.{still}
 pub use Rattle.ubi_scan.proofs.Keys.{apart_test, at_itself, same_test, told}
-pub use Rattle.ubi_scan.proofs.LeastWay.{IsLesserTold, least_first}
 pub use Rattle.ubi_scan.proofs.Narrowed.{source_narrowed}
 pub use Rattle.ubi_scan.proofs.Parts.{blank_vid}
 pub use Rattle.ubi_scan.proofs.Revalued.{entries_revalued}
@@ -97,7 +96,6 @@ pub use Rattle.ubi_scan.specs.Members.{IsMember, Leb, NoMember, Wins, foreign, f
 pub use Rattle.ubi_scan.specs.Numbers.{image_seq, seq_if, seq_of}
 pub use Rattle.ubi_scan.specs.Source.{Agreed, IsSource, Narrows, Source, WhereHeld, blocks_in, holds, memory, memory_sized}
 pub use Rattle.ubi_scan.specs.Stream.{IsReadFault}
-pub use Rattle.ubi_scan.specs.declared.detect.Detected.{Detected}
 pub use Rattle.ubi_scan.specs.declared.errors.StreamError.{StreamError}
 pub use Rattle.ubi_scan.specs.inner.Held.{anything, sound}
 pub use Rattle.ubi_table.proofs.Held.{table_written}
@@ -153,7 +151,7 @@ pub use Rattle.ubi_compose.specs.Lines.{first_word, forms, is_form, is_skipped, 
 unfoldable pub use Rattle.ubi_compose.specs.Lines.{damaged_line, form_of, leb_line, line_of, text_line, updating_line, volume_line}
 pub use Rattle.ubi_compose.specs.Normal.{IsNormalised, Laid, blocks_of, damaged_block, dynamic_block, laid_bytes, layout_block, new_ec, normal_blocks, piece_header, static_block, static_blocks, static_part, volume_blocks}
 unfoldable pub use Rattle.ubi_compose.specs.Normal.{normal_bytes}
-pub use Rattle.ubi_compose.specs.PageLaws.{AreTold, LeastTold, LesserAcceptsMore, NormalWithLesserPage}
+pub use Rattle.ubi_compose.specs.PageLaws.{LesserAcceptsMore, NormalWithLesserPage}
 pub use Rattle.ubi_compose.specs.Spec.{IsSpecError, cause_after, cause_at, first_some, gives, heading, is_content, is_damaged, is_dynamic, is_updating, is_whole, leb_in, line_number, lines, may_follow, numbered_volume, of_volume, record_in, suits, text_in, volumes_of}
 unfoldable pub use Rattle.ubi_compose.specs.Spec.{cause_of, content_cause, first_cause, later_cause, saying, sayings, volume_from, volumes_in}
 pub use Rattle.ubi_compose.specs.Streamed.{HasGot, IsNormaliseToError, IsNormalisedTo}

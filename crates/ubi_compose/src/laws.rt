@@ -3,7 +3,7 @@
 ghost use Rattle.ubi_compose.specs.BuiltLaws.{BuiltAccepted, BuiltReads};
 ghost use Rattle.ubi_compose.specs.Laws.{Normalising, TwiceIsOnce};
 ghost use Rattle.ubi_compose.specs.NormalLaws.{NormalAccepted, NormalFits, NormalForm};
-ghost use Rattle.ubi_compose.specs.PageLaws.{LeastTold, LesserAcceptsMore, NormalWithLesserPage};
+ghost use Rattle.ubi_compose.specs.PageLaws.{LesserAcceptsMore, NormalWithLesserPage};
 ghost use Rattle.ubi_compose.specs.TextLaws.{OneAnswer};
 
 /// The normal image of a meaning is accepted with that meaning, and so it is with any number of spare eraseblocks behind
@@ -59,11 +59,4 @@ pub fn normal_with_lesser_page()
 /// A page can accept what a multiple of it refuses.
 pub fn lesser_accepts_more()
     ensures { LesserAcceptsMore }
-{}
-
-/// Of what is told of a file, the first has the least page: where pages have no out-of-band bytes, nothing else
-/// differs, and an image that is accepted with another one is accepted with the first, with the same meaning but for
-/// the page, and the same normal image.
-pub fn least_told()
-    ensures { LeastTold }
 {}

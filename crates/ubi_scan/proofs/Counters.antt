@@ -1,5 +1,6 @@
 -- Erase counters that were read, and their mean: none is above the greatest one.
-use Rattle.ubi_scan.proofs.Prelude.{◌≡◌, ℕ, ◌*◌, ◌/◌, ◌≤◌, Bool, true, false, cond, List, sym, subst, arith, ◌==◌, div-le_of_le-mul, ec_reading, Sizes, EcHeader, EcRead, counter_within, ec_is_of, CounterFits}
+use Rattle.ubi_scan.proofs.Prelude.{◌≡◌, ℕ, ◌*◌, ◌/◌, ◌≤◌, Bool, true, false, cond, List, sym, subst, arith, div-le_of_le-mul, ec_reading, Sizes, EcHeader, EcRead, counter_within, ec_is_of, CounterFits}
+use Rattle.std.specs.Prelude.{◌==◌}
 use Rattle.ubi_media.specs.Ec as ec_rules
 use Rattle.ubi_media.specs.declared.ec.EcRead.TheVariants as ec_read
 

@@ -1,6 +1,5 @@
 -- No member has a sequence number above the greatest one so far.
-use Rattle.ubi_scan.proofs.Prelude.{◌≡◌, ℕ, ◌<◌, ◌≤◌, inl, inr, Bool, true, false, cond, ap, refl, subst, arith, IfSome, IsSome, None, Option, Some, option_and_then, unwrap_or, BTreeMap, then_some, same_Some, EcRead, VidHeader, VidRead, beaten, held_of, kept, known, takes_over, sqnum_if, AreAtMost, IsPutAside, Stamp, stamp_cmp, Leb, has_members, header_if, member_if, sqnum_in_use, Candidate, Meeting}
-use Rattle.std.proofs.Common.{◌==◌}
+use Rattle.ubi_scan.proofs.Prelude.{◌≡◌, ℕ, ◌<◌, ◌≤◌, inl, inr, Bool, true, false, cond, ap, refl, subst, arith, IfSome, IsSome, None, Option, Some, option_and_then, unwrap_or, BTreeMap, then_some, same_Some, EcRead, VidHeader, VidRead, beaten, held_of, kept, known, takes_over, sqnum_if, AreAtMost, IsPutAside, Stamp, stamp_cmp, Leb, has_members, header_if, member_if, sqnum_in_use, Candidate, Meeting, ◌==◌}
 use Rattle.std.specs.BTreeMap as tree
 use Rattle.ubi_scan.proofs.Keys.{stamp_exact, stamp_total, told}
 

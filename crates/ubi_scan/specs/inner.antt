@@ -2,8 +2,6 @@
 pub mod Ahead
 pub mod Choice
 pub mod Counts
-pub mod Detecting
 pub mod Held
-pub mod Joined
 pub mod Named
 pub mod Pass

@@ -31,37 +31,25 @@
 //! ```
 #![tactic(auto)]
 
-mod at_places;
-mod block_tests;
 mod blocks;
 mod candidate;
 mod counts;
-mod detect;
 mod errors;
 mod faults;
 mod file;
 mod found;
-mod groups;
 mod header;
-mod heads;
 pub mod laws;
 mod pass;
-mod place;
 mod placed;
-mod plain;
 mod reading;
 mod scanning;
 mod size;
 mod source;
-mod sure;
-mod survey;
 mod trace;
-mod way;
-mod ways;
 mod window;
 
 pub use blocks::Blocks;
-pub use detect::{DetectError, Detected, Undetected, detect_from};
 pub use errors::StreamError;
 pub use file::FileSource;
 pub use found::{Leb, MemberHeader, Scan, ScanState};

@@ -1,6 +1,7 @@
 mod change;
 mod compose;
 mod config;
+mod detect;
 mod media;
 mod probes;
 mod scan;

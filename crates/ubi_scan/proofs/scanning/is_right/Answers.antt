@@ -1,5 +1,4 @@
-use Rattle.ubi_scan.proofs.Prelude.{◌≡◌, ◌/◌, ◌<◌, ◌≤◌, length, length-take-le, slice_range, take, ap, ◌∙◌, arith, min, check, leb_size, block, leb, blocks_of}
-use Rattle.std.proofs.Common.{◌==◌}
+use Rattle.ubi_scan.proofs.Prelude.{◌≡◌, ◌/◌, ◌<◌, ◌≤◌, length, length-take-le, slice_range, take, ap, ◌∙◌, arith, min, check, leb_size, block, leb, blocks_of, ◌==◌}
 use Rattle.ubi_scan.proofs.ReadParts.{data_of_read}
 use Rattle.ubi_scan.proofs.scanning.is_right.Goals as goal
 

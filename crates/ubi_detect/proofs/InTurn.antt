@@ -1,0 +1,35 @@
+-- Tests that are done one after the other.
+use Rattle.ubi_detect.proofs.Prelude.{◌≡◌, Bool, true, false, ap, sym, ◌∙◌, ◌&&◌, ◌||◌}
+
+module _ (a b c : Bool) where
+  pub first_fails : a ≡ false → false ≡ (a && b && c)
+  first_fails e = sym (ap (λ x. x && b && c) e)
+
+  pub second_fails : a ≡ true → b ≡ false → false ≡ (a && b && c)
+  second_fails e f = sym (ap (λ x. x && b && c) e ∙ ap (λ x. x && c) f)
+
+  pub third_decides : (d : Bool) → a ≡ true → b ≡ true → d ≡ c → d ≡ (a && b && c)
+  third_decides d e f g = g ∙ sym (ap (λ x. x && b && c) e ∙ ap (λ x. x && c) f)
+
+  -- where the first fails the two others decide, of which the first passes, or doesn't
+  pub last_decides : (d : Bool) → a ≡ false → b ≡ true → d ≡ c → d ≡ (a || (b && c))
+  last_decides d e f g = g ∙ sym (ap (λ x. x || (b && c)) e ∙ ap (λ x. x && c) f)
+
+  pub both_fail : (d : Bool) → a ≡ false → b ≡ false → d ≡ false → d ≡ (a || (b && c))
+  both_fail d e f g = g ∙ sym (ap (λ x. x || (b && c)) e ∙ ap (λ x. x && c) f)
+
+-- of a first test, and of a second one or else a third and a fourth
+module _ (a b c d : Bool) where
+  pub none_of : a ≡ true → b ≡ false → c ≡ false → false ≡ (a && (b || (c && d)))
+  none_of e f g = sym (ap (λ x. x && (b || (c && d))) e ∙ ap (λ x. x || (c && d)) f ∙ ap (λ x. x && d) g)
+
+  pub fourth_decides : (x : Bool) → a ≡ true → b ≡ false → c ≡ true → x ≡ d → x ≡ (a && (b || (c && d)))
+  fourth_decides x e f g h = h ∙ sym (ap (λ x. x && (b || (c && d))) e ∙ ap (λ x. x || (c && d)) f ∙ ap (λ x. x && d) g)
+
+-- and of two
+module _ (a b : Bool) where
+  pub first_of_two : a ≡ false → false ≡ (a && b)
+  first_of_two e = sym (ap (λ x. x && b) e)
+
+  pub second_of_two : (x : Bool) → a ≡ true → x ≡ b → x ≡ (a && b)
+  second_of_two x e f = f ∙ sym (ap (λ y. y && b) e)

@@ -1,0 +1,12 @@
+pub mod Detected
+pub mod DetectLaws
+pub mod ErrorTexts
+pub mod Groups
+pub mod Heads
+pub mod Layout
+pub mod PartLaws
+pub mod Place
+pub mod Plain
+pub mod Sure
+pub mod Ways
+pub mod inner

@@ -1,0 +1,148 @@
+//! Tests of the eraseblocks that start with a header of a group.
+
+ghost use Rattle.std.specs.Prelude.{◌≡◌, ℕ, ◌+◌, ◌<◌, ◌≤◌, ◌^◌, ◌&&◌, Bool, IfErr, IfOk, List, if◌then◌else◌};
+ghost use Rattle.ubi_detect.specs.Detected.{NamesPlace, after_detecting};
+ghost use Rattle.ubi_detect.specs.Place.{count_starts};
+ghost use Rattle.ubi_scan.specs.Source.{Narrows, WhereHeld};
+ghost use Rattle.ubi_detect.specs.Sure.{block_at, blocks, is_start, some_start};
+ghost use Rattle.ubi_detect.specs.inner.Detecting.{IsReadAt, LiesIn};
+
+use crate::at_places::is_start;
+use crate::detect::DetectError;
+use crate::groups::Group;
+use ubi_scan::BlockSource;
+
+/// A test of what an eraseblock holds that begins at a place of a source.
+pub trait BlockTest {
+    // Whether it holds of the eraseblock that begins at a place of some bytes.
+    ghost holds: { Self → List ℕ → ℕ → Bool };
+
+    // How far behind that place it may look for others.
+    ghost reach: { Self → ℕ };
+
+    /// Whether it holds of the eraseblock that begins at a place.
+    ///
+    /// # Errors
+    ///
+    /// Read where a read failed.
+    fn holds<S: BlockSource>(&self, source: &mut S, at: u64) -> Result<bool, DetectError>
+        requires size { (S.known source.old).size < 2 ^ 63 }
+        requires inside { at + reach self.now < 2 ^ 63 + 2 ^ 33 }
+        ensures known { S.known source.new ≡ after_detecting (S.known source.old) result }
+        ensures narrows { Narrows (S.agrees source.old) (S.agrees source.new) }
+        ensures answer { IfOk result (λ answer. WhereHeld (S.agrees source.new) (λ bytes. answer ≡ holds self.now bytes at)) }
+        ensures failed { IfErr result (IsReadAt (S.known source.old).size) }
+        ensures named { IfErr result (NamesPlace (S.failed_at source.new)) };
+}
+
+impl Group {
+    /// How many eraseblocks there are from its first header to its last one.
+    pub fn blocks(&self) -> u64
+        requires from { 1 ≤ self.now.size }
+        requires order { self.now.first ≤ self.now.last }
+        requires last { self.now.last < 2 ^ 63 }
+        ensures { result ≡ blocks self.now }
+    {
+        (self.last - self.first) / self.size + 1
+    }
+
+    /// Where one of these begins.
+    pub fn block_at(&self, i: u64) -> u64
+        requires from { 1 ≤ self.now.size }
+        requires order { self.now.first ≤ self.now.last }
+        requires last { self.now.last < 2 ^ 63 }
+        requires inside { i < blocks self.now }
+        ensures place { result ≡ block_at self.now i }
+        ensures inside { result ≤ self.now.last }
+    {
+        self.first + i * self.size
+    }
+}
+
+/// Whether an eraseblock starts with a header of a group and passes a test.
+///
+/// # Errors
+///
+/// Read where a read failed.
+fn start_holds<S: BlockSource, T: BlockTest>(
+    source: &mut S,
+    group: &Group,
+    test: &T,
+    at: u64,
+) -> Result<bool, DetectError>
+    requires size { (S.known source.old).size < 2 ^ 63 }
+    requires inside { at + T.reach test.now < 2 ^ 63 + 2 ^ 33 }
+    ensures known { S.known source.new ≡ after_detecting (S.known source.old) result }
+    ensures narrows { Narrows (S.agrees source.old) (S.agrees source.new) }
+    ensures answer { IfOk result (λ answer. WhereHeld (S.agrees source.new) (λ bytes. answer ≡ is_start bytes group.now at && T.holds test.now bytes at)) }
+    ensures failed { IfErr result (IsReadAt (S.known source.old).size) }
+    ensures named { IfErr result (NamesPlace (S.failed_at source.new)) }
+{
+    // Most tests fail: then the header isn't read.
+    if test.holds(source, at)? {
+        is_start(source, group, at)
+    } else {
+        Ok(false)
+    }
+}
+
+/// Whether some eraseblock that starts with a header of a group passes a test.
+///
+/// # Errors
+///
+/// Read where a read failed.
+pub fn some_start<S: BlockSource, T: BlockTest>(
+    source: &mut S,
+    group: &Group,
+    test: &T,
+) -> Result<bool, DetectError>
+    requires size { (S.known source.old).size < 2 ^ 63 }
+    requires lies { LiesIn (S.known source.old).size group.now }
+    requires reach { T.reach test.now < 2 ^ 32 }
+    ensures known { S.known source.new ≡ after_detecting (S.known source.old) result }
+    ensures narrows { Narrows (S.agrees source.old) (S.agrees source.new) }
+    ensures some { IfOk result (λ some. WhereHeld (S.agrees source.new) (λ bytes. some ≡ some_start bytes group.now (T.holds test.now bytes))) }
+    ensures failed { IfErr result (IsReadAt (S.known source.old).size) }
+    ensures named { IfErr result (NamesPlace (S.failed_at source.new)) }
+{
+    for i in 0..group.blocks() {
+        if start_holds(source, group, test, group.block_at(i))? {
+            return Ok(true);
+        }
+    }
+    Ok(false)
+}
+
+/// One for what holds, none for what doesn't.
+fn one_if(holds: bool) -> u64
+    ensures value { result ≡ (if holds then 1 else 0) }
+    ensures few { result ≤ 1 }
+{
+    if holds { 1 } else { 0 }
+}
+
+/// How many eraseblocks that start with a header of a group pass a test.
+///
+/// # Errors
+///
+/// Read where a read failed.
+pub fn count_starts<S: BlockSource, T: BlockTest>(
+    source: &mut S,
+    group: &Group,
+    test: &T,
+) -> Result<u64, DetectError>
+    requires size { (S.known source.old).size < 2 ^ 63 }
+    requires lies { LiesIn (S.known source.old).size group.now }
+    requires reach { T.reach test.now < 2 ^ 32 }
+    ensures known { S.known source.new ≡ after_detecting (S.known source.old) result }
+    ensures narrows { Narrows (S.agrees source.old) (S.agrees source.new) }
+    ensures count { IfOk result (λ count. WhereHeld (S.agrees source.new) (λ bytes. count ≡ count_starts bytes group.now (T.holds test.now bytes))) }
+    ensures failed { IfErr result (IsReadAt (S.known source.old).size) }
+    ensures named { IfErr result (NamesPlace (S.failed_at source.new)) }
+{
+    let mut count = 0;
+    for i in 0..group.blocks() {
+        count += one_if(start_holds(source, group, test, group.block_at(i))?);
+    }
+    Ok(count)
+}

@@ -1,0 +1,293 @@
+//! The geometry of a file of which nothing else is known, and where in it the image lies.
+
+ghost use Rattle.std.specs.Prelude.{◌≡◌, ◌≢◌, ℕ, ◌<◌, ◌≤◌, ◌^◌, [], IfErr, IfOk, IfSome, MatchOption, Some};
+ghost use Rattle.ubi_detect.specs.Detected.{AreDetectedOf, IsDetectError, IsFound, IsWhole, NamesPlace, NonePlain, after_detecting};
+ghost use Rattle.ubi_detect.specs.Place.{end_of_last, told};
+ghost use Rattle.ubi_detect.specs.Plain.{IsSurelyPlain};
+ghost use Rattle.ubi_scan.specs.Source.{Narrows, WhereHeld};
+ghost use Rattle.ubi_detect.specs.inner.Detecting.{AreWays, IsReadAt, IsReadError, IsUntold, LiesIn};
+ghost use Rattle.ubi_detect.specs.inner.Joined.{IsAlone, NoneAlone};
+ghost use Rattle.ubi_detect.specs.ErrorTexts.{undetected_text, detect_error_text};
+
+use crate::groups::{Group, image_among};
+use crate::place::told;
+use crate::plain::read_plain;
+use crate::sure::{has_inner_start, is_sure};
+use crate::survey::read_groups;
+use crate::ways::Ways;
+use std::alloc::{AllocError, AllocFailed, Global};
+use std::error::Error;
+use std::fmt;
+use ubi_media::{EcOffsets, Geometry};
+use ubi_scan::BlockSource;
+
+/// A geometry that the headers of a file give, and which part of the file is the image.
+#[derive(Clone, Copy, Debug, PartialEq, Eq)]
+pub struct Detected {
+    /// The geometry, of a device with as many eraseblocks as any may have.
+    pub geometry: Geometry,
+    /// How many out-of-band bytes lie behind each page.
+    pub oob: u32,
+    /// Where the image begins.
+    pub start: u64,
+    /// How many bytes it has, out-of-band bytes among them.
+    pub length: u64,
+}
+
+/// Why no geometry is told of a file.
+#[derive(Clone, Copy, Debug, PartialEq, Eq)]
+pub enum Undetected {
+    /// No erase-counter header stands at a multiple of 64.
+    NoHeader,
+    /// Headers name too many offsets and numbers, or no two are of one image, or what stands at the places of its eraseblocks speaks
+    /// against the size that they say.
+    NoSize,
+    /// The eraseblock of the image's last header isn't all there: the size of one, and how many bytes of it are.
+    Length(u64, u64),
+    /// Eraseblocks of this size may have out-of-band bytes, and no volume-identifier header says how many.
+    OutOfBand(u64),
+    /// No page fits the size and the offsets.
+    Page(u64, EcOffsets),
+}
+
+impl fmt::Display for Undetected {
+    ghost output = { λ cause. Some (undetected_text cause) };
+
+    fn fmt<W: fmt::Write>(&self, f: &mut fmt::Formatter<W>) -> fmt::Result {
+        match self {
+            Undetected::NoHeader => write!(f, "F1 NoHeader"),
+            Undetected::NoSize => write!(f, "F2 NoSize"),
+            Undetected::Length(size, rest) => write!(f, "F3 Length peb={size} rest={rest}"),
+            Undetected::OutOfBand(size) => write!(f, "F5 OutOfBand peb={size}"),
+            Undetected::Page(
+                size,
+                EcOffsets {
+                    vid_offset,
+                    data_offset,
+                },
+            ) => write!(f, "F6 Page peb={size} vid={vid_offset} data={data_offset}"),
+        }
+    }
+}
+
+impl Error for Undetected {}
+
+/// Why the geometry of a source isn't detected.
+#[derive(Clone, Copy, Debug, PartialEq, Eq)]
+pub enum DetectError {
+    /// None can be told of what it holds.
+    Undetected(Undetected),
+    /// The read that began at this place failed.
+    Read(u64),
+    /// Memory ran out.
+    Memory,
+}
+
+impl fmt::Display for DetectError {
+    ghost output = { λ error. Some (detect_error_text error) };
+
+    fn fmt<W: fmt::Write>(&self, f: &mut fmt::Formatter<W>) -> fmt::Result {
+        match self {
+            DetectError::Undetected(cause) => write!(f, "{cause}"),
+            DetectError::Read(at) => write!(f, "a read failed at={at}"),
+            DetectError::Memory => write!(f, "out of memory"),
+        }
+    }
+}
+
+impl Error for DetectError {}
+
+impl From<AllocError> for DetectError {
+    ghost from_gives = { λ _ e. e ≡ DetectError.Memory };
+
+    fn from(_: AllocError) -> DetectError {
+        DetectError::Memory
+    }
+}
+
+impl<T: Drop> From<AllocFailed<T>> for DetectError {
+    ghost from_gives = { λ _ e. e ≡ DetectError.Memory };
+
+    fn from(_: AllocFailed<T>) -> DetectError {
+        DetectError::Memory
+    }
+}
+
+/// What is told of the image of a group.
+///
+/// # Errors
+///
+/// Undetected with OutOfBand or Page. Read where a read failed. Memory where it ran out.
+fn tell<S: BlockSource>(
+    alloc: Global,
+    source: &mut S,
+    group: &Group,
+    ways: &Ways,
+) -> Result<Vec<Detected>, DetectError>
+    requires size { (S.known source.old).size < 2 ^ 63 }
+    requires lies { LiesIn (S.known source.old).size group.now }
+    requires whole { end_of_last group.now ≤ (S.known source.old).size }
+    requires ways { AreWays group.now ways.now }
+    ensures known { S.known source.new ≡ after_detecting (S.known source.old) result }
+    ensures narrows { Narrows (S.agrees source.old) (S.agrees source.new) }
+    ensures told { IfOk result (λ found. WhereHeld (S.agrees source.new) (λ bytes. found.items ≡ told bytes group.now)) }
+    ensures some { IfOk result (λ found. found.items ≢ []) }
+    ensures refused { IfErr result (IsUntold (S.known source.old).size (S.agrees source.new) group.now) }
+    ensures named { IfErr result (NamesPlace (S.failed_at source.new)) }
+{
+    let found = told(alloc, source, group, ways)?;
+    if !found.is_empty() {
+        return Ok(found);
+    }
+    if ways.are_none() {
+        let page = Undetected::Page(group.size, group.key.offsets);
+        return Err(DetectError::Undetected(page));
+    }
+    Err(DetectError::Undetected(Undetected::OutOfBand(group.size)))
+}
+
+/// The group of a source that is plainly an image, but for what its eraseblocks hold, if no header of it stands where a part of one
+/// could begin.
+///
+/// # Errors
+///
+/// Read where a read failed.
+fn plain_group<S: BlockSource>(source: &mut S) -> Result<Option<Group>, DetectError>
+    requires { (S.known source.old).size < 2 ^ 63 }
+    ensures known { S.known source.new ≡ after_detecting (S.known source.old) result }
+    ensures narrows { Narrows (S.agrees source.old) (S.agrees source.new) }
+    ensures plain { IfOk result (λ o. MatchOption o (WhereHeld (S.agrees source.new) NoneAlone) (λ g. WhereHeld (S.agrees source.new) (λ bytes. IsAlone bytes g))) }
+    ensures lies { IfOk result (λ o. IfSome o (LiesIn (S.known source.old).size)) }
+    ensures whole { IfOk result (λ o. IfSome o (λ g. end_of_last g ≤ (S.known source.old).size)) }
+    ensures failed { IfErr result (IsReadAt (S.known source.old).size) }
+    ensures named { IfErr result (NamesPlace (S.failed_at source.new)) }
+{
+    let Some(group) = read_plain(source)? else {
+        return Ok(None);
+    };
+    if has_inner_start(source, &group)? {
+        return Ok(None);
+    }
+    Ok(Some(group))
+}
+
+/// The group of the image that a source plainly is, and the pages that its eraseblocks may have, if it plainly is one.
+///
+/// # Errors
+///
+/// Read where a read failed. Memory where it ran out.
+fn plain_image<S: BlockSource>(
+    alloc: Global,
+    source: &mut S,
+) -> Result<Option<(Group, Ways)>, DetectError>
+    requires { (S.known source.old).size < 2 ^ 63 }
+    ensures known { S.known source.new ≡ after_detecting (S.known source.old) result }
+    ensures narrows { Narrows (S.agrees source.old) (S.agrees source.new) }
+    ensures plain { IfOk result (λ o. MatchOption o (WhereHeld (S.agrees source.new) NonePlain) (λ image. WhereHeld (S.agrees source.new) (λ bytes. IsSurelyPlain bytes image.0))) }
+    ensures lies { IfOk result (λ o. IfSome o (λ image. LiesIn (S.known source.old).size image.0)) }
+    ensures whole { IfOk result (λ o. IfSome o (λ image. end_of_last image.0 ≤ (S.known source.old).size)) }
+    ensures ways { IfOk result (λ o. IfSome o (λ image. AreWays image.0 image.1)) }
+    ensures failed { IfErr result (IsReadError (S.known source.old).size) }
+    ensures named { IfErr result (NamesPlace (S.failed_at source.new)) }
+{
+    let Some(group) = plain_group(source)? else {
+        return Ok(None);
+    };
+    let ways = Ways::of(alloc, &group)?;
+    if is_sure(alloc, source, &group, &ways)? {
+        Ok(Some((group, ways)))
+    } else {
+        Ok(None)
+    }
+}
+
+/// The group of the image that the headers of a source say, where none plainly is.
+///
+/// # Errors
+///
+/// Undetected with NoHeader, NoSize or Length. Read where a read failed. Memory where it ran out.
+fn said_group<S: BlockSource>(alloc: Global, source: &mut S) -> Result<Group, DetectError>
+    requires size { (S.known source.old).size < 2 ^ 63 }
+    requires none { WhereHeld (S.agrees source.old) NonePlain }
+    ensures known { S.known source.new ≡ after_detecting (S.known source.old) result }
+    ensures narrows { Narrows (S.agrees source.old) (S.agrees source.new) }
+    ensures found { IfOk result (λ g. WhereHeld (S.agrees source.new) (λ bytes. IsWhole bytes g)) }
+    ensures lies { IfOk result (LiesIn (S.known source.old).size) }
+    ensures whole { IfOk result (λ g. end_of_last g ≤ (S.known source.old).size) }
+    ensures refused { IfErr result (IsDetectError (S.known source.old) (S.agrees source.new)) }
+    ensures named { IfErr result (NamesPlace (S.failed_at source.new)) }
+{
+    let Some(groups) = read_groups(alloc, source)? else {
+        return Err(DetectError::Undetected(Undetected::NoSize));
+    };
+    if groups.is_empty() {
+        return Err(DetectError::Undetected(Undetected::NoHeader));
+    }
+    let Some(group) = image_among(groups.as_slice()) else {
+        return Err(DetectError::Undetected(Undetected::NoSize));
+    };
+    let rest = source.len() - group.last;
+    if rest < group.size {
+        return Err(DetectError::Undetected(Undetected::Length(group.size, rest)));
+    }
+    Ok(group)
+}
+
+/// The group of the image that the headers of a source say, where none plainly is, and the pages that its eraseblocks may have.
+///
+/// # Errors
+///
+/// Undetected with NoHeader, NoSize or Length. Read where a read failed. Memory where it ran out.
+fn found_image<S: BlockSource>(alloc: Global, source: &mut S) -> Result<(Group, Ways), DetectError>
+    requires size { (S.known source.old).size < 2 ^ 63 }
+    requires none { WhereHeld (S.agrees source.old) NonePlain }
+    ensures known { S.known source.new ≡ after_detecting (S.known source.old) result }
+    ensures narrows { Narrows (S.agrees source.old) (S.agrees source.new) }
+    ensures found { IfOk result (λ image. WhereHeld (S.agrees source.new) (λ bytes. IsFound bytes image.0)) }
+    ensures lies { IfOk result (λ image. LiesIn (S.known source.old).size image.0) }
+    ensures whole { IfOk result (λ image. end_of_last image.0 ≤ (S.known source.old).size) }
+    ensures ways { IfOk result (λ image. AreWays image.0 image.1) }
+    ensures refused { IfErr result (IsDetectError (S.known source.old) (S.agrees source.new)) }
+    ensures named { IfErr result (NamesPlace (S.failed_at source.new)) }
+{
+    let group = said_group(alloc, source)?;
+    let ways = Ways::of(alloc, &group)?;
+    if !is_sure(alloc, source, &group, &ways)? {
+        return Err(DetectError::Undetected(Undetected::NoSize));
+    }
+    Ok((group, ways))
+}
+
+/// The most bytes that a file has.
+const LONGEST: u64 = 0x7FFF_FFFF_FFFF_FFFF;
+
+/// Detects the geometry of a source of which nothing else is known, and which part of it is the image: by the erase-counter headers at
+/// multiples of 64 that name the same offsets and the same image sequence number, or none, as docs/FORMAT.md has it. There is one for
+/// each page that Linux lays out so, the least first; as many eraseblocks as a device may have are given to each. Where a source is
+/// plainly an image its first two eraseblocks are read, and single places of the others; else all of it, from its beginning to its end.
+///
+/// # Errors
+///
+/// Undetected with the first cause that stands: NoHeader; NoSize, where headers name more than 256 keys, which are two offsets and a
+/// number, or where none say a size; Length; NoSize, where it isn't sure; OutOfBand; Page. Read where a read failed. Memory where it ran
+/// out: it needs 100 KiB at most, however long the source is.
+pub fn detect_from<S: BlockSource>(
+    alloc: Global,
+    source: &mut S,
+) -> Result<Vec<Detected>, DetectError>
+    ensures known { S.known source.new ≡ after_detecting (S.known source.old) result }
+    ensures narrows { Narrows (S.agrees source.old) (S.agrees source.new) }
+    ensures found { IfOk result (λ found. AreDetectedOf (S.agrees source.new) found.items) }
+    ensures some { IfOk result (λ found. found.items ≢ []) }
+    ensures refused { IfErr result (IsDetectError (S.known source.old) (S.agrees source.new)) }
+    ensures named { IfErr result (NamesPlace (S.failed_at source.new)) }
+{
+    if source.len() > LONGEST {
+        return Err(DetectError::Memory);
+    }
+    if let Some((group, ways)) = plain_image(alloc, source)? {
+        return tell(alloc, source, &group, &ways);
+    }
+    let (group, ways) = found_image(alloc, source)?;
+    tell(alloc, source, &group, &ways)
+}

@@ -1,0 +1,21 @@
+//! The geometry of a file of which nothing else is known, and where in it an image lies: what its own headers say.
+//!
+//! [`detect_from`] reads the headers that stand in a file, groups them by what they say, and tells each geometry that those of one image
+//! give, with the part of the file that the image is. It takes any source of `ubi_scan`, and memory for the groups alone. What is told is
+//! exactly what the definitions say of all bytes of the file.
+#![tactic(auto)]
+
+mod at_places;
+mod block_tests;
+mod detect;
+mod groups;
+mod heads;
+pub mod laws;
+mod place;
+mod plain;
+mod sure;
+mod survey;
+mod way;
+mod ways;
+
+pub use detect::{DetectError, Detected, Undetected, detect_from};

@@ -1,0 +1,261 @@
+//! Where an image lies in a source, and the geometries that its headers give.
+
+ghost use Rattle.std.specs.List.{filter, fold};
+ghost use Rattle.std.specs.Prelude.{◌≡◌, ℕ, ◌+◌, ◌-◌, ◌/◌, ◌<◌, ◌≤◌, ◌^◌, ◌==◌, ◌&&◌, IfErr, IfOk, length, map, max, nat_lt, vec_len};
+ghost use Rattle.ubi_detect.specs.Detected.{NamesPlace, after_detecting};
+ghost use Rattle.ubi_detect.specs.Place.{blanks_before, blanks_behind, end_of_image, end_of_last, has_vote, start_of_image, told, told_by, told_ways, votes, ways_without, has_vid};
+ghost use Rattle.ubi_scan.specs.Source.{Narrows, WhereHeld};
+ghost use Rattle.ubi_detect.specs.declared.way.Way.{Way};
+ghost use Rattle.ubi_detect.specs.inner.Detecting.{AreWays, IsReadAt, IsReadError, LiesIn, is_most_voted};
+
+use crate::at_places::{all_are, number_at};
+use crate::block_tests::{BlockTest, count_starts, some_start};
+use crate::detect::{DetectError, Detected};
+use crate::groups::Group;
+use crate::way::Way;
+use crate::ways::Ways;
+use std::alloc::{AllocError, Global};
+use ubi_media::VID_MAGIC;
+use ubi_scan::BlockSource;
+
+/// Whether the magic of a volume-identifier header stands where it does in an eraseblock.
+#[derive(Drop)]
+struct HasVid<'a> {
+    way: &'a Way,
+}
+
+impl BlockTest for HasVid<'_> {
+    ghost holds = { λ test bytes. has_vid bytes test.way.now };
+
+    ghost reach = { λ _. 0 };
+
+    fn holds<S: BlockSource>(&self, source: &mut S, at: u64) -> Result<bool, DetectError> {
+        let vid = at + self.way.put(self.way.geometry.vid_offset());
+        Ok(number_at(source, vid)? == VID_MAGIC)
+    }
+}
+
+/// How many eraseblocks right before the first header of a group are blank.
+///
+/// # Errors
+///
+/// Read where a read failed.
+fn blanks_before<S: BlockSource>(source: &mut S, group: &Group) -> Result<u64, DetectError>
+    requires size { (S.known source.old).size < 2 ^ 63 }
+    requires lies { LiesIn (S.known source.old).size group.now }
+    ensures known { S.known source.new ≡ after_detecting (S.known source.old) result }
+    ensures narrows { Narrows (S.agrees source.old) (S.agrees source.new) }
+    ensures blanks { IfOk result (λ blanks. WhereHeld (S.agrees source.new) (λ bytes. blanks ≡ blanks_before bytes group.now)) }
+    ensures few { IfOk result (λ blanks. blanks ≤ group.now.first / group.now.size) }
+    ensures failed { IfErr result (IsReadAt (S.known source.old).size) }
+    ensures named { IfErr result (NamesPlace (S.failed_at source.new)) }
+{
+    let most = group.first / group.size;
+    for j in 0..most {
+        if !all_are(source, 0xFF, 64, group.first - (j + 1) * group.size)? {
+            return Ok(j);
+        }
+    }
+    Ok(most)
+}
+
+/// How many eraseblocks right behind that of the last header of a group are blank.
+///
+/// # Errors
+///
+/// Read where a read failed.
+fn blanks_behind<S: BlockSource>(source: &mut S, group: &Group) -> Result<u64, DetectError>
+    requires size { (S.known source.old).size < 2 ^ 63 }
+    requires lies { LiesIn (S.known source.old).size group.now }
+    requires whole { end_of_last group.now ≤ (S.known source.old).size }
+    ensures known { S.known source.new ≡ after_detecting (S.known source.old) result }
+    ensures narrows { Narrows (S.agrees source.old) (S.agrees source.new) }
+    ensures blanks { IfOk result (λ blanks. WhereHeld (S.agrees source.new) (λ bytes. blanks ≡ blanks_behind bytes group.now)) }
+    ensures few { IfOk result (λ blanks. blanks ≤ ((S.known source.old).size - end_of_last group.now) / group.now.size) }
+    ensures failed { IfErr result (IsReadAt (S.known source.old).size) }
+    ensures named { IfErr result (NamesPlace (S.failed_at source.new)) }
+{
+    let end = group.last + group.size;
+    let most = (source.len() - end) / group.size;
+    for j in 0..most {
+        if !all_are(source, 0xFF, 64, end + j * group.size)? {
+            return Ok(j);
+        }
+    }
+    Ok(most)
+}
+
+/// How many votes each of some ways has.
+///
+/// # Errors
+///
+/// Read where a read failed. Memory where it ran out.
+fn votes_of<S: BlockSource>(
+    alloc: Global,
+    source: &mut S,
+    group: &Group,
+    ways: &[Way],
+) -> Result<Vec<u64>, DetectError>
+    requires size { (S.known source.old).size < 2 ^ 63 }
+    requires lies { LiesIn (S.known source.old).size group.now }
+    ensures known { S.known source.new ≡ after_detecting (S.known source.old) result }
+    ensures narrows { Narrows (S.agrees source.old) (S.agrees source.new) }
+    ensures many { IfOk result (λ counts. vec_len counts ≡ length ways.now) }
+    ensures votes { IfOk result (λ counts. WhereHeld (S.agrees source.new) (λ bytes. counts.items ≡ map (votes bytes group.now) ways.now)) }
+    ensures failed { IfErr result (IsReadError (S.known source.old).size) }
+    ensures named { IfErr result (NamesPlace (S.failed_at source.new)) }
+{
+    let mut counts = Vec::new(alloc);
+    for way in ways {
+        let count = count_starts(source, group, &HasVid { way })?;
+        counts.push(count)?;
+    }
+    Ok(counts)
+}
+
+/// The greatest of some numbers; 0 where there are none.
+fn greatest(numbers: &[u64]) -> u64
+    ensures { result ≡ fold max 0 numbers.now }
+{
+    let mut greatest = 0;
+    for number in numbers {
+        greatest = greatest.max(*number);
+    }
+    greatest
+}
+
+/// Whether so many votes are as many as the most, and one at least.
+fn are_most(votes: u64, most: u64) -> bool
+    ensures { result ≡ nat_lt 0 votes && (votes == most) }
+{
+    votes > 0 && votes == most
+}
+
+/// Those of some ways that have as many votes as the one with most, and one at least.
+///
+/// # Errors
+///
+/// Memory ran out.
+fn most_voted(alloc: Global, ways: &[Way], votes: &[u64]) -> Result<Vec<Way>, AllocError>
+    requires { length votes.now ≡ length ways.now }
+    ensures { (f : Way → ℕ) → votes.now ≡ map f ways.now → IfOk result (λ voted. voted.items ≡ filter (is_most_voted f ways.now) ways.now) }
+{
+    let most = greatest(votes);
+    let mut voted = Vec::new(alloc);
+    for i in 0..ways.len() {
+        let way = ways[i];
+        if are_most(votes[i], most) {
+            voted.push(way)?;
+        }
+    }
+    Ok(voted)
+}
+
+/// Those of some ways for which a volume-identifier header stands at its place.
+///
+/// # Errors
+///
+/// Read where a read failed. Memory where it ran out.
+fn voted<S: BlockSource>(
+    alloc: Global,
+    source: &mut S,
+    group: &Group,
+    ways: &[Way],
+) -> Result<Vec<Way>, DetectError>
+    requires size { (S.known source.old).size < 2 ^ 63 }
+    requires lies { LiesIn (S.known source.old).size group.now }
+    ensures known { S.known source.new ≡ after_detecting (S.known source.old) result }
+    ensures narrows { Narrows (S.agrees source.old) (S.agrees source.new) }
+    ensures voted { IfOk result (λ voted. WhereHeld (S.agrees source.new) (λ bytes. voted.items ≡ filter (has_vote bytes group.now) ways.now)) }
+    ensures failed { IfErr result (IsReadError (S.known source.old).size) }
+    ensures named { IfErr result (NamesPlace (S.failed_at source.new)) }
+{
+    let mut voted = Vec::new(alloc);
+    for way in ways {
+        if some_start(source, group, &HasVid { way })? {
+            voted.push(*way)?;
+        }
+    }
+    Ok(voted)
+}
+
+/// The ways that are told of the eraseblocks of a group, the least page first.
+///
+/// # Errors
+///
+/// Read where a read failed. Memory where it ran out.
+fn told_ways<S: BlockSource>(
+    alloc: Global,
+    source: &mut S,
+    group: &Group,
+    ways: &Ways,
+) -> Result<Vec<Way>, DetectError>
+    requires size { (S.known source.old).size < 2 ^ 63 }
+    requires lies { LiesIn (S.known source.old).size group.now }
+    requires ways { AreWays group.now ways.now }
+    ensures known { S.known source.new ≡ after_detecting (S.known source.old) result }
+    ensures narrows { Narrows (S.agrees source.old) (S.agrees source.new) }
+    ensures told { IfOk result (λ told. WhereHeld (S.agrees source.new) (λ bytes. told.items ≡ told_ways bytes group.now)) }
+    ensures failed { IfErr result (IsReadError (S.known source.old).size) }
+    ensures named { IfErr result (NamesPlace (S.failed_at source.new)) }
+{
+    if ways.with.is_empty() {
+        return voted(alloc, source, group, ways.without.as_slice());
+    }
+    let with = votes_of(alloc, source, group, ways.with.as_slice())?;
+    let without = votes_of(alloc, source, group, ways.without.as_slice())?;
+    if greatest(with.as_slice()) < greatest(without.as_slice()) {
+        return voted(alloc, source, group, ways.without.as_slice());
+    }
+    Ok(most_voted(alloc, ways.with.as_slice(), with.as_slice())?)
+}
+
+/// What is told of ways of an image that lies from one place to another.
+///
+/// # Errors
+///
+/// Memory ran out.
+fn placed(alloc: Global, ways: &[Way], start: u64, end: u64) -> Result<Vec<Detected>, AllocError>
+    requires { start ≤ end }
+    ensures { IfOk result (λ found. found.items ≡ map (told_by start end) ways.now) }
+{
+    let mut found = Vec::new(alloc);
+    for way in ways {
+        found.push(Detected {
+            geometry: way.geometry,
+            oob: way.oob,
+            start,
+            length: end - start,
+        })?;
+    }
+    Ok(found)
+}
+
+/// What is told of the image of a group.
+///
+/// # Errors
+///
+/// Read where a read failed. Memory where it ran out.
+pub fn told<S: BlockSource>(
+    alloc: Global,
+    source: &mut S,
+    group: &Group,
+    ways: &Ways,
+) -> Result<Vec<Detected>, DetectError>
+    requires size { (S.known source.old).size < 2 ^ 63 }
+    requires lies { LiesIn (S.known source.old).size group.now }
+    requires whole { end_of_last group.now ≤ (S.known source.old).size }
+    requires ways { AreWays group.now ways.now }
+    ensures known { S.known source.new ≡ after_detecting (S.known source.old) result }
+    ensures narrows { Narrows (S.agrees source.old) (S.agrees source.new) }
+    ensures told { IfOk result (λ found. WhereHeld (S.agrees source.new) (λ bytes. found.items ≡ told bytes group.now)) }
+    ensures failed { IfErr result (IsReadError (S.known source.old).size) }
+    ensures named { IfErr result (NamesPlace (S.failed_at source.new)) }
+{
+    let before = blanks_before(source, group)?;
+    let behind = blanks_behind(source, group)?;
+    let start = group.first - before * group.size;
+    let end = group.last + group.size + behind * group.size;
+    let ways = told_ways(alloc, source, group, ways)?;
+    Ok(placed(alloc, ways.as_slice(), start, end)?)
+}

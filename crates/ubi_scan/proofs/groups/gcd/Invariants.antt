@@ -1,8 +1,0 @@
-use Rattle.ubi_scan.proofs.Prelude.{ℕ, IsGcd}
-use Rattle.ubi_scan.proofs.groups.gcd.Given as goal
-
-abbrev pub invariant-loop-y : goal.invariant-loop-y
-invariant-loop-y l = (g : ℕ) → IsGcd l.x l.y g → IsGcd l.fn.a l.fn.b g
-
-abbrev pub decreases-loop-y : goal.decreases-loop-y
-decreases-loop-y l = l.y

@@ -1,5 +1,0 @@
-use Rattle.ubi_scan.proofs.OneImage.{two_headers}
-use Rattle.ubi_scan.proofs.laws.two_headers.Goals as goal
-
-pub returns : goal.returns
-returns c = two_headers
