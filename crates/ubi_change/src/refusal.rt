@@ -41,15 +41,15 @@ impl fmt::Display for ChangeRefusal {
     fn fmt<W: fmt::Write>(&self, f: &mut fmt::Formatter<W>) -> fmt::Result {
         match self {
             ChangeRefusal::Attach(cause) => write!(f, "{cause}"),
-            ChangeRefusal::NoVolume => write!(f, "K2 NoVolume"),
-            ChangeRefusal::StaticVolume => write!(f, "K3 StaticVolume"),
-            ChangeRefusal::Updating => write!(f, "K4 Updating"),
-            ChangeRefusal::OutOfRange => write!(f, "K5 OutOfRange"),
-            ChangeRefusal::BadLength => write!(f, "K6 BadLength"),
+            ChangeRefusal::NoVolume => f.write_str("K2 NoVolume"),
+            ChangeRefusal::StaticVolume => f.write_str("K3 StaticVolume"),
+            ChangeRefusal::Updating => f.write_str("K4 Updating"),
+            ChangeRefusal::OutOfRange => f.write_str("K5 OutOfRange"),
+            ChangeRefusal::BadLength => f.write_str("K6 BadLength"),
             ChangeRefusal::WeakCheck(pages) => write!(f, "K7 WeakCheck pages={pages}"),
-            ChangeRefusal::Exhausted => write!(f, "K8 Exhausted"),
-            ChangeRefusal::NoFree => write!(f, "K9 NoFree"),
-            ChangeRefusal::Memory => write!(f, "out of memory"),
+            ChangeRefusal::Exhausted => f.write_str("K8 Exhausted"),
+            ChangeRefusal::NoFree => f.write_str("K9 NoFree"),
+            ChangeRefusal::Memory => f.write_str("out of memory"),
         }
     }
 }

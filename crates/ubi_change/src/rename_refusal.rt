@@ -39,14 +39,14 @@ impl fmt::Display for RenameRefusal {
     fn fmt<W: fmt::Write>(&self, f: &mut fmt::Formatter<W>) -> fmt::Result {
         match self {
             RenameRefusal::Attach(cause) => write!(f, "{cause}"),
-            RenameRefusal::NoVolume => write!(f, "K2 NoVolume"),
-            RenameRefusal::BadName => write!(f, "N1 BadName"),
+            RenameRefusal::NoVolume => f.write_str("K2 NoVolume"),
+            RenameRefusal::BadName => f.write_str("N1 BadName"),
             RenameRefusal::SameName(slot) => write!(f, "N2 SameName slot={slot}"),
-            RenameRefusal::NeedsRepair => write!(f, "N3 NeedsRepair"),
+            RenameRefusal::NeedsRepair => f.write_str("N3 NeedsRepair"),
             RenameRefusal::WeakCheck(pages) => write!(f, "K7 WeakCheck pages={pages}"),
-            RenameRefusal::Exhausted => write!(f, "K8 Exhausted"),
-            RenameRefusal::NoFree => write!(f, "K9 NoFree"),
-            RenameRefusal::Memory => write!(f, "out of memory"),
+            RenameRefusal::Exhausted => f.write_str("K8 Exhausted"),
+            RenameRefusal::NoFree => f.write_str("K9 NoFree"),
+            RenameRefusal::Memory => f.write_str("out of memory"),
         }
     }
 }

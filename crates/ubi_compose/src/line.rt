@@ -14,7 +14,7 @@ use ubi_media::VolumeRecord;
 use ubi_volume::Bytes;
 
 /// The five forms of a line.
-#[derive(Clone, Copy, Debug, PartialEq, Eq)]
+#[derive(Clone, Copy)]
 pub(crate) enum Form {
     Volume,
     Leb,

@@ -126,7 +126,7 @@ impl fmt::Display for ConfigError {
                 let name = cause.name();
                 write!(f, "{name} line={line}")
             }
-            ConfigError::Memory => write!(f, "out of memory"),
+            ConfigError::Memory => f.write_str("out of memory"),
         }
     }
 }
@@ -142,7 +142,7 @@ impl From<AllocError> for ConfigError {
 }
 
 /// Why a line isn't read, or a section isn't finished.
-#[derive(Clone, Copy, Debug, PartialEq, Eq)]
+#[derive(Clone, Copy)]
 pub(crate) enum LineError {
     /// What is wrong with it.
     Cause(ConfigCause),

@@ -55,8 +55,8 @@ impl fmt::Display for Undetected {
 
     fn fmt<W: fmt::Write>(&self, f: &mut fmt::Formatter<W>) -> fmt::Result {
         match self {
-            Undetected::NoHeader => write!(f, "F1 NoHeader"),
-            Undetected::NoSize => write!(f, "F2 NoSize"),
+            Undetected::NoHeader => f.write_str("F1 NoHeader"),
+            Undetected::NoSize => f.write_str("F2 NoSize"),
             Undetected::Length(size, rest) => write!(f, "F3 Length peb={size} rest={rest}"),
             Undetected::OutOfBand(size) => write!(f, "F5 OutOfBand peb={size}"),
             Undetected::Page(
@@ -90,7 +90,7 @@ impl fmt::Display for DetectError {
         match self {
             DetectError::Undetected(cause) => write!(f, "{cause}"),
             DetectError::Read(at) => write!(f, "a read failed at={at}"),
-            DetectError::Memory => write!(f, "out of memory"),
+            DetectError::Memory => f.write_str("out of memory"),
         }
     }
 }

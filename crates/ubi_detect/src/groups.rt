@@ -19,7 +19,7 @@ pub const GREATEST_SIZE: u64 = 16_777_216;
 pub const MOST_KEYS: usize = 256;
 
 /// The headers of a file that name one key, or the same offsets and no number. It takes the same memory, however many they are.
-#[derive(Clone, Copy, Debug, PartialEq, Eq)]
+#[derive(Clone, Copy)]
 pub struct Group {
     /// What they name.
     pub key: Key,

@@ -11,7 +11,7 @@ use ubi_media::{EC_MAGIC, EcOffsets, EcStart, read_start};
 pub const STEP: u64 = 64;
 
 /// What the headers of one image name alike.
-#[derive(Clone, Copy, Debug, PartialEq, Eq)]
+#[derive(Clone, Copy)]
 pub struct Key {
     /// The places of the volume-identifier header and of the data in an eraseblock.
     pub offsets: EcOffsets,
@@ -64,7 +64,7 @@ impl Key {
 }
 
 /// A header of a file.
-#[derive(Clone, Copy, Debug, PartialEq, Eq)]
+#[derive(Clone, Copy)]
 pub struct Head {
     /// Where it begins.
     pub place: u64,

@@ -3,7 +3,7 @@
 use ubi_media::Geometry;
 
 /// A geometry, and how many out-of-band bytes lie behind each page of it.
-#[derive(Clone, Copy, Debug, PartialEq, Eq)]
+#[derive(Clone, Copy)]
 pub struct Way {
     /// The sizes without out-of-band bytes.
     pub geometry: Geometry,

@@ -12,7 +12,7 @@ use byteorder::{BigEndian, ByteOrder};
 pub const CHECK: usize = 60;
 
 /// What 64 bytes are before the rules of their header are looked at.
-#[derive(Clone, Copy, Debug, PartialEq, Eq)]
+#[derive(Clone, Copy)]
 pub enum Form {
     /// Without the magic, and 0xFF throughout.
     Blank,

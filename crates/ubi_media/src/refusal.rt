@@ -52,8 +52,8 @@ impl fmt::Display for Refusal {
 
     fn fmt<W: fmt::Write>(&self, f: &mut fmt::Formatter<W>) -> fmt::Result {
         match self {
-            Refusal::Length => write!(f, "S1 Length"),
-            Refusal::TooMany => write!(f, "S2 TooMany"),
+            Refusal::Length => f.write_str("S1 Length"),
+            Refusal::TooMany => f.write_str("S2 TooMany"),
             Refusal::Ec(p, fault) => write!(f, "S3 Ec block={p} {fault}"),
             Refusal::ImageSeq(p) => write!(f, "S4 ImageSeq block={p}"),
             Refusal::Vid(p, fault) => write!(f, "S5 Vid block={p} {fault}"),
@@ -64,15 +64,15 @@ impl fmt::Display for Refusal {
             Refusal::SameSqnum(p, earlier) => {
                 write!(f, "S8 SameSqnum block={p} earlier={earlier}")
             }
-            Refusal::NoTable => write!(f, "T1 NoTable"),
-            Refusal::BothCorrupt => write!(f, "T2 BothCorrupt"),
+            Refusal::NoTable => f.write_str("T1 NoTable"),
+            Refusal::BothCorrupt => f.write_str("T2 BothCorrupt"),
             Refusal::Record(p, slot, fault) => {
                 write!(f, "T3 Record block={p} slot={slot} {fault}")
             }
             Refusal::SameName(p, slot, next) => {
                 write!(f, "T4 SameName block={p} slot={slot} slot={next}")
             }
-            Refusal::NoSpace => write!(f, "T5 NoSpace"),
+            Refusal::NoSpace => f.write_str("T5 NoSpace"),
             Refusal::Mismatch(p) => write!(f, "V1 Mismatch block={p}"),
         }
     }
@@ -95,7 +95,7 @@ impl fmt::Display for AttachError {
     fn fmt<W: fmt::Write>(&self, f: &mut fmt::Formatter<W>) -> fmt::Result {
         match self {
             AttachError::Refused(cause) => write!(f, "{cause}"),
-            AttachError::Memory => write!(f, "out of memory"),
+            AttachError::Memory => f.write_str("out of memory"),
         }
     }
 }

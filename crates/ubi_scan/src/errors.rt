@@ -29,7 +29,7 @@ impl fmt::Display for StreamError {
             StreamError::Refused(cause) => write!(f, "{cause}"),
             StreamError::Read(p, written) => write!(f, "a read failed block={p} written={written}"),
             StreamError::Write(written) => write!(f, "a write failed written={written}"),
-            StreamError::Memory => write!(f, "out of memory"),
+            StreamError::Memory => f.write_str("out of memory"),
         }
     }
 }

@@ -31,12 +31,12 @@ impl fmt::Display for ReadError {
 
     fn fmt<W: fmt::Write>(&self, f: &mut fmt::Formatter<W>) -> fmt::Result {
         match self {
-            ReadError::NoVolume => write!(f, "L1 NoVolume"),
-            ReadError::Updating => write!(f, "L2 Updating"),
-            ReadError::Damaged => write!(f, "L3 Damaged"),
-            ReadError::OutOfRange => write!(f, "L4 OutOfRange"),
+            ReadError::NoVolume => f.write_str("L1 NoVolume"),
+            ReadError::Updating => f.write_str("L2 Updating"),
+            ReadError::Damaged => f.write_str("L3 Damaged"),
+            ReadError::OutOfRange => f.write_str("L4 OutOfRange"),
             ReadError::Write(written) => write!(f, "a write failed written={written}"),
-            ReadError::Memory => write!(f, "out of memory"),
+            ReadError::Memory => f.write_str("out of memory"),
         }
     }
 }
@@ -83,7 +83,7 @@ impl fmt::Display for MeaningCause {
                 f,
                 "M4 SameName item={item} earlier={earlier}"
             ),
-            MeaningCause::NoSpace => write!(f, "M5 NoSpace"),
+            MeaningCause::NoSpace => f.write_str("M5 NoSpace"),
             MeaningCause::ContentRange(item) => write!(f, "M6 ContentRange item={item}"),
         }
     }
