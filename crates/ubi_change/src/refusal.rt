@@ -2,6 +2,7 @@
 
 ghost use Rattle.std.specs.Prelude.{Some, ◌≡◌};
 ghost use Rattle.ubi_change.specs.ErrorTexts.{change_refusal_text};
+ghost use Rattle.ubi_change.specs.declared.refusal.ChangeRefusal.{ChangeRefusal};
 
 use std::alloc::AllocError;
 use std::error::Error;

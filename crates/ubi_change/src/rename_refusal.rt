@@ -2,6 +2,7 @@
 
 ghost use Rattle.std.specs.Prelude.{Some, ◌≡◌};
 ghost use Rattle.ubi_change.specs.ErrorTexts.{rename_refusal_text};
+ghost use Rattle.ubi_change.specs.declared.rename_refusal.RenameRefusal.{RenameRefusal};
 
 use std::alloc::AllocError;
 use std::error::Error;

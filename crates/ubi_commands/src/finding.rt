@@ -24,9 +24,8 @@ use crate::outcome::{FAILED, Outcome, ToolError};
 use crate::view::FilePart;
 use crate::whole_dump::see_kept;
 use std::alloc::{AllocError, Global};
-use ubi_scan::{
-    BlockSource, DetectError, Detected, MemorySource, PlacedFile, Undetected, detect_from,
-};
+use ubi_detect::{DetectError, Detected, Undetected, detect_from};
+use ubi_scan::{BlockSource, MemorySource, PlacedFile};
 
 /// A dump of which it is known how it is read.
 #[derive(Drop)]

@@ -14,6 +14,7 @@ ghost use Rattle.ubi_commands.specs.Program.{IsRead, IsUnread};
 ghost use Rattle.ubi_commands.specs.inner.FileAnswers.{Tells};
 ghost use Rattle.ubi_commands.specs.Read.{TakesAtMost};
 ghost use Rattle.ubi_commands.specs.declared.image_file.Unread.TheVariants.{Memory, Told};
+ghost use Rattle.ubi_commands.specs.declared.image_file.Unread.{Unread};
 
 use crate::disk::{Disk, WholeFile};
 use crate::lines::{file_line, geometry_line};

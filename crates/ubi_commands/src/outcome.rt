@@ -3,6 +3,7 @@
 ghost use Rattle.std.specs.Prelude.{◌≡◌, [], Err, IfErr, MatchResult, Ok};
 ghost use Rattle.ubi_commands.specs.Answer.{Gives, says};
 ghost use Rattle.ubi_commands.specs.declared.outcome.ToolError.TheVariants.{Memory};
+ghost use Rattle.ubi_commands.specs.declared.outcome.SidesError.{SidesError};
 
 use std::alloc::{AllocError, AllocFailed, Global};
 use thiserror::Error;

@@ -3,6 +3,8 @@
 ghost use Rattle.std.specs.Prelude.{◌≡◌, Some};
 ghost use Rattle.ubi_config.specs.ErrorTexts.{config_cause_name, config_cause_text, config_error_text};
 ghost use Rattle.ubi_config.specs.inner.Reading.{error_at};
+ghost use Rattle.ubi_config.specs.declared.errors.ConfigError.{ConfigError};
+ghost use Rattle.ubi_config.specs.declared.errors.LineError.{LineError};
 
 use crate::key::Key;
 use std::alloc::AllocError;

@@ -8,6 +8,7 @@ ghost use Rattle.ubi_scan.specs.Source.{Narrows, WhereHeld};
 ghost use Rattle.ubi_detect.specs.inner.Detecting.{AreWays, IsReadAt, IsReadError, IsUntold, LiesIn};
 ghost use Rattle.ubi_detect.specs.inner.Joined.{IsAlone, NoneAlone};
 ghost use Rattle.ubi_detect.specs.ErrorTexts.{undetected_text, detect_error_text};
+ghost use Rattle.ubi_detect.specs.declared.detect.DetectError.{DetectError};
 
 use crate::groups::{Group, image_among};
 use crate::place::told;

@@ -20,8 +20,8 @@ on_literals = tt
 
 -- a header by its version, its counter, the place of its data, and its check, which another program has worked out
 abbrev header : ℕ → ℕ → ℕ → ℕ → List ℕ
-header version counter data sum =
-    words (0x55424923 ∷ version ∷ 0 ∷ counter ∷ 0x40 ∷ data ∷ 0 ∷ 0 ∷ 0 ∷ 0 ∷ 0 ∷ 0 ∷ 0 ∷ 0 ∷ 0 ∷ sum ∷ [])
+header version counter start sum =
+    words (0x55424923 ∷ version ∷ 0 ∷ counter ∷ 0x40 ∷ start ∷ 0 ∷ 0 ∷ 0 ∷ 0 ∷ 0 ∷ 0 ∷ 0 ∷ 0 ∷ 0 ∷ sum ∷ [])
 
 written : ec_bytes small base ≡ words base_words
 unfolding on_literals

@@ -32,18 +32,24 @@ valid : HaveReadings (
     -- sound
     (slot (0x00000014 ∷ 1 ∷ 0 ∷ 0x01000004 ∷ 0x726f6f74 ∷ []) 0x71dfb11d, Valid root) ∷
     -- alignment 256
-    (slot (0x00000014 ∷ 0x00000100 ∷ 0x00000080 ∷ 0x01000004 ∷ 0x726f6f74 ∷ []) 0x30ed19e0,
-        Valid (record root { alignment = 256 })) ∷
+    (
+      slot (0x00000014 ∷ 0x00000100 ∷ 0x00000080 ∷ 0x01000004 ∷ 0x726f6f74 ∷ []) 0x30ed19e0,
+      Valid (record root { alignment = 256 }),
+    ) ∷
     -- longest name
-    (slot (0x00000014 ∷ 1 ∷ 0 ∷ 0x0100007f ∷ (replicate 31 0x61616161 ++ (0x61616100 ∷ []))) 0x4529d27c,
-        Valid (record root { name = replicate 127 97 })) ∷
+    (
+      slot (0x00000014 ∷ 1 ∷ 0 ∷ 0x0100007f ∷ (replicate 31 0x61616161 ++ (0x61616100 ∷ []))) 0x4529d27c,
+      Valid (record root { name = replicate 127 97 }),
+    ) ∷
     -- what stands behind the zero of the name is nothing
     (slot (0x00000014 ∷ 1 ∷ 0 ∷ 0x01000004 ∷ 0x726f6f74 ∷ 0x00010000 ∷ []) 0xa4dcaedb, Valid root) ∷
     -- and neither is what stands in the padding
     (slot (0x00000014 ∷ 1 ∷ 0 ∷ 0x01000004 ∷ 0x726f6f74 ∷ (replicate 31 0 ++ (0x00010000 ∷ []))) 0xeaac5bc9, Valid root) ∷
     -- static and marked
-    (slot (0x00000014 ∷ 1 ∷ 0 ∷ 0x02010004 ∷ 0x726f6f74 ∷ (replicate 31 0 ++ (0xff000000 ∷ []))) 0xb52a4690,
-        Valid (record root { kind = Static; marker = true; flags = 0xff })) ∷
+    (
+      slot (0x00000014 ∷ 1 ∷ 0 ∷ 0x02010004 ∷ 0x726f6f74 ∷ (replicate 31 0 ++ (0xff000000 ∷ []))) 0xb52a4690,
+      Valid (record root { kind = Static; marker = true; flags = 0xff }),
+    ) ∷
     -- empty
     (slot [] 0xf116c36b, Empty) ∷
     [])

@@ -2,6 +2,7 @@
 
 ghost use Rattle.std.specs.Prelude.{Some, ◌≡◌};
 ghost use Rattle.ubi_media.specs.ErrorTexts.{refusal_text, attach_error_text};
+ghost use Rattle.ubi_media.specs.declared.refusal.AttachError.{AttachError};
 
 use crate::ec::EcFault;
 use crate::record::RecFault;

@@ -2,6 +2,7 @@
 
 ghost use Rattle.std.specs.Prelude.{Some, ◌≡◌};
 ghost use Rattle.ubi_scan.specs.ErrorTexts.{stream_error_text};
+ghost use Rattle.ubi_scan.specs.declared.errors.StreamError.{StreamError};
 
 use std::alloc::AllocError;
 use std::error::Error;

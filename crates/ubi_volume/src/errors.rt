@@ -2,6 +2,7 @@
 
 ghost use Rattle.std.specs.Prelude.{Some, ◌≡◌};
 ghost use Rattle.ubi_volume.specs.ErrorTexts.{read_error_text, meaning_cause_text};
+ghost use Rattle.ubi_volume.specs.declared.errors.ReadError.{ReadError};
 
 use crate::content::Volume;
 use std::alloc::AllocError;
