@@ -1,5 +1,5 @@
 -- Of what is told of a file the first accepts what another one does.
-use Rattle.ubi_commands.proofs.Prelude.{◌≡◌, ℕ, List, subst, sym, Sizes, with_page, IsLesserTold, least_first, Detected, image_of, Accepts, meaning_with_page, normal_kept, IsNormalised, AreOfFirst, LeastTold}
+use Rattle.ubi_commands.proofs.Prelude.{◌≡◌, ℕ, List, subst, sym, Sizes, with_page, IsLesserTold, least_first, Detected, image_of, Accepts, meaning_with_page, normal_kept, IsNormalised, AreOfFirst, LeastTold, lesser_page}
 
 told_least : (bytes : List ℕ) (first other : Detected) → AreOfFirst bytes first other → IsLesserTold first other
 told_least bytes first other told = least_first bytes first other told.0 told.1 told.2

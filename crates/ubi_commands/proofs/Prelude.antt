@@ -127,6 +127,7 @@ pub use Rattle.ubi_volume.proofs.Either.{accepted_or_refused}
 pub use Rattle.ubi_volume.proofs.Extracted.{len_none, len_some}
 pub use Rattle.ubi_volume.proofs.FirstCause.{one_first}
 pub use Rattle.ubi_volume.proofs.Gathered.{listed_at, listed_item}
+pub use Rattle.ubi_volume.proofs.LesserPage.{lesser_page}
 pub use Rattle.ubi_volume.proofs.Narrowed.{places_narrowed}
 pub use Rattle.ubi_volume.proofs.One.{Accepts-unique, never_accepted_and_refused}
 pub use Rattle.ubi_volume.proofs.OneCause.{one_cause}

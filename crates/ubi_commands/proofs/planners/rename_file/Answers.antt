@@ -24,4 +24,4 @@ returns-clause-answer g c =
     let given : c.new-avoided.result ≡ avoided dump c.args.asked.now.plan =
     rw (c.as_slice.ensures.value, c.in-Ok.frame.marked, c.in-Ok.ensures.dump) at c.new-avoided.ensures in
     IfOk-weaker c.write_plan.result _ _ (λ o h. with_list h)
-    (rw (given, c.as_bytes.ensures.value) at (c.write_plan.ensures.answer d dump (rw c.in-Ok.ensures.dump at c.in-Ok-open_beside.ensures.opened)))
+    (rw (given, c.as_bytes-word.ensures.value) at (c.write_plan.ensures.answer d dump (rw c.in-Ok.ensures.dump at c.in-Ok-open_beside.ensures.opened)))

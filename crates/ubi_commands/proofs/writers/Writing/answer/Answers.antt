@@ -26,3 +26,9 @@ returns-in-Change-clause-done g c = rw c.in-Change.is
 pub returns-in-Rename-clause-done : goal.returns-in-Rename-clause-done
 returns-in-Rename-clause-done g c = rw c.in-Rename.is
     (named_done _ _ _ _ _ _ _ _ _ _ c.run_rename_from.result c.run_rename_from.ensures.ok)
+
+pub returns-in-Change-clause-answer : goal.returns-in-Change-clause-answer
+returns-in-Change-clause-answer g c = rw c.in-Change.is c.run_change_from.ensures.ok
+
+pub returns-in-Rename-clause-answer : goal.returns-in-Rename-clause-answer
+returns-in-Rename-clause-answer g c = rw c.in-Rename.is c.run_rename_from.ensures.ok
