@@ -180,7 +180,8 @@ pub use Rattle.ubi_commands.specs.Show.{Shows, block_lines, no_block, no_block_f
 pub use Rattle.ubi_commands.specs.Tool.{HasOneVolume, Mean, finds, plans, reads_dump}
 pub use Rattle.ubi_commands.specs.Unpack.{AreUnpacked, AreUnpackedUntil, IsUnpacked, Listed, Unpacks, UnpacksOf, file_byte, file_name, file_path, no_folder, unpacked, unpacked_line, unpacked_lines, unpacked_status}
 pub use Rattle.ubi_commands.specs.Views.{misfit, pages_from, pages_of, part_len, part_of, whole_file}
-pub use Rattle.ubi_commands.specs.Work.{HasWork, reads, writes}
+pub use Rattle.ubi_commands.specs.Reads.{reads}
+pub use Rattle.ubi_commands.specs.inner.Writes.{HasWork, writes}
 pub use Rattle.ubi_commands.specs.declared.asked.Asked.{Asked}
 pub use Rattle.ubi_commands.specs.declared.asked.Change.{Change}
 pub use Rattle.ubi_commands.specs.declared.asked.Dump.{Dump}

@@ -24,6 +24,7 @@ pub mod Plan
 pub mod Printed
 pub mod Program
 pub mod Read
+pub mod Reads
 pub mod Rename
 pub mod Row
 pub mod Same
@@ -31,5 +32,4 @@ pub mod Show
 pub mod Tool
 pub mod Unpack
 pub mod Views
-pub mod Work
 pub mod inner

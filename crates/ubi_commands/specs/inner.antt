@@ -11,3 +11,4 @@ pub mod Late
 pub mod Opened
 pub mod Planning
 pub mod Telling
+pub mod Writes

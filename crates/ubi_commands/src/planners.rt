@@ -8,7 +8,7 @@ ghost use Rattle.ubi_commands.specs.Dump.{seen};
 ghost use Rattle.ubi_commands.specs.inner.Opened.{IsOpened, IsUnreadOf};
 ghost use Rattle.ubi_commands.specs.Program.{OfFile, OfImage, PlanStays, WithList, WritesPlan, avoided};
 ghost use Rattle.ubi_commands.specs.Rename.{HasRename, RenamesFrom};
-ghost use Rattle.ubi_commands.specs.Work.{HasWork, writes};
+ghost use Rattle.ubi_commands.specs.inner.Writes.{HasWork, writes};
 
 use crate::asked::{Change, Dump, Paths, Plan, Rename};
 use crate::change::NewBytes;

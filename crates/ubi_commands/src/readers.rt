@@ -12,7 +12,7 @@ ghost use Rattle.ubi_commands.specs.Lines.{unlike_line};
 ghost use Rattle.ubi_commands.specs.Numbers.{sizes_of};
 ghost use Rattle.ubi_commands.specs.Program.{OfAsked, OfBoth, OfFile};
 ghost use Rattle.ubi_commands.specs.Same.{ComparesOf};
-ghost use Rattle.ubi_commands.specs.Work.{reads};
+ghost use Rattle.ubi_commands.specs.Reads.{reads};
 
 use crate::asked::{Asked, Dump};
 use crate::check::run_check_from;

@@ -15,7 +15,7 @@ ghost use Rattle.ubi_commands.specs.inner.Kept.{IsPartOf};
 ghost use Rattle.ubi_commands.specs.inner.Opened.{IsOpened, IsUnreadOf};
 ghost use Rattle.ubi_commands.specs.inner.Ended.{IsEnded, Works};
 ghost use Rattle.ubi_commands.specs.Program.{OfAsked, OfFile, WritesInto};
-ghost use Rattle.ubi_commands.specs.Work.{HasWork, writes};
+ghost use Rattle.ubi_commands.specs.inner.Writes.{HasWork, writes};
 ghost use Rattle.ubi_commands.specs.declared.asked.Dump.{Dump};
 
 use crate::asked::{Asked, Paths};

@@ -214,19 +214,19 @@ impl Contents {
 
     /// Those of its eraseblocks, or its own, before others are written over them.
     fn plain(&self, alloc: Global) -> Result<Vec<u8>, Fail> {
-        match *self {
-            Contents::Pebs(pebs, _) => small_image(alloc, pebs),
+        Ok(match *self {
+            Contents::Pebs(pebs, _) => small_image(alloc, pebs)?,
             Contents::Unnumbered(pebs) | Contents::UnnumberedBut(pebs, _) => {
-                unnumbered_of(alloc, &small()?, pebs)
+                unnumbered_of(alloc, &small()?, pebs)?
             }
             Contents::Wide(pebs) => {
                 let geometry = Geometry::new(1024, 256, 64, 256, 32)?;
-                image_of(alloc, &geometry, pebs)
+                image_of(alloc, &geometry, pebs)?
             }
-            Contents::Runs(runs) | Contents::First(runs, _) => bytes_of(alloc, runs),
-            Contents::Chip(chip, _) => chip.image(alloc, &chip.geometry()?, &[SMALL_ROOT]),
-            _ => Err("a name of a name".into()),
-        }
+            Contents::Runs(runs) | Contents::First(runs, _) => bytes_of(alloc, runs)?,
+            Contents::Chip(chip, _) => chip.image(alloc, &chip.geometry()?, &[SMALL_ROOT])?,
+            _ => return Err("a name of a name".into()),
+        })
     }
 
     /// What is written over them, each with its place.

@@ -1,29 +1,16 @@
--- What the commands answer that read one image.
+-- What the commands answer that read one image, and write a file.
 use Rattle.std.specs.Prelude.{ℕ, List, Option}
 use Rattle.ubi_media.specs.Geometry.{Sizes}
 use Rattle.ubi_scan.specs.Source.{Agreed, Source}
 use Rattle.ubi_commands.specs.Change.{ChangesFrom, HasPlan}
-use Rattle.ubi_commands.specs.Check.{ChecksOf}
 use Rattle.ubi_commands.specs.Extract.{ExtractsOf, HasTextIn}
-use Rattle.ubi_commands.specs.Geometry.{DetectsOf}
-use Rattle.ubi_commands.specs.List.{ListsOf}
 use Rattle.ubi_commands.specs.Normalise.{HasMeaning, NormalisesOf}
 use Rattle.ubi_commands.specs.Rename.{HasRename, RenamesFrom}
-use Rattle.ubi_commands.specs.Show.{ShowsOf}
 use Rattle.ubi_commands.specs.declared.outcome.Outcome.{Outcome}
-use Rattle.ubi_commands.specs.declared.readers.Reading.{Reading}
-use Rattle.ubi_commands.specs.declared.readers.Reading.TheVariants as reading
 use Rattle.ubi_commands.specs.declared.writers.Writing.{Writing}
 use Rattle.ubi_commands.specs.declared.writers.Writing.TheVariants as writing
 
--- what a command answers of a source that writes no file
-abbrev pub reads : Reading → Sizes → Source → Agreed → Outcome → Type 0
-reads (reading.Geometry part) s = DetectsOf part
-reads reading.List s = ListsOf s
-reads reading.Check s = ChecksOf s
-reads (reading.Show block) s = ShowsOf block s
-
--- what one answers that writes a file: which pages it gives, and what the file receives meanwhile
+-- what a command answers of a source, which pages it gives, and what the file receives meanwhile
 abbrev pub writes : Writing → Sizes → Source → Agreed → List ℕ → Option (List ℕ) → Option (List ℕ) → Outcome → Type 0
 writes writing.Normalise s k agrees pages = NormalisesOf s k agrees
 writes (writing.Extract key) s k agrees pages = ExtractsOf key s k agrees
