@@ -24,9 +24,11 @@ HaveFaults rows = map (λ e. config_fault (text e.0)) rows ≡ map (λ e. e.1) r
 
 -- no line has a fault
 sound_configs : HaveFaults (
-    (codes "[v]" ∷ codes "mode=ubi" ∷ codes "vol_id=1" ∷ codes "vol_name=a" ∷ codes "vol_size=9" ∷ [], None) ∷
-    (codes "  [ v ] " ∷ codes "" ∷ codes "# a" ∷ codes " Mode = ubi ; a" ∷ codes "VOL_ID=1" ∷ codes "vol_name=a"
-        ∷ codes "vol_size=9 KiB" ∷ [], None) ∷
+    (codes "[v]" ∷ codes "mode=ubi" ∷ codes "vol_id=1" ∷ codes "vol_name=a" ∷ codes "vol_size=9" ∷ [], None) ∷ (
+      codes "  [ v ] " ∷ codes "" ∷ codes "# a" ∷ codes " Mode = ubi ; a" ∷ codes "VOL_ID=1" ∷ codes "vol_name=a"
+          ∷ codes "vol_size=9 KiB" ∷ [],
+      None,
+    ) ∷
     [])
 unfolding config_on_literals
 sound_configs = refl
@@ -66,9 +68,11 @@ right_values : HaveFaults (
     (codes "[v]" ∷ replicate 1022 35 ∷ [], Some (1, cause.Missing key.Mode)) ∷
     (codes "[v]" ∷ codes "image='#;\"' # b" ∷ [], Some (1, cause.Missing key.Mode)) ∷
     (codes "[v]" ∷ codes "vol_id=4294967295" ∷ [], Some (1, cause.Missing key.Mode)) ∷
-    (codes "[v]" ∷ codes "vol_size=9223372036854775807" ∷ [], Some (1, cause.Missing key.Mode)) ∷
-    (codes "[v]" ∷ codes "vol_flags=skip-check" ∷ codes "[w]" ∷ codes "vol_flags=skip-check"
-        ∷ [], Some (1, cause.Missing key.Mode)) ∷
+    (codes "[v]" ∷ codes "vol_size=9223372036854775807" ∷ [], Some (1, cause.Missing key.Mode)) ∷ (
+      codes "[v]" ∷ codes "vol_flags=skip-check" ∷ codes "[w]" ∷ codes "vol_flags=skip-check"
+          ∷ [],
+      Some (1, cause.Missing key.Mode),
+    ) ∷
     [])
 unfolding config_on_literals
 right_values = refl
@@ -78,9 +82,11 @@ again : HaveFaults (
     (codes "[v]" ∷ codes "[V]" ∷ [], Some (2, cause.Again)) ∷
     (codes "[v]" ∷ codes "mode=ubi" ∷ codes "mode=ubi" ∷ [], Some (3, cause.Again)) ∷
     (codes "[v]" ∷ codes "vol_id=1" ∷ codes "[w]" ∷ codes "vol_id=1" ∷ [], Some (4, cause.SameId)) ∷
-    (codes "[v]" ∷ codes "vol_name=a" ∷ codes "[w]" ∷ codes "vol_name=a" ∷ [], Some (4, cause.SameName)) ∷
-    (codes "[v]" ∷ codes "vol_flags=autoresize" ∷ codes "[w]" ∷ codes "vol_flags=autoresize"
-        ∷ [], Some (4, cause.Autoresize)) ∷
+    (codes "[v]" ∷ codes "vol_name=a" ∷ codes "[w]" ∷ codes "vol_name=a" ∷ [], Some (4, cause.SameName)) ∷ (
+      codes "[v]" ∷ codes "vol_flags=autoresize" ∷ codes "[w]" ∷ codes "vol_flags=autoresize"
+          ∷ [],
+      Some (4, cause.Autoresize),
+    ) ∷
     [])
 unfolding config_on_literals
 again = refl
@@ -89,11 +95,15 @@ again = refl
 lacking : HaveFaults (
     (codes "[v]" ∷ codes "mode=ubi" ∷ codes "[w]" ∷ codes "mode=ubi" ∷ [], Some (1, cause.Missing key.Id)) ∷
     (codes "[v]" ∷ codes "mode=ubi" ∷ codes "vol_id=1" ∷ codes "vol_size=9" ∷ [], Some (1, cause.Missing key.Name)) ∷
-    (codes "[v]" ∷ codes "mode=ubi" ∷ codes "vol_id=1" ∷ codes "vol_name=a" ∷ [], Some (1, cause.Missing key.Image)) ∷
-    (codes "# a" ∷ codes "[v]" ∷ codes "mode=ubi" ∷ codes "vol_id=1" ∷ codes "vol_name=a" ∷ codes "vol_size=9"
-        ∷ codes "vol_type=static" ∷ [], Some (2, cause.Missing key.Image)) ∷
-    (codes "[v]" ∷ codes "mode=ubi" ∷ codes "vol_id=1" ∷ codes "vol_name=a" ∷ codes "image=a"
-        ∷ codes "vol_flags=skip-check" ∷ [], Some (1, cause.SkipCheck)) ∷
+    (codes "[v]" ∷ codes "mode=ubi" ∷ codes "vol_id=1" ∷ codes "vol_name=a" ∷ [], Some (1, cause.Missing key.Image)) ∷ (
+      codes "# a" ∷ codes "[v]" ∷ codes "mode=ubi" ∷ codes "vol_id=1" ∷ codes "vol_name=a" ∷ codes "vol_size=9"
+          ∷ codes "vol_type=static" ∷ [],
+      Some (2, cause.Missing key.Image),
+    ) ∷ (
+      codes "[v]" ∷ codes "mode=ubi" ∷ codes "vol_id=1" ∷ codes "vol_name=a" ∷ codes "image=a"
+          ∷ codes "vol_flags=skip-check" ∷ [],
+      Some (1, cause.SkipCheck),
+    ) ∷
     [])
 unfolding config_on_literals
 lacking = refl
