@@ -1,5 +1,5 @@
 -- The plan of an attached image, against which no cause stands, survives every cut.
-use Rattle.ubi_change.proofs.Prelude.{◌≡◌, ◌≢◌, ℕ, suc, ◌+◌, ◌/◌, ◌%◌, ◌^◌, ◌<◌, ◌≤◌, Bool, true, false, not, List, [], ◌∷◌, ◌++◌, append_assoc, length, set, refl, ap, sym, ◌∙◌, subst, arith, length-append, length-set, None, Option, Some, ◌==◌, IfSome, count_by, nat_lt, option_map, then_some, FinMap, option_map_or, nat_cmp, nat_tests, Sizes, IsGeometry, leb_size, is_static, data_pad, usable, vid_bytes, EcHeader, VidHeader, VolKind, VolumeRecord, Image, eraseblocks, in_image, NoMember, Wins, Agrees, Records, AllBlank, AcceptsBlocks, Whole, Fits, IsVolume, Content, Volume, records_meant, found_wins, none_found, SurvivesCuts, programs_copy, turn, blank_header, copy_header, next_ec, mapped_plan, needs, plan_of, prepare, program_header, program_text, ready_bytes, ready_ec, release, taken, unmapped_plan, causes, first_cause, first_of, is_bad_length, ec_at, is_worn, takeable, weak_place, whole_place, ChangeRefusal, Step, own_causes, laid}
+use Rattle.ubi_change.proofs.Prelude.{◌≡◌, ◌≢◌, ℕ, suc, ◌+◌, ◌/◌, ◌%◌, ◌^◌, ◌<◌, ◌≤◌, Bool, true, false, not, List, [], ◌∷◌, ◌++◌, append_assoc, length, set, refl, ap, sym, ◌∙◌, subst, arith, length-append, length-set, None, Option, Some, ◌==◌, IfSome, count_by, nat_lt, option_map, then_some, FinMap, option_map_or, nat_cmp, nat_tests, Sizes, IsGeometry, leb_size, is_static, data_pad, usable, vid_bytes, EcHeader, VidHeader, VolKind, VolumeRecord, Image, eraseblocks, in_image, NoMember, Wins, Agrees, Records, AllBlank, AcceptsBlocks, Whole, Fits, IsVolume, Content, Volume, records_meant, found_wins, none_found, SurvivesCuts, programs_copy, turn, blank_header, copy_header, next_ec, mapped_plan, needs, plan_of, prepare, program_header, program_text, ready_bytes, ready_ec, release, taken, unmapped_plan, causes, first_cause, first_of, is_bad_length, ec_at, is_worn, takeable, weak_place, whole_place, ChangeRefusal, Step, own_causes, laid, rec_fault, half_pad, reserved_within}
 use Rattle.std.specs.FinMap as finite
 use Rattle.ubi_media.specs.declared.vid.VolKind.TheVariants as kind
 use Rattle.ubi_volume.specs.declared.content.Content.TheVariants as content
@@ -120,15 +120,26 @@ lebs_of s r content.Damaged d u f = absurd (let k = f.1 in cc)
 lebs_of s r (content.Static text) d u f = absurd (let k = f.1 in cc)
 lebs_of s r (content.Dynamic lebs) d u f = (lebs, refl)
 
-module _ (image : Image) (g : IsGeometry image.sizes) (a : Whole) (att : IsShown image a)
-    (few : a.scan.mean_ec < 2 ^ 31) (narrow : a.scan.image_seq < 2 ^ 32)
-    (id lnum : ℕ) (new : List ℕ) (v : Volume) (there : finite.get a.meaning.volumes id ≡ Some v)
-    (allowed : in_image first_cause image a id lnum new ≡ None)
-    (half : data_pad image.sizes v.entry < leb_size image.sizes / 2) (bounded : v.entry.reserved < 2 ^ 31) where
-  abbrev s : Sizes
+-- a change of an attached image, against which no cause stands
+pub record Changing : Type 0 where
+  pub image : Image
+  pub g : IsGeometry image.sizes
+  pub a : Whole
+  pub att : IsShown image a
+  pub id : ℕ
+  pub lnum : ℕ
+  pub new : List ℕ
+  pub v : Volume
+  pub there : finite.get a.meaning.volumes id ≡ Some v
+  pub allowed : in_image first_cause image a id lnum new ≡ None
+
+module _ (change : Changing) where
+  open change use {image, g, a, att, id, lnum, new, v, there, allowed}
+
+  abbrev pub s : Sizes
   s = image.sizes
 
-  abbrev bs : List (List ℕ)
+  abbrev pub bs : List (List ℕ)
   bs = eraseblocks image
 
   acc : AcceptsBlocks s bs a.meaning
@@ -143,6 +154,19 @@ module _ (image : Image) (g : IsGeometry image.sizes) (a : Whole) (att : IsShown
 
   volume : IsVolume a.meaning.sizes id v
   volume = subst (λ (o : Option Volume). IfSome o (IsVolume a.meaning.sizes id)) there (acc.means.meaning.each id)
+
+  -- the record of a volume that is meant breaks no rule
+  sound : rec_fault s v.entry ≡ None
+  sound = subst (λ (z : Sizes). rec_fault z v.entry ≡ None) acc.means.sizes volume.sound
+
+  half : data_pad s v.entry < leb_size s / 2
+  half = half_pad s v.entry sound g
+
+  pub few : a.scan.mean_ec < 2 ^ 31
+  few = on.mean_few image a att
+
+  pub narrow : a.scan.image_seq < 2 ^ 32
+  narrow = on.seq_narrow image a att
 
   slot : id < 128
   slot = let l = volume.slot in omega arith
@@ -159,13 +183,19 @@ module _ (image : Image) (g : IsGeometry image.sizes) (a : Whole) (att : IsShown
   was = there ∙ ap (λ (c : Content). Some (record { entry = v.entry; content = c })) held.1
 
   number : lnum < 2 ^ 31
-  number = let l = no_cause.is_new.inside in omega arith
+  number = let l = no_cause.is_new.inside in let b = reserved_within s v.entry sound in omega arith
 
   used : AllBlank s bs → ⊥
   used = used_by_volume s bs a.meaning acc id v there
 
-  pub fits_leb : length new ≤ leb_size s
+  fits_leb : length new ≤ leb_size s
   fits_leb = let k = no_cause.is_new.short in omega arith
+
+  pub room : s.data_offset + length new ≤ s.peb_size
+  room = let l = fits_leb in let k = g.leb in omega arith
+
+  pub paged : length new % s.page ≡ 0
+  paged = no_cause.is_new.paged
 
   wide : leb_size s < 2 ^ 31
   wide = omega (arith, g.peb_to)

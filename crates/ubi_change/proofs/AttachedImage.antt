@@ -1,5 +1,5 @@
 -- What an attached image gives all plans on it: what its eraseblocks are, and what the parts of a plan do there.
-use Rattle.ubi_change.proofs.Prelude.{◌≡◌, ℕ, ◌+◌, ◌/◌, ◌^◌, ◌<◌, inl, inr, Bool, true, false, cond, List, [], length, refl, sym, ◌∙◌, subst, arith, Option, Sizes, IsGeometry, EcHeader, Image, block, eraseblocks, length-of_chunk, length-first_chunks, clean_from_none, Agrees, seq_agrees, AcceptsBlocks, Whole, programs_copy, next_ec, prepare, release, renew, ec_at, is_clean, is_sole_carrier, is_worn, stays}
+use Rattle.ubi_change.proofs.Prelude.{◌≡◌, ℕ, ◌+◌, ◌/◌, ◌^◌, ◌<◌, inl, inr, Bool, true, false, cond, List, [], length, refl, sym, ◌∙◌, subst, arith, Option, Sizes, IsGeometry, EcHeader, Image, block, eraseblocks, length-of_chunk, length-first_chunks, clean_from_none, Agrees, seq_agrees, AcceptsBlocks, Whole, programs_copy, next_ec, prepare, release, renew, is_clean, is_sole_carrier, is_worn, stays}
 use Rattle.std.proofs.Math.Nat as nat
 use Rattle.ubi_change.proofs.CopyReplaced.{IsRelease}
 use Rattle.ubi_change.proofs.Emptied.{AreBelow}
@@ -10,6 +10,7 @@ use Rattle.ubi_change.proofs.Seq.{NamedBeside, not_sole}
 use Rattle.ubi_change.proofs.Top.{member_below}
 use Rattle.ubi_change.proofs.Turned.{AllFail, renew_fails}
 use Rattle.ubi_change.proofs.Shown.{IsShown}
+use Rattle.ubi_change.proofs.Runs.{if_renewed}
 
 -- its numbers have 31 and 32 bits
 module _ (image : Image) (a : Whole) (att : IsShown image a) where
@@ -49,18 +50,10 @@ module _ (image : Image) (g : IsGeometry image.sizes) (a : Whole) (att : IsShown
 
   -- neither what makes an eraseblock ready nor what gives one up programs the header of a copy
   pub prepare_fails : (p : ℕ) → AllFail (programs_copy s) (prepare s bs a p)
-  prepare_fails p = by_test (is_clean s bs a.states p)
-    where
-      by_test : (b : Bool) → AllFail (programs_copy s) (cond b [] (renew s p (next_ec a.scan (ec_at s bs p))))
-      by_test true = tt
-      by_test false = renew_fails s g p (next_ec a.scan (ec_at s bs p))
+  prepare_fails p = if_renewed (AllFail (programs_copy s)) (is_clean s bs a.states p) tt (renew_fails s g p _)
 
   pub release_fails : (p : ℕ) (now : Option EcHeader) → AllFail (programs_copy s) (release s bs a p now)
-  release_fails p now = by_test (stays s bs p now)
-    where
-      by_test : (b : Bool) → AllFail (programs_copy s) (cond b [] (renew s p (next_ec a.scan now)))
-      by_test true = tt
-      by_test false = renew_fails s g p (next_ec a.scan now)
+  release_fails p now = if_renewed (AllFail (programs_copy s)) (stays s bs p now) tt (renew_fails s g p _)
 
   -- what is given up is left, or erased where another eraseblock names the image, in these eraseblocks or in others in
   -- which it still does

@@ -1,15 +1,13 @@
 -- The steps of a plan that avoids something touch none of it: not what is taken, since the plan sees that as used; and not
 -- what is given up, since that holds a LEB, and the listed ones begin blank.
-use Rattle.ubi_change.proofs.Prelude.{◌≡◌, ℕ, zero, suc, ◌<◌, ◌≤◌, Bool, true, false, List, [], ◌∷◌, length, take, get_or, refl, ap, sym, ◌∙◌, subst, arith, ◌&&◌, ◌||◌, IfSome, None, Option, Some, option_map, slice_get, option_map_or, IsGeometry, Sizes, half_pad, reserved_within, Image, block, ec, eraseblocks, in_image, Leb, Wins, layout, Records, IsAttached, StateIs, Whole, records_of, BlockState, Volume, found_wins, TouchesOnly, given_up, needs, plan_of, taken, first_cause, rename_plan, MayBeNamed, ReadBlank, MayTouch, Avoided, Avoids, avoiding, is_avoided, is_blank_one, is_listed, state_avoiding, target, ec_at, is_unused, stays, takeable, Step}
+use Rattle.ubi_change.proofs.Prelude.{◌≡◌, ℕ, zero, suc, ◌<◌, ◌≤◌, Bool, true, false, List, [], ◌∷◌, length, take, get_or, refl, ap, sym, ◌∙◌, subst, arith, ◌&&◌, ◌||◌, IfSome, None, Option, Some, option_map, slice_get, option_map_or, IsGeometry, Sizes, Image, block, ec, eraseblocks, in_image, Leb, Wins, layout, Records, IsAttached, StateIs, Whole, records_of, BlockState, Volume, found_wins, TouchesOnly, given_up, needs, plan_of, taken, first_cause, rename_plan, MayBeNamed, ReadBlank, MayTouch, Avoided, Avoids, avoiding, is_avoided, is_blank_one, is_listed, state_avoiding, target, ec_at, is_unused, stays, takeable, Step}
 use Rattle.std.specs.Prelude.{not}
 use Rattle.std.specs.FinMap as finite
 use Rattle.ubi_media.specs.declared.ec.EcRead.TheVariants as ec_read
 use Rattle.ubi_volume.specs.declared.attached.BlockState.TheVariants as state
-use Rattle.ubi_change.proofs.Attached.{no_cause}
-use Rattle.ubi_change.proofs.AttachedImage.{mean_few, seq_narrow}
+use Rattle.ubi_change.proofs.Attached.{Changing, no_cause}
 use Rattle.ubi_change.proofs.BlankListed.{blank_one}
 use Rattle.ubi_change.proofs.Choosing.{Each, MayBeTaken, each_map, may_be_taken, takeable_each}
-use Rattle.ubi_change.proofs.PlanSurvives.{sound}
 use Rattle.ubi_change.proofs.Premises.{left_of}
 use Rattle.ubi_change.proofs.RenameAttached as rename
 use Rattle.ubi_change.proofs.RenameAttached.{Renaming}
@@ -109,9 +107,19 @@ module _ (image : Image) (av : Avoided) (from : Whole) (att : IsAttached image f
       → first_cause s bs a id lnum new ≡ None → Avoids s bs av (plan_of s bs a v.entry id lnum new)
   plan_avoids g id lnum new v there allowed =
       let seen : IsShown image a = shown_avoiding image av from att in
-      let r = sound image a seen id v there in
-      let enough = (no_cause image g a seen (mean_few image a seen) (seq_narrow image a seen) id lnum new v there allowed
-      (half_pad s v.entry r g) (reserved_within s v.entry r)).enough in
+      let change : Changing = record {
+        image = image;
+        g = g;
+        a = a;
+        att = seen;
+        id = id;
+        lnum = lnum;
+        new = new;
+        v = v;
+        there = there;
+        allowed = allowed;
+      } in
+      let enough = (no_cause change).enough in
       avoids_each s bs av (given_up s bs a id lnum ∷ take (needs s bs a id lnum) (takeable s bs a.states))
       (plan_of s bs a v.entry id lnum new)
       (plan_touches s bs a v.entry id lnum new enough)

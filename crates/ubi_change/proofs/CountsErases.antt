@@ -1,5 +1,5 @@
 -- Each eraseblock that a plan erases has at the end a Valid erase-counter header that counts each erase.
-use Rattle.ubi_change.proofs.Prelude.{◌≡◌, ◌≢◌, ℕ, zero, suc, ◌+◌, ◌-◌, ◌*◌, ◌/◌, ◌%◌, ◌^◌, ◌<◌, ◌≤◌, inl, inr, Bool, true, false, cond, List, [], ◌∷◌, ◌++◌, append_assoc, append-nil, length, map, set, refl, ap, sym, ◌∙◌, subst, arith, length-set, get_or-set_same, None, Option, Some, ◌==◌, count_by, fold, enumerate_from, option_map_or, first_chunks, nat_tests, set-set, take_all, fold-append, sum_by-append, same_Some, cases_eq, ec_bytes, ec_reading, filled, IsGeometry, Sizes, leb_size, data_pad, vid_bytes, EcHeader, EcRead, VidHeader, Image, block, ec, eraseblocks, in_image, valid_ec, ec-laid, laid, found_wins, Whole, Volume, CountsErases, counter_after, erases, blank_header, copy_header, next_ec, mapped_plan, mount, plan_of, prepare, program_header, program_text, ready_bytes, ready_ec, release, renew, taken, unmapped_plan, first_cause, block_after, step_done, target, ec_at, is_clean, is_sole_carrier, is_worn, stays, pages_of, Step}
+use Rattle.ubi_change.proofs.Prelude.{◌≡◌, ◌≢◌, ℕ, zero, suc, ◌+◌, ◌-◌, ◌*◌, ◌/◌, ◌%◌, ◌<◌, ◌≤◌, inl, inr, Bool, true, false, cond, List, [], ◌∷◌, ◌++◌, append_assoc, append-nil, length, map, set, refl, ap, sym, ◌∙◌, subst, arith, length-set, get_or-set_same, None, Option, Some, ◌==◌, count_by, fold, enumerate_from, option_map_or, first_chunks, nat_tests, set-set, take_all, fold-append, sum_by-append, same_Some, cases_eq, ec_bytes, ec_reading, filled, IsGeometry, Sizes, data_pad, vid_bytes, EcHeader, EcRead, VidHeader, block, ec, valid_ec, ec-laid, laid, found_wins, Whole, CountsErases, counter_after, erases, blank_header, copy_header, next_ec, mapped_plan, mount, plan_of, prepare, program_header, program_text, ready_bytes, ready_ec, release, renew, taken, unmapped_plan, block_after, step_done, target, ec_at, is_clean, is_sole_carrier, is_worn, stays, pages_of, Step}
 use Rattle.std.specs.FinMap as finite
 use Rattle.ubi_media.specs.declared.ec.EcRead.TheVariants as ec_read
 use Rattle.ubi_change.specs.declared.step.Step.TheVariants as step
@@ -13,7 +13,8 @@ use Rattle.ubi_change.proofs.Replaced.{block_other, block_same}
 use Rattle.ubi_change.proofs.Runs.{AllOn, after-all, done, done-on, on-append, run}
 use Rattle.ubi_change.proofs.Torn.{pages-all}
 use Rattle.ubi_change.proofs.Written.{ec-bare}
-use Rattle.ubi_change.proofs.Shown.{IsShown}
+use Rattle.ubi_change.proofs.Attached.{Changing}
+use Rattle.ubi_change.proofs.Runs.{if_renewed}
 
 -- how often lists of steps erase an eraseblock
 other_test : (q p : ℕ) → p ≢ q → (q == p) ≡ false
@@ -123,11 +124,7 @@ module _ (s : Sizes) (g : IsGeometry s) (bs : List (List ℕ)) (a : Whole) where
           ∙ ap (ec_after b) (sym (renew_once s b (next_ec a.scan (ec_at s bs b))))
 
   pub prepare_on : (b : ℕ) → AllOn s b (prepare s bs a b)
-  prepare_on b = by_test (is_clean s bs a.states b)
-    where
-      by_test : (t : Bool) → AllOn s b (cond t [] (renew s b (next_ec a.scan (ec_at s bs b))))
-      by_test true = tt
-      by_test false = (refl, (refl, tt))
+  prepare_on b = if_renewed (AllOn s b) (is_clean s bs a.states b) tt (refl, (refl, tt))
 
   pub next_due : (p : ℕ) → ec_read.Valid (next_ec a.scan (ec_at s bs p)) ≡ ec_after p 1
   next_due p = ap ec_read.Valid
@@ -259,23 +256,14 @@ module _ (s : Sizes) (g : IsGeometry s) (bs : List (List ℕ)) (a : Whole) where
           counted_at front (mount s bs a b h ++ text) b (part new) all inside written_on written_leaves
           (ec_part new room ∙ ready_due b e is ∙ ap (ec_after b) (sym written_erases))
 
-module _ (image : Image) (g : IsGeometry image.sizes) (a : Whole) (att : IsShown image a)
-    (few : a.scan.mean_ec < 2 ^ 31) (narrow : a.scan.image_seq < 2 ^ 32)
-    (id lnum : ℕ) (new : List ℕ) (v : Volume) (there : finite.get a.meaning.volumes id ≡ Some v)
-    (allowed : in_image first_cause image a id lnum new ≡ None)
-    (half : data_pad image.sizes v.entry < leb_size image.sizes / 2) (bounded : v.entry.reserved < 2 ^ 31) where
+module _ (change : Changing) where
+  open change use {image, g, a, att, id, lnum, new, v}
+
   abbrev s : Sizes
-  s = image.sizes
+  s = attached.s change
 
   abbrev bs : List (List ℕ)
-  bs = eraseblocks image
-
-  room : s.data_offset + length new ≤ s.peb_size
-  room = let l = attached.fits_leb image g a att few narrow id lnum new v there allowed half bounded in let k = g.leb in
-      omega arith
-
-  paged : length new % s.page ≡ 0
-  paged = (attached.no_cause image g a att few narrow id lnum new v there allowed half bounded).is_new.paged
+  bs = attached.bs change
 
   start : AllCounted s g bs a []
   start p = refl
@@ -283,29 +271,29 @@ module _ (image : Image) (g : IsGeometry image.sizes) (a : Whole) (att : IsShown
   mapped_counts : (old : ℕ) → finite.get a.scan.winners (id, lnum) ≡ Some old
       → AllCounted s g bs a (mapped_plan s bs a v.entry id lnum new (taken s bs a 0) old)
   mapped_counts old found =
-      let made = attached.made image g a att few narrow id lnum new v there allowed half bounded old found in
-      let may = attached.may image g a att few narrow id lnum new v there allowed half bounded old found in
-      let apart = attached.old_apart image g a att few narrow id lnum new v there allowed half bounded old found in
+      let made = attached.made change old found in
+      let may = attached.may change old found in
+      let apart = attached.old_apart change old found in
       let b = taken s bs a 0 in
       let h = copy_header 0 (data_pad s v.entry) id lnum (a.scan.top_sqnum + 1) new in
       let written : List Step = mount s bs a b h ++ program_text s b new in
       let all : AllCounted s g bs a written = written_counted s g bs a [] start b may.0 refl made.0 made.1 made.2.size
-      made.2.reads made.2.ready h new paged room in
+      made.2.reads made.2.ready h new (attached.paged change) (attached.room change) in
       let on : AllOn s b written = written_on s g bs a [] start b may.0 refl made.0 made.1 made.2.size made.2.reads
-      made.2.ready h new paged room in
+      made.2.ready h new (attached.paged change) (attached.room change) in
       let never : count_by (erases old) written ≡ 0 = erases_none s b old written on apart in
       release_counted s g bs a written old (ec_at s bs old) all
-      (found_wins s bs a.scan att.scan (id, lnum) old found).member.inside (next_counter s bs a few narrow old)
+      (found_wins s bs a.scan att.scan (id, lnum) old found).member.inside (next_counter s bs a (attached.few change) (attached.narrow change) old)
       (next_due s g bs a old ∙ ap (λ n. ec_after s g bs a old (suc n)) (sym never))
 
   unmapped_counts : finite.get a.scan.winners (id, lnum) ≡ None
       → AllCounted s g bs a (unmapped_plan s bs a v.entry id lnum new (taken s bs a 0) (taken s bs a 1))
   unmapped_counts found =
-      let made0 = attached.made0 image g a att few narrow id lnum new v there allowed half bounded found in
-      let made1 = attached.made1 image g a att few narrow id lnum new v there allowed half bounded found in
-      let may0 = attached.may0 image g a att few narrow id lnum new v there allowed half bounded found in
-      let may1 = attached.may1 image g a att few narrow id lnum new v there allowed half bounded found in
-      let apart = attached.apart image g a att few narrow id lnum new v there allowed half bounded found in
+      let made0 = attached.made0 change found in
+      let made1 = attached.made1 change found in
+      let may0 = attached.may0 change found in
+      let may1 = attached.may1 change found in
+      let apart = attached.apart change found in
       let e0 = taken s bs a 0 in
       let b1 = taken s bs a 1 in
       let h0 = blank_header (data_pad s v.entry) id lnum (a.scan.top_sqnum + 1) in
@@ -321,20 +309,20 @@ module _ (image : Image) (g : IsGeometry image.sizes) (a : Whole) (att : IsShown
       let never : count_by (erases b1) mount0 ≡ 0 = erases_none s e0 b1 mount0 on0 apart in
       let ready1 = subst (λ (z : List (List ℕ)). done s z (prepare s bs a b1)
       ≡ set z b1 (filled s.peb_size (ready_bytes s bs a b1)))
-      (sym (attached.mounted_done image g a att few narrow id lnum new v there allowed half bounded found))
+      (sym (attached.mounted_done change found))
       made1.2.ready in
       let all1 : AllCounted s g bs a (mount0 ++ written) =
       written_counted s g bs a mount0 all0 b1 may1.0 never made1.0 made1.1 made1.2.size made1.2.reads ready1 h1 new
-      paged room in
+      (attached.paged change) (attached.room change) in
       let on1 : AllOn s b1 written = written_on s g bs a mount0 all0 b1 may1.0 never made1.0 made1.1 made1.2.size
-      made1.2.reads ready1 h1 new paged room in
+      made1.2.reads ready1 h1 new (attached.paged change) (attached.room change) in
       let count1 : count_by (erases e0) written ≡ 0 = erases_none s b1 e0 written on1 (λ same. apart (sym same)) in
       let count : count_by (erases e0) (prepare s bs a e0) ≡ count_by (erases e0) (mount0 ++ written) =
       (let k = erases-append e0 mount0 written in omega arith) in
       subst (AllCounted s g bs a) (append_assoc mount0 written (release s bs a e0 (ready_ec s bs a e0)))
       (release_counted s g bs a (mount0 ++ written) e0 (ready_ec s bs a e0) all1 may0.0
       (λ fresh. subst (λ (o : Option EcHeader). IsCounter (next_ec a.scan o)) (sym made0.1)
-      (counter_behind a narrow made0.0 (valid_counter s (ready_bytes s bs a e0) made0.0 made0.2.reads)
+      (counter_behind a (attached.narrow change) made0.0 (valid_counter s (ready_bytes s bs a e0) made0.0 made0.2.reads)
       (ap is_worn (sym made0.1) ∙ fresh)))
       (again_due s g bs a e0 ∙ ap (λ n. ec_after s g bs a e0 (suc n)) count))
 

@@ -1,10 +1,10 @@
 -- Once the copy is whole, a plan erases the eraseblock that is given up, unless it is worn by then or the sole carrier.
-use Rattle.ubi_change.proofs.Prelude.{◌≡◌, ℕ, zero, suc, ◌+◌, ◌/◌, ◌%◌, ◌^◌, ◌<◌, ◌≤◌, false, cond, List, [], ◌∷◌, ◌++◌, length, refl, ap, ◌∙◌, arith, length-append, None, Option, Some, slice_get, option_map_or, IsGeometry, Sizes, leb_size, data_pad, EcHeader, VidHeader, Image, eraseblocks, in_image, Whole, Volume, turn, given_up, stays_then, Erases, blank_header, copy_header, next_ec, atomic_copy, mapped_plan, mount, plan_of, prepare, program_header, program_text, ready_bytes, ready_ec, release, renew, taken, unmapped_plan, first_cause, ec_at, stays, whole_place, Step}
+use Rattle.ubi_change.proofs.Prelude.{◌≡◌, ℕ, zero, suc, ◌+◌, ◌%◌, ◌≤◌, false, cond, List, [], ◌∷◌, ◌++◌, length, refl, ap, ◌∙◌, arith, length-append, None, Option, Some, slice_get, option_map_or, Sizes, data_pad, EcHeader, VidHeader, Whole, turn, given_up, stays_then, Erases, blank_header, copy_header, next_ec, atomic_copy, mapped_plan, mount, plan_of, prepare, program_header, program_text, ready_bytes, ready_ec, release, renew, taken, unmapped_plan, ec_at, stays, whole_place, Step}
 use Rattle.std.specs.FinMap as finite
 use Rattle.ubi_change.proofs.Attached as attached
 use Rattle.ubi_change.proofs.Copied.{length-program_text}
 use Rattle.ubi_change.proofs.Torn.{whole_place-is}
-use Rattle.ubi_change.proofs.Shown.{IsShown}
+use Rattle.ubi_change.proofs.Attached.{Changing}
 
 -- the steps of a list that stands behind another
 pub step_behind : (xs ys : List Step) (j k : ℕ) → j ≡ length xs + k → slice_get (xs ++ ys) j ≡ slice_get ys k
@@ -39,30 +39,25 @@ module _ (s : Sizes) (bs : List (List ℕ)) (a : Whole) where
         let w = (whole_place-is s new paged).most in
         omega arith
 
-module _ (image : Image) (g : IsGeometry image.sizes) (a : Whole) (att : IsShown image a)
-    (few : a.scan.mean_ec < 2 ^ 31) (narrow : a.scan.image_seq < 2 ^ 32)
-    (id lnum : ℕ) (new : List ℕ) (v : Volume) (there : finite.get a.meaning.volumes id ≡ Some v)
-    (allowed : in_image first_cause image a id lnum new ≡ None)
-    (half : data_pad image.sizes v.entry < leb_size image.sizes / 2) (bounded : v.entry.reserved < 2 ^ 31) where
+module _ (change : Changing) where
+  open change use {image, g, a, att, id, lnum, new, v}
+
   abbrev s : Sizes
-  s = image.sizes
+  s = attached.s change
 
   abbrev bs : List (List ℕ)
-  bs = eraseblocks image
+  bs = attached.bs change
 
   abbrev Gives : List Step → ℕ → Type 0
   Gives steps p = (k : ℕ) × (turn s steps new ≤ k) × Erases steps k p
-
-  paged : length new % s.page ≡ 0
-  paged = (attached.no_cause image g a att few narrow id lnum new v there allowed half bounded).is_new.paged
 
   mapped_gives : (old : ℕ) → finite.get a.scan.winners (id, lnum) ≡ Some old → stays s bs old (ec_at s bs old) ≡ false
       → Gives (mapped_plan s bs a v.entry id lnum new (taken s bs a 0) old) old
   mapped_gives old found fresh =
       let b = taken s bs a 0 in
       let h = copy_header 0 (data_pad s v.entry) id lnum (a.scan.top_sqnum + 1) new in
-      let at = attached.mapped_turn image g a att few narrow id lnum new v there allowed half bounded old found in
-      let by = whole_by s bs a b h new paged in (
+      let at = attached.mapped_turn change old found in
+      let by = whole_by s bs a b h new (attached.paged change) in (
         length (written s bs a b h new),
         omega arith,
         erased_behind s bs a (written s bs a b h new) old (ec_at s bs old) fresh,
@@ -76,8 +71,8 @@ module _ (image : Image) (g : IsGeometry image.sizes) (a : Whole) (att : IsShown
       let b = taken s bs a 1 in
       let h = copy_header 0 (data_pad s v.entry) id lnum (a.scan.top_sqnum + 2) new in
       let first = mount s bs a e (blank_header (data_pad s v.entry) id lnum (a.scan.top_sqnum + 1)) in
-      let at = attached.unmapped_turn image g a att few narrow id lnum new v there allowed half bounded found in
-      let by = whole_by s bs a b h new paged in
+      let at = attached.unmapped_turn change found in
+      let by = whole_by s bs a b h new (attached.paged change) in
       let place : ℕ = length (written s bs a b h new) in (
         length first + place,
         omega arith,

@@ -1,12 +1,13 @@
 -- A program of page 0 comes right behind an erase, or keeps the bytes of the erase-counter header as they stand.
-use Rattle.ubi_change.proofs.Prelude.{◌≡◌, ℕ, zero, suc, ◌+◌, ◌-◌, ◌*◌, ◌/◌, ◌%◌, ◌^◌, ◌<◌, ◌≤◌, ◌⊎◌, inl, inr, Bool, true, false, cond, List, [], ◌∷◌, ◌++◌, append_assoc, length, map, set, take, refl, ap, sym, ◌∙◌, subst, arith, get_or-set_same, None, Option, Some, nat_lt, slice_get, enumerate_from, option_map_or, first_chunks, div-add-mod, mod-lt, nat_tests, take_at, same_Some, blank, filled, IsGeometry, Sizes, leb_size, data_pad, vid_bytes, EcHeader, VidHeader, Image, block, ec_area, eraseblocks, in_image, filled-by, filled-is, Whole, Volume, ComesFirst, Programs, blank_header, copy_header, next_ec, vid_page, atomic_copy, mapped_plan, mount, plan_of, prepare, program_header, program_text, ready_bytes, ready_ec, release, renew, taken, unmapped_plan, first_cause, after, step_done, ec_at, is_clean, stays, pages_of, Step}
+use Rattle.ubi_change.proofs.Prelude.{◌≡◌, ℕ, zero, suc, ◌+◌, ◌-◌, ◌*◌, ◌/◌, ◌%◌, ◌<◌, ◌≤◌, ◌⊎◌, inl, inr, true, cond, List, [], ◌∷◌, ◌++◌, append_assoc, length, map, set, take, refl, ap, sym, ◌∙◌, subst, arith, get_or-set_same, None, Option, Some, nat_lt, slice_get, enumerate_from, option_map_or, first_chunks, div-add-mod, mod-lt, nat_tests, take_at, same_Some, blank, filled, IsGeometry, Sizes, data_pad, vid_bytes, EcHeader, VidHeader, block, ec_area, filled-by, filled-is, Whole, ComesFirst, Programs, blank_header, copy_header, vid_page, atomic_copy, mapped_plan, mount, plan_of, prepare, program_header, program_text, ready_bytes, ready_ec, release, renew, taken, unmapped_plan, after, step_done, ec_at, is_clean, stays, pages_of, Step}
 use Rattle.std.specs.FinMap as finite
 use Rattle.ubi_change.specs.declared.step.Step.TheVariants as step
 use Rattle.ubi_change.proofs.Attached as attached
 use Rattle.ubi_change.proofs.PagePlaces.{vid_before}
 use Rattle.ubi_change.proofs.PlanFits.{length-done}
 use Rattle.ubi_change.proofs.Runs.{done}
-use Rattle.ubi_change.proofs.Shown.{IsShown}
+use Rattle.ubi_change.proofs.Attached.{Changing}
+use Rattle.ubi_change.proofs.Runs.{if_renewed}
 
 no_program : (p q a : ℕ) (xs : List ℕ) → step.Erase q ≡ step.Program p a xs → ⊥
 no_program p q a xs e = cc
@@ -128,19 +129,11 @@ module _ (s : Sizes) (g : IsGeometry s) where
 
   module _ (bs : List (List ℕ)) (a : Whole) where
     prepare_keeps : (last : Option ℕ) (cs : List (List ℕ)) (p : ℕ) → KeepAll s last cs (prepare s bs a p)
-    prepare_keeps last cs p = by_test (is_clean s bs a.states p)
-      where
-        by_test : (b : Bool) → KeepAll s last cs (cond b [] (renew s p (next_ec a.scan (ec_at s bs p))))
-        by_test true = tt
-        by_test false = renew_keeps s last cs p (next_ec a.scan (ec_at s bs p))
+    prepare_keeps last cs p = if_renewed (KeepAll s last cs) (is_clean s bs a.states p) tt (renew_keeps s last cs p _)
 
     release_keeps : (last : Option ℕ) (cs : List (List ℕ)) (p : ℕ) (now : Option EcHeader)
         → KeepAll s last cs (release s bs a p now)
-    release_keeps last cs p now = by_test (stays s bs p now)
-      where
-        by_test : (b : Bool) → KeepAll s last cs (cond b [] (renew s p (next_ec a.scan now)))
-        by_test true = tt
-        by_test false = renew_keeps s last cs p (next_ec a.scan now)
+    release_keeps last cs p now = if_renewed (KeepAll s last cs) (stays s bs p now) tt (renew_keeps s last cs p _)
 
     -- a header on an eraseblock that was made ready, and a text behind it
     module _ (last : Option ℕ) (cs : List (List ℕ)) (b : ℕ) (inside : b < length cs)
@@ -170,38 +163,36 @@ module _ (s : Sizes) (g : IsGeometry s) where
           (first_chunks s.page (pages_of s new) new) (omega arith)))
           (λ l. release_keeps l (done s cs (mount s bs a b h ++ program_text s b new)) old now)
 
-module _ (image : Image) (g : IsGeometry image.sizes) (a : Whole) (att : IsShown image a)
-    (few : a.scan.mean_ec < 2 ^ 31) (narrow : a.scan.image_seq < 2 ^ 32)
-    (id lnum : ℕ) (new : List ℕ) (v : Volume) (there : finite.get a.meaning.volumes id ≡ Some v)
-    (allowed : in_image first_cause image a id lnum new ≡ None)
-    (half : data_pad image.sizes v.entry < leb_size image.sizes / 2) (bounded : v.entry.reserved < 2 ^ 31) where
+module _ (change : Changing) where
+  open change use {image, g, a, att, id, lnum, new, v}
+
   abbrev s : Sizes
-  s = image.sizes
+  s = attached.s change
 
   abbrev bs : List (List ℕ)
-  bs = eraseblocks image
+  bs = attached.bs change
 
   mapped_keeps : (old : ℕ) → finite.get a.scan.winners (id, lnum) ≡ Some old
       → KeepAll s None bs (mapped_plan s bs a v.entry id lnum new (taken s bs a 0) old)
   mapped_keeps old found =
-      let made = attached.made image g a att few narrow id lnum new v there allowed half bounded old found in
-      let may = attached.may image g a att few narrow id lnum new v there allowed half bounded old found in
+      let made = attached.made change old found in
+      let may = attached.may change old found in
       copy_keeps s g bs a None bs (taken s bs a 0) may.0 made.2.size
       (copy_header 0 (data_pad s v.entry) id lnum (a.scan.top_sqnum + 1) new) made.2.ready new old (ec_at s bs old)
 
   unmapped_keeps : finite.get a.scan.winners (id, lnum) ≡ None
       → KeepAll s None bs (unmapped_plan s bs a v.entry id lnum new (taken s bs a 0) (taken s bs a 1))
   unmapped_keeps found =
-      let made0 = attached.made0 image g a att few narrow id lnum new v there allowed half bounded found in
-      let made1 = attached.made1 image g a att few narrow id lnum new v there allowed half bounded found in
-      let may0 = attached.may0 image g a att few narrow id lnum new v there allowed half bounded found in
-      let may1 = attached.may1 image g a att few narrow id lnum new v there allowed half bounded found in
+      let made0 = attached.made0 change found in
+      let made1 = attached.made1 change found in
+      let may0 = attached.may0 change found in
+      let may1 = attached.may1 change found in
       let e0 = taken s bs a 0 in
       let b1 = taken s bs a 1 in
       let h0 = blank_header (data_pad s v.entry) id lnum (a.scan.top_sqnum + 1) in
       let h1 = copy_header 0 (data_pad s v.entry) id lnum (a.scan.top_sqnum + 2) new in
       let rest : List Step = atomic_copy s bs a b1 h1 new e0 (ready_ec s bs a e0) in
-      let left = attached.mounted_done image g a att few narrow id lnum new v there allowed half bounded found in
+      let left = attached.mounted_done change found in
       let ready1 = subst (λ (z : List (List ℕ)). done s z (prepare s bs a b1)
       ≡ set z b1 (filled s.peb_size (ready_bytes s bs a b1))) (sym left) made1.2.ready in
       let n = length-done s bs (mount s bs a e0 h0) in

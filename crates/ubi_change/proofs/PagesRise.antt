@@ -6,6 +6,7 @@ use Rattle.std.specs.FinMap as finite
 use Rattle.ubi_change.specs.declared.step.Step.TheVariants as step
 use Rattle.ubi_change.proofs.Choosing.{two_apart}
 use Rattle.ubi_change.proofs.PagePlaces.{vid_before}
+use Rattle.ubi_change.proofs.Runs.{if_renewed}
 
 -- The steps are in order for p, where n says what was programmed since its last erase: 0 nothing, 1 page 0 once, and
 -- above that no page before n - 1 may come.
@@ -198,11 +199,7 @@ pages_order p q n i (e ∷ es) rest low some any = (
 
 module _ (s : Sizes) (g : IsGeometry s) (bs : List (List ℕ)) (a : Whole) where
   release_order : (p old n : ℕ) (now : Option EcHeader) → InOrder p n (release s bs a old now)
-  release_order p old n now = by_test (stays s bs old now)
-    where
-      by_test : (b : Bool) → InOrder p n (cond b [] (renew s old (next_ec a.scan now)))
-      by_test true = tt
-      by_test false = renew_order s p old n (next_ec a.scan now) [] (λ _. tt) (λ _. tt)
+  release_order p old n now = if_renewed (InOrder p n) (stays s bs old now) tt (renew_order s p old n (next_ec a.scan now) [] (λ _. tt) (λ _. tt))
 
   prepare_order : (p b n : ℕ) (rest : List Step) → (b ≡ p → n ≤ 1) → ((m : ℕ) → b ≡ p → m ≤ 1 → InOrder p m rest)
       → (b ≢ p → InOrder p n rest) → InOrder p n (prepare s bs a b ++ rest)

@@ -1,12 +1,13 @@
 -- Each step of a plan fits what those before it leave.
-use Rattle.ubi_change.proofs.Prelude.{◌≡◌, ℕ, ◌+◌, ◌/◌, ◌%◌, ◌^◌, ◌<◌, ◌≤◌, Bool, true, false, cond, List, [], ◌∷◌, ◌++◌, length, set, refl, ap, sym, ◌∙◌, subst, arith, length-set, get_or-set_same, None, Option, Some, option_map_or, fold-append, AreBytes, filled, IsGeometry, Sizes, leb_size, data_pad, vid_bytes, EcHeader, VidHeader, Image, block, eraseblocks, in_image, laid, found_wins, Whole, Volume, AllFit, blank_header, copy_header, next_ec, atomic_copy, mapped_plan, plan_of, prepare, program_header, program_text, ready_bytes, ready_ec, release, renew, taken, unmapped_plan, first_cause, step_done, ec_at, is_clean, stays, Step}
+use Rattle.ubi_change.proofs.Prelude.{◌≡◌, ℕ, ◌+◌, ◌%◌, ◌<◌, ◌≤◌, cond, List, [], ◌∷◌, ◌++◌, length, set, refl, ap, sym, ◌∙◌, subst, arith, length-set, get_or-set_same, None, Option, Some, option_map_or, fold-append, AreBytes, filled, IsGeometry, Sizes, data_pad, vid_bytes, EcHeader, VidHeader, block, eraseblocks, laid, found_wins, Whole, AllFit, blank_header, copy_header, atomic_copy, mapped_plan, plan_of, prepare, program_header, program_text, ready_bytes, ready_ec, release, renew, taken, unmapped_plan, step_done, ec_at, is_clean, stays, Step}
 use Rattle.std.specs.FinMap as finite
 use Rattle.ubi_change.proofs.Attached as attached
 use Rattle.ubi_change.proofs.CopyFits.{bytes-ec, header_done, header_fits, text_fits}
 use Rattle.ubi_change.proofs.Fits.{FitAll, all_fit, fit-append, renew_fits}
 use Rattle.ubi_change.proofs.Runs.{done}
 use Rattle.ubi_change.proofs.Torn.{pages-all}
-use Rattle.ubi_change.proofs.Shown.{IsShown}
+use Rattle.ubi_change.proofs.Attached.{Changing}
+use Rattle.ubi_change.proofs.Runs.{if_renewed}
 
 module _ (s : Sizes) where
   -- steps change no number of eraseblocks
@@ -17,20 +18,13 @@ module _ (s : Sizes) where
 module _ (s : Sizes) (g : IsGeometry s) (bs : List (List ℕ)) (a : Whole) where
   -- an eraseblock is made ready, or given up, whatever stands in the others
   prepare_fits : (cs : List (List ℕ)) (p : ℕ) → p < length cs → FitAll s cs (prepare s bs a p)
-  prepare_fits cs p inside = by_test (is_clean s bs a.states p)
-    where
-      by_test : (b : Bool) → FitAll s cs (cond b [] (renew s p (next_ec a.scan (ec_at s bs p))))
-      by_test true = tt
-      by_test false = renew_fits s g (next_ec a.scan (ec_at s bs p))
-          (bytes-ec s (next_ec a.scan (ec_at s bs p))) cs p inside
+  prepare_fits cs p inside = if_renewed (FitAll s cs) (is_clean s bs a.states p) tt
+      (renew_fits s g _ (bytes-ec s _) cs p inside)
 
   release_fits : (cs : List (List ℕ)) (p : ℕ) (now : Option EcHeader) → p < length cs
       → FitAll s cs (release s bs a p now)
-  release_fits cs p now inside = by_test (stays s bs p now)
-    where
-      by_test : (b : Bool) → FitAll s cs (cond b [] (renew s p (next_ec a.scan now)))
-      by_test true = tt
-      by_test false = renew_fits s g (next_ec a.scan now) (bytes-ec s (next_ec a.scan now)) cs p inside
+  release_fits cs p now inside = if_renewed (FitAll s cs) (stays s bs p now) tt
+      (renew_fits s g _ (bytes-ec s _) cs p inside)
 
   -- a header on an eraseblock that was made ready
   module _ (cs : List (List ℕ)) (b : ℕ) (inside : b < length cs) (bytes : List ℕ) (size : length bytes ≡ 64)
@@ -69,46 +63,36 @@ module _ (s : Sizes) (g : IsGeometry s) (bs : List (List ℕ)) (a : Whole) where
           mounted))
           (release_fits (done s cs (mount ++ program_text s b new)) old now (omega (arith, m)))
 
-module _ (image : Image) (g : IsGeometry image.sizes) (a : Whole) (att : IsShown image a)
-    (few : a.scan.mean_ec < 2 ^ 31) (narrow : a.scan.image_seq < 2 ^ 32)
-    (id lnum : ℕ) (new : List ℕ) (v : Volume) (there : finite.get a.meaning.volumes id ≡ Some v)
-    (allowed : in_image first_cause image a id lnum new ≡ None)
-    (half : data_pad image.sizes v.entry < leb_size image.sizes / 2) (bounded : v.entry.reserved < 2 ^ 31)
-    (are : AreBytes new) where
+module _ (change : Changing) (are : AreBytes change.new) where
+  open change use {image, g, a, att, id, lnum, new, v}
+
   abbrev s : Sizes
-  s = image.sizes
+  s = attached.s change
 
   abbrev bs : List (List ℕ)
-  bs = eraseblocks image
-
-  room : s.data_offset + length new ≤ s.peb_size
-  room = let l = attached.fits_leb image g a att few narrow id lnum new v there allowed half bounded in let k = g.leb in
-      omega arith
-
-  paged : length new % s.page ≡ 0
-  paged = (attached.no_cause image g a att few narrow id lnum new v there allowed half bounded).is_new.paged
+  bs = attached.bs change
 
   mapped_fits : (old : ℕ) → finite.get a.scan.winners (id, lnum) ≡ Some old
       → FitAll s bs (mapped_plan s bs a v.entry id lnum new (taken s bs a 0) old)
   mapped_fits old found =
-      let made = attached.made image g a att few narrow id lnum new v there allowed half bounded old found in
-      let may = attached.may image g a att few narrow id lnum new v there allowed half bounded old found in
+      let made = attached.made change old found in
+      let may = attached.may change old found in
       copy_fits s g bs a bs (taken s bs a 0) may.0 (ready_bytes s bs a (taken s bs a 0)) made.2.size
       (copy_header 0 (data_pad s v.entry) id lnum (a.scan.top_sqnum + 1) new) (omega arith)
-      made.2.ready new paged room are old (ec_at s bs old)
+      made.2.ready new (attached.paged change) (attached.room change) are old (ec_at s bs old)
       (found_wins s bs a.scan att.scan (id, lnum) old found).member.inside
 
   unmapped_fits : finite.get a.scan.winners (id, lnum) ≡ None
       → FitAll s bs (unmapped_plan s bs a v.entry id lnum new (taken s bs a 0) (taken s bs a 1))
   unmapped_fits found =
-      let made0 = attached.made0 image g a att few narrow id lnum new v there allowed half bounded found in
-      let made1 = attached.made1 image g a att few narrow id lnum new v there allowed half bounded found in
-      let may0 = attached.may0 image g a att few narrow id lnum new v there allowed half bounded found in
-      let may1 = attached.may1 image g a att few narrow id lnum new v there allowed half bounded found in
+      let made0 = attached.made0 change found in
+      let made1 = attached.made1 change found in
+      let may0 = attached.may0 change found in
+      let may1 = attached.may1 change found in
       let e0 = taken s bs a 0 in
       let b1 = taken s bs a 1 in
       let header0 = blank_header (data_pad s v.entry) id lnum (a.scan.top_sqnum + 1) in
-      let cs = attached.cs image g a att few narrow id lnum new v there allowed half bounded found in
+      let cs = attached.cs change found in
       let mount0 = prepare s bs a e0 ++ program_header s e0 (ready_bytes s bs a e0) header0 ∷ [] in
       let first : FitAll s bs mount0 = mount_fits s g bs a bs e0 may0.0 (ready_bytes s bs a e0) made0.2.size header0
       (omega arith) made0.2.ready in
@@ -117,12 +101,12 @@ module _ (image : Image) (g : IsGeometry image.sizes) (a : Whole) (att : IsShown
       let b1_inside : b1 < length bs = may1.0 in
       let second = copy_fits s g bs a cs b1 (omega arith) (ready_bytes s bs a b1) made1.2.size
       (copy_header 0 (data_pad s v.entry) id lnum (a.scan.top_sqnum + 2) new) (omega arith)
-      made1.2.ready new paged room are e0 (ready_ec s bs a e0) (omega arith) in
+      made1.2.ready new (attached.paged change) (attached.room change) are e0 (ready_ec s bs a e0) (omega arith) in
       let rest : List Step = atomic_copy s bs a b1
       (copy_header 0 (data_pad s v.entry) id lnum (a.scan.top_sqnum + 2) new) new e0 (ready_ec s bs a e0) in
       fit-append s bs mount0 rest first
       (subst (λ (z : List (List ℕ)). FitAll s z rest)
-      (sym (attached.mounted_done image g a att few narrow id lnum new v there allowed half bounded found)) second)
+      (sym (attached.mounted_done change found)) second)
 
   pub plan_fits : AllFit s bs (plan_of s bs a v.entry id lnum new)
   plan_fits = all_fit s bs (plan_of s bs a v.entry id lnum new) (by_winner (finite.get a.scan.winners (id, lnum)) refl)

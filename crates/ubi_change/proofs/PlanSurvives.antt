@@ -1,34 +1,16 @@
 -- The law: the plan of an attached image, against which no cause stands, survives every cut.
-use Rattle.ubi_change.proofs.Prelude.{◌≡◌, ◌≢◌, ◌*◌, ◌/◌, ◌<◌, ◌⊎◌, ◌∷◌, [], List, ap, arith, get_or, get_or-set_other, get_or-set_same, inl, inr, length, length-set, refl, subst, suc, sym, take, true, zero, ◌∙◌, ℕ, IfSome, None, Option, Some, concat, first_chunks, div-mul-add, eqb-true, ltb-true, get, IsGeometry, Sizes, rec_fault, half_pad, reserved_within, below_same_or_above, Image, IsWhole, block, eraseblocks, in_image, first_chunks-concat, length-concat, length-first_chunks, length-blank, AcceptsBlocks, Whole, IsVolume, Volume, SurvivesCuts, changed, turn, AllFit, fits, only_clears, page_of, PlanSurvives, left, plan_of, first_cause, after, block_after, step_done, target, Step}
+use Rattle.ubi_change.proofs.Prelude.{◌≡◌, ◌≢◌, ◌*◌, ◌/◌, ◌<◌, ◌⊎◌, ◌∷◌, [], List, ap, arith, get_or, get_or-set_other, get_or-set_same, inl, inr, length, length-set, refl, subst, suc, sym, take, true, zero, ◌∙◌, ℕ, concat, first_chunks, div-mul-add, eqb-true, ltb-true, get, IsGeometry, Sizes, below_same_or_above, Image, IsWhole, block, eraseblocks, in_image, first_chunks-concat, length-concat, length-first_chunks, length-blank, AcceptsBlocks, Whole, changed, turn, AllFit, fits, only_clears, page_of, PlanSurvives, left, plan_of, after, block_after, step_done, target, Step}
 use Rattle.std.proofs.Common.{◌==◌, ◌&&◌, nat_lt}
 use Rattle.std.specs.Prelude.{if◌then◌else◌}
 use Rattle.std.proofs.Math.Nat as nat
 use Rattle.ubi_change.specs.declared.step.Step.TheVariants as step
 use Rattle.ubi_change.proofs.Attached.{survives_all}
-use Rattle.ubi_change.proofs.AttachedImage.{mean_few, seq_narrow, whole}
+use Rattle.ubi_change.proofs.AttachedImage.{whole}
 use Rattle.ubi_change.proofs.PlanFits.{length-done, plan_fits}
 use Rattle.ubi_change.proofs.Premises.{left_of, right_of}
 use Rattle.ubi_change.proofs.Stepped.{length-written}
 use Rattle.ubi_change.proofs.Shown.{IsShown, shown}
-
-module _ (image : Image) (a : Whole) (att : IsShown image a) where
-  -- the record of a volume that is meant breaks no rule
-  pub sound : (id : ℕ) (v : Volume) → get a.meaning.volumes id ≡ Some v → rec_fault image.sizes v.entry ≡ None
-  sound id v there =
-      let means = att.accepted.accepted.means in
-      let is : IsVolume a.meaning.sizes id v = subst (λ (o : Option Volume). IfSome o (IsVolume a.meaning.sizes id))
-      there (means.meaning.each id) in
-      subst (λ (z : Sizes). rec_fault z v.entry ≡ None) means.sizes is.sound
-
--- the eraseblocks that the plan of an attached image leaves, cut after any step
-pub plan_survives : (image : Image) (a : Whole) (id lnum : ℕ) (new : List ℕ) (v : Volume) → IsGeometry image.sizes
-    → IsShown image a → get a.meaning.volumes id ≡ Some v → in_image first_cause image a id lnum new ≡ None
-    → in_image SurvivesCuts image a.meaning id lnum new (in_image plan_of image a v.entry id lnum new)
-plan_survives image a id lnum new v g att there allowed =
-    let narrow = seq_narrow image a att in
-    let r = sound image a att id v there in
-    survives_all image g a att (mean_few image a att) narrow id lnum new v there allowed
-    (half_pad image.sizes v.entry r g) (reserved_within image.sizes v.entry r)
+use Rattle.ubi_change.proofs.Attached.{Changing}
 
 -- ---- the same, of bytes
 
@@ -124,14 +106,23 @@ module _ (image : Image) (g : IsGeometry image.sizes) (a : Whole) (att : IsShown
 pub plan_survives_law : PlanSurvives
 plan_survives_law image a id lnum new v g of_image there allowed =
     let att = shown image a of_image in
+    let change : Changing = record {
+      image = image;
+      g = g;
+      a = a;
+      att = att;
+      id = id;
+      lnum = lnum;
+      new = new;
+      v = v;
+      there = there;
+      allowed = allowed;
+    } in
     let steps = in_image plan_of image a v.entry id lnum new in
-    let cuts = plan_survives image a id lnum new v g att there allowed in
-    let r = sound image a att id v there in (
+    let cuts = survives_all change in (
       cuts,
       λ bytes.
-          let fit : in_image AllFit image steps =
-          plan_fits image g a att (mean_few image a att) (seq_narrow image a att) id lnum new v there allowed
-          (half_pad image.sizes v.entry r g) (reserved_within image.sizes v.entry r) bytes in
+          let fit : in_image AllFit image steps = plan_fits change bytes in
           λ k few. record {
             whole = left_whole image g a att steps fit k;
             accepted = subst (λ bs. AcceptsBlocks image.sizes bs (if nat_lt k (turn image.sizes steps new) then a.meaning

@@ -5,6 +5,7 @@ use Rattle.ubi_change.specs.declared.sites.Sites.TheVariants as on
 use Rattle.ubi_change.specs.declared.step.Step.TheVariants as step
 use Rattle.ubi_change.proofs.CopyFits.{length-vid_page, page_inside}
 use Rattle.ubi_change.proofs.PagePlaces.{data_pages, vid_page_within}
+use Rattle.ubi_change.proofs.Runs.{if_renewed}
 
 module _ (s : Sizes) (n : ℕ) where
   -- each of these steps works within one of n eraseblocks
@@ -76,11 +77,7 @@ module _ (s : Sizes) (n : ℕ) where
               (header_within t.pnum (ec_bytes s (next_ec scan t.ec)) h fits.inside refl small)
 
       release_within : (t : Site) (now : Option EcHeader) → FitsIn n t → EachWithin (release_on s scan t now)
-      release_within t now fits = by_test (stays_on scan t now)
-        where
-          by_test : (b : Bool) → EachWithin (cond b [] (renew s t.pnum (next_ec scan now)))
-          by_test true = tt
-          by_test false = renew_within t.pnum (next_ec scan now) fits.inside
+      release_within t now fits = if_renewed EachWithin (stays_on scan t now) tt (renew_within t.pnum (next_ec scan now) fits.inside)
 
       copy_within : (b : Site) (h : VidHeader) (new : List ℕ) (old : Site) (now : Option EcHeader) → FitsIn n b → FitsIn n old
           → h.compat < 256 → length new % s.page ≡ 0 → length new ≤ leb_size s → EachWithin (copy_on s scan b h new old now)

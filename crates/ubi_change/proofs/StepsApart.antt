@@ -1,9 +1,10 @@
 -- Steps on other eraseblocks: those of a copy and of what is given up leave the order of an eraseblock's pages.
-use Rattle.ubi_change.proofs.Prelude.{◌≡◌, ◌≢◌, ℕ, ◌+◌, ◌/◌, ◌≤◌, ◌⊎◌, inl, inr, Bool, true, false, cond, List, [], ◌∷◌, ◌++◌, refl, sym, ◌∙◌, Option, first_chunks, IsGeometry, Sizes, EcHeader, VidHeader, Whole, mount, next_ec, prepare, program_header, program_text, ready_bytes, release, renew, target, stays, pages_of, Step}
+use Rattle.ubi_change.proofs.Prelude.{◌≡◌, ◌≢◌, ℕ, ◌+◌, ◌/◌, ◌≤◌, ◌⊎◌, inl, inr, List, [], ◌∷◌, ◌++◌, refl, sym, ◌∙◌, Option, first_chunks, IsGeometry, Sizes, EcHeader, VidHeader, Whole, mount, prepare, program_header, program_text, ready_bytes, release, renew, target, stays, pages_of, Step}
 use Rattle.ubi_change.specs.declared.step.Step.TheVariants as step
 use Rattle.ubi_change.proofs.CountsErases.{pages_on, prepare_on}
 use Rattle.ubi_change.proofs.PagesRise.{InOrder}
 use Rattle.ubi_change.proofs.Runs.{AllOn, on-append}
+use Rattle.ubi_change.proofs.Runs.{if_renewed}
 
 -- no step touches p
 abbrev pub AllOff : ℕ → List Step → Type 0
@@ -50,8 +51,4 @@ module _ (s : Sizes) (g : IsGeometry s) (bs : List (List ℕ)) (a : Whole) where
       (pages_on s b (s.data_offset / s.page) (first_chunks s.page (pages_of s new) new))
 
   pub release_on : (p : ℕ) (now : Option EcHeader) → AllOn s p (release s bs a p now)
-  release_on p now = by_test (stays s bs p now)
-    where
-      by_test : (t : Bool) → AllOn s p (cond t [] (renew s p (next_ec a.scan now)))
-      by_test true = tt
-      by_test false = (refl, (refl, tt))
+  release_on p now = if_renewed (AllOn s p) (stays s bs p now) tt (refl, (refl, tt))

@@ -1,7 +1,8 @@
 -- Which eraseblocks the steps of a plan touch.
-use Rattle.ubi_change.proofs.Prelude.{◌≡◌, ℕ, zero, suc, ◌+◌, ◌/◌, ◌<◌, ◌≤◌, Bool, true, false, cond, List, [], ◌∷◌, ◌++◌, length, map, take, get_or, refl, ap, subst, arith, Contains, None, Option, Some, enumerate_from, option_map_or, first_chunks, same_Some, Sizes, EcHeader, VolumeRecord, VidHeader, Whole, TouchesOnly, given_up, touched, data_pad, blank_header, copy_header, next_ec, atomic_copy, mapped_plan, mount, needs, plan_of, prepare, program_header, program_text, ready_bytes, ready_ec, release, renew, taken, unmapped_plan, target, ec_at, is_clean, stays, takeable, pages_of, Step}
+use Rattle.ubi_change.proofs.Prelude.{◌≡◌, ℕ, zero, suc, ◌+◌, ◌/◌, ◌<◌, ◌≤◌, List, [], ◌∷◌, ◌++◌, length, map, take, get_or, refl, ap, subst, arith, Contains, None, Option, Some, enumerate_from, option_map_or, first_chunks, same_Some, Sizes, EcHeader, VolumeRecord, VidHeader, Whole, TouchesOnly, given_up, touched, data_pad, blank_header, copy_header, next_ec, atomic_copy, mapped_plan, mount, needs, plan_of, prepare, program_header, program_text, ready_bytes, ready_ec, release, renew, taken, unmapped_plan, target, ec_at, is_clean, stays, takeable, pages_of, Step}
 use Rattle.std.specs.FinMap as finite
 use Rattle.ubi_change.specs.declared.step.Step.TheVariants as step
+use Rattle.ubi_change.proofs.Runs.{if_renewed}
 
 abbrev pub TouchAll : List ℕ → List Step → Type 0
 TouchAll ps [] = Unit {0}
@@ -37,18 +38,11 @@ module _ (s : Sizes) (bs : List (List ℕ)) (a : Whole) (ps : List ℕ) where
   renew_touches p e c = (c, (c, tt))
 
   prepare_touches : (p : ℕ) → Contains ps p → TouchAll ps (prepare s bs a p)
-  prepare_touches p c = by_test (is_clean s bs a.states p)
-    where
-      by_test : (b : Bool) → TouchAll ps (cond b [] (renew s p (next_ec a.scan (ec_at s bs p))))
-      by_test true = tt
-      by_test false = renew_touches p (next_ec a.scan (ec_at s bs p)) c
+  prepare_touches p c = if_renewed (TouchAll ps) (is_clean s bs a.states p) tt
+      (renew_touches p (next_ec a.scan (ec_at s bs p)) c)
 
   release_touches : (p : ℕ) (now : Option EcHeader) → Contains ps p → TouchAll ps (release s bs a p now)
-  release_touches p now c = by_test (stays s bs p now)
-    where
-      by_test : (b : Bool) → TouchAll ps (cond b [] (renew s p (next_ec a.scan now)))
-      by_test true = tt
-      by_test false = renew_touches p (next_ec a.scan now) c
+  release_touches p now c = if_renewed (TouchAll ps) (stays s bs p now) tt (renew_touches p (next_ec a.scan now) c)
 
   pages_touch : (p n : ℕ) (es : List (List ℕ)) → Contains ps p
       → TouchAll ps (map (λ e. step.Program p e.0 e.1) (enumerate_from n es))
