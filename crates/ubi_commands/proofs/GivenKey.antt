@@ -1,7 +1,8 @@
 -- What the words of a request say: the volume that they name, what they list as bad, and what they keep.
-use Rattle.ubi_commands.proofs.Prelude.{◌≡◌, ◌∙◌, ◌&&◌, ◌||◌, Bool, List, Some, ap, ap₂, false, not, refl, subst, sym, true, true≢false, ℕ, Bor, ForSome, same_Some, find, is_some, option_and_then, option_map, slice_get, bytes_eq, without_leading_plus, Row, Text, first_of, one_of, is_block_list, Asks, AsksAsked, AsksBlank, AsksDump, AsksKey, AsksPlan, HasNumber, HasText, IsRequest, MayHaveText, command_name, gives, gives_no_geometry, HasOneVolume, Mean, finds, plans, reads_dump, Asked, Dump, Plan, Request, VolumeKey}
+use Rattle.ubi_commands.proofs.Prelude.{◌≡◌, ◌∙◌, ◌&&◌, ◌||◌, Bool, List, Some, ap, ap₂, false, not, refl, subst, sym, true, true≢false, ℕ, Bor, ForSome, same_Some, find, is_some, option_and_then, option_map, slice_get, bytes_eq, without_leading_plus, Row, Text, first_of, one_of, is_block_list, Asks, AsksAsked, AsksBlank, AsksDump, AsksKey, AsksPlan, HasNumber, HasText, IsRequest, MayHaveText, command_name, gives, gives_no_geometry, HasOneVolume, Mean, finds, plans, reads_dump, Asked, Dump, Plan, Request, VolumeKey, reading_command}
 use Rattle.std.proofs.Common.{None, Option, codes}
 use Rattle.ubi_commands.specs.declared.asked.Asked.TheVariants as way
+use Rattle.ubi_commands.specs.declared.readers.Reading.TheVariants as reading
 use Rattle.ubi_commands.specs.declared.requests.Request.TheVariants as request
 use Rattle.ubi_commands.specs.declared.volume_key.VolumeKey.TheVariants as key
 use Rattle.ubi_commands.proofs.GivenWords.{found_row, number_in_row, text_in_row}
@@ -73,6 +74,7 @@ request_names_one named r asked words is = go r asked.1 asked.2
         → is_some (first_of (codes "name") words) ≡ not (is_some (first_of (codes "id") words))
     go (request.Extract n x) at asks =
         rw (← (same (request.Extract n x) at).1) (one_volume asked.0 x.key asks.1.1)
+    go (request.Read d image reading.List) at asks = absurd (apart _ _ refl (same (request.Read d image reading.List) at).0)
     go q at asks = absurd (apart _ _ refl (same q at).0)
 
 -- what the words of a request list as bad is a list
@@ -148,49 +150,31 @@ request_means named r asked = record {
 
     lists : (q : Request) → named ≡ Some (command_name q, asked.0) → Asks asked.0 q → (name : Text) (words : List Row)
         → named ≡ Some (name, words) → reads_dump name ≡ true → ForSome (first_of (codes "bad") words) (λ list. is_block_list list ≡ true)
-    lists (request.Geometry part image) at asks name words is holds = other reads_dump (codes "geometry") refl at name words is holds
-    lists (request.Compose n new) at asks name words is holds = other reads_dump (codes "compose") refl at name words is holds
-    lists (request.Build n new) at asks name words is holds = other reads_dump (codes "build") refl at name words is holds
-    lists (request.List d image) at asks name words is holds = listed_asked (codes "list") d at asks.0 name words is
-    lists (request.Check d image) at asks name words is holds = listed_asked (codes "check") d at asks.0 name words is
-    lists (request.Show d image block) at asks name words is holds = listed_asked (codes "show") d at asks.0 name words is
+    lists (request.Read d image what) at asks name words is holds = listed_asked (reading_command what).name d at asks.0 name words is
     lists (request.Extract d extract) at asks name words is holds = listed_asked (codes "extract") d at asks.0 name words is
     lists (request.Unpack d paths) at asks name words is holds = listed_asked (codes "unpack") d at asks.0 name words is
     lists (request.Normalise d paths) at asks name words is holds = listed_asked (codes "normalise") d at asks.0 name words is
     lists (request.Same d left right) at asks name words is holds = listed_asked (codes "same") d at asks.0 name words is
     lists (request.Change d change) at asks name words is holds = listed (codes "change") d at asks.0 name words is
     lists (request.Rename d rename) at asks name words is holds = listed (codes "rename") d at asks.0 name words is
+    lists _ at asks name words is holds = other reads_dump _ refl at name words is holds
 
     sizes : (q : Request) → named ≡ Some (command_name q, asked.0) → Asks asked.0 q → (name : Text) (words : List Row)
         → named ≡ Some (name, words) → finds name ≡ true
         → ((gives words (codes "peb") && gives words (codes "page")) || gives_no_geometry words) ≡ true
-    sizes (request.Geometry part image) at asks name words is holds = other finds (codes "geometry") refl at name words is holds
-    sizes (request.Compose n new) at asks name words is holds = other finds (codes "compose") refl at name words is holds
-    sizes (request.Build n new) at asks name words is holds = other finds (codes "build") refl at name words is holds
-    sizes (request.Change d change) at asks name words is holds = other finds (codes "change") refl at name words is holds
-    sizes (request.Rename d rename) at asks name words is holds = other finds (codes "rename") refl at name words is holds
-    sizes (request.List d image) at asks name words is holds = sized (codes "list") d at asks.0 name words is
-    sizes (request.Check d image) at asks name words is holds = sized (codes "check") d at asks.0 name words is
-    sizes (request.Show d image block) at asks name words is holds = sized (codes "show") d at asks.0 name words is
+    sizes (request.Read d image what) at asks name words is holds = sized (reading_command what).name d at asks.0 name words is
     sizes (request.Extract d extract) at asks name words is holds = sized (codes "extract") d at asks.0 name words is
     sizes (request.Unpack d paths) at asks name words is holds = sized (codes "unpack") d at asks.0 name words is
     sizes (request.Normalise d paths) at asks name words is holds = sized (codes "normalise") d at asks.0 name words is
     sizes (request.Same d left right) at asks name words is holds = sized (codes "same") d at asks.0 name words is
+    sizes _ at asks name words is holds = other finds _ refl at name words is holds
 
     keeps : (q : Request) → named ≡ Some (command_name q, asked.0) → Asks asked.0 q → (name : Text) (words : List Row)
         → named ≡ Some (name, words) → plans name ≡ true → ForSome (first_of (codes "blank") words) (λ word. word ≡ codes "keep")
     keeps (request.Change d change) at asks name words is holds = kept (codes "change") change.plan at asks.1.0 name words is
     keeps (request.Rename d rename) at asks name words is holds = kept (codes "rename") rename.plan at asks.1.0 name words is
-    keeps (request.Geometry part image) at asks name words is holds = other plans (codes "geometry") refl at name words is holds
-    keeps (request.Compose n new) at asks name words is holds = other plans (codes "compose") refl at name words is holds
-    keeps (request.Build n new) at asks name words is holds = other plans (codes "build") refl at name words is holds
-    keeps (request.List d image) at asks name words is holds = other plans (codes "list") refl at name words is holds
-    keeps (request.Check d image) at asks name words is holds = other plans (codes "check") refl at name words is holds
-    keeps (request.Show d image block) at asks name words is holds = other plans (codes "show") refl at name words is holds
-    keeps (request.Extract d extract) at asks name words is holds = other plans (codes "extract") refl at name words is holds
-    keeps (request.Unpack d paths) at asks name words is holds = other plans (codes "unpack") refl at name words is holds
-    keeps (request.Normalise d paths) at asks name words is holds = other plans (codes "normalise") refl at name words is holds
-    keeps (request.Same d left right) at asks name words is holds = other plans (codes "same") refl at name words is holds
+    keeps (request.Read d image (reading.Show block)) at asks name words is holds = other plans (codes "show") refl at name words is holds
+    keeps _ at asks name words is holds = other plans _ refl at name words is holds
 
 -- words that name just one volume name it by a number or by a text
 module _ (rows : List Row) (each : EachRow rows) where

@@ -155,7 +155,7 @@ pub use Rattle.ubi_commands.specs.Change.{Changes, ChangesFrom, CutMeans, HasPla
 pub use Rattle.ubi_commands.specs.Check.{same_state, state_line, surveyed, unsurveyed}
 unfoldable pub use Rattle.ubi_commands.specs.Check.{printed_states}
 pub use Rattle.ubi_commands.specs.CommandLine.{AsksAsked, AsksBlank, AsksChange, AsksDump, AsksExtract, AsksKey, AsksNewImage, AsksNumbers, AsksPart, AsksPaths, AsksPlan, AsksRename, HasBelow, HasNumber, HasText, MayHaveBelow, MayHaveLong, MayHaveNumber, MayHaveText, gives, gives_no_geometry}
-pub use Rattle.ubi_commands.specs.Commands.{Asks, IsAllElse, IsAnswer, IsAnswerTo, IsRequest, Takes, command_name, wrong_words}
+pub use Rattle.ubi_commands.specs.Commands.{Asks, IsAllElse, IsAnswer, IsAnswerTo, IsRequest, Takes, command_name, reading_command, wrong_words}
 unfoldable pub use Rattle.ubi_commands.specs.Commands.{tool}
 pub use Rattle.ubi_commands.specs.Compose.{Composes, ComposesInto, ComposesOf, crowded, described, fits, meaning_line, spec_line, unmade, unread}
 pub use Rattle.ubi_commands.specs.Disk.{AllStay, Files, Holds, IsJudgedOf, IsKept, IsLeft, IsTextOf, OthersStay, OutsideStay, Receives, Stays, fresh}
@@ -173,6 +173,7 @@ pub use Rattle.ubi_commands.specs.Numbers.{greatest, sizes_of}
 pub use Rattle.ubi_commands.specs.PageLaws.{AreOfFirst, LeastTold}
 pub use Rattle.ubi_commands.specs.Plan.{CutAccepts, IsCarryFault, cut_bytes, cut_text, plan_answer, plan_lines, step_line, steps_done}
 pub use Rattle.ubi_commands.specs.Program.{IsDump, IsRead, IsToldFirst, IsUnseen, OfFile, OfImage, OfText, TellsNothing, WhereRead, WritesInto, WritesPlan, alike, avoided, bad_limit, cannot_read, file, given, image, no_file, no_left, no_list, no_pages, no_right, no_text, of_dump, places, planned, text_limit, told, unfit, unfit_whole, unlike, unreadable, untold, whole, with_list, written}
+pub use Rattle.ubi_commands.specs.Reads.{reads}
 pub use Rattle.ubi_commands.specs.Rename.{CutIsNamed, HasRename, IsRenameFault, Renames, RenamesFrom, nameless_from}
 pub use Rattle.ubi_commands.specs.Row.{row_bytes}
 pub use Rattle.ubi_commands.specs.Same.{Compares, ComparesOf, compared, comparison_status, different, left_refused, left_refused_from, right_refused, right_refused_from, same}
@@ -180,8 +181,6 @@ pub use Rattle.ubi_commands.specs.Show.{Shows, block_lines, no_block, no_block_f
 pub use Rattle.ubi_commands.specs.Tool.{HasOneVolume, Mean, finds, plans, reads_dump}
 pub use Rattle.ubi_commands.specs.Unpack.{AreUnpacked, AreUnpackedUntil, IsUnpacked, Listed, Unpacks, UnpacksOf, file_byte, file_name, file_path, no_folder, unpacked, unpacked_line, unpacked_lines, unpacked_status}
 pub use Rattle.ubi_commands.specs.Views.{misfit, pages_from, pages_of, part_len, part_of, whole_file}
-pub use Rattle.ubi_commands.specs.Reads.{reads}
-pub use Rattle.ubi_commands.specs.inner.Writes.{HasWork, writes}
 pub use Rattle.ubi_commands.specs.declared.asked.Asked.{Asked}
 pub use Rattle.ubi_commands.specs.declared.asked.Change.{Change}
 pub use Rattle.ubi_commands.specs.declared.asked.Dump.{Dump}
@@ -217,3 +216,4 @@ pub use Rattle.ubi_commands.specs.inner.Gathering.{AreSoFar, AreUnread, IsFound,
 pub use Rattle.ubi_commands.specs.inner.Late.{contents_of}
 pub use Rattle.ubi_commands.specs.inner.Opened.{IsOpened}
 pub use Rattle.ubi_commands.specs.inner.Planning.{AreCut, HasFile, IsCut, refused_file}
+pub use Rattle.ubi_commands.specs.inner.Writes.{HasWork, writes}

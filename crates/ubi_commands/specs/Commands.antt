@@ -6,22 +6,22 @@ use Rattle.clap.specs.Walk.{Row, Text}
 use Rattle.ubi_commands.specs.Answer.{Gives, says}
 use Rattle.ubi_commands.specs.Build.{Builds}
 use Rattle.ubi_commands.specs.Change.{ChangesFrom, HasPlan}
-use Rattle.ubi_commands.specs.Check.{ChecksOf}
 use Rattle.ubi_commands.specs.CommandLine.{AsksAsked, AsksChange, AsksDump, AsksExtract, AsksNewImage, AsksNumbers, AsksPart, AsksPaths, AsksRename, HasNumber, HasText}
 use Rattle.ubi_commands.specs.Compose.{ComposesInto}
 use Rattle.ubi_commands.specs.Disk.{AllStay, Files, OthersStay, OutsideStay, Stays}
 use Rattle.ubi_commands.specs.Dump.{greatest_dump}
 use Rattle.ubi_commands.specs.Extract.{ExtractsOf, HasTextIn}
 use Rattle.ubi_commands.specs.Geometry.{DetectsOf}
-use Rattle.ubi_commands.specs.List.{ListsOf}
 use Rattle.ubi_commands.specs.Normalise.{HasMeaning, NormalisesOf}
 use Rattle.ubi_commands.specs.Program.{OfAsked, OfBoth, OfFile, OfImage, OfText, PlanStays, WithList, WritesInto, WritesPlan, avoided}
+use Rattle.ubi_commands.specs.Reads.{reads}
 use Rattle.ubi_commands.specs.Rename.{HasRename, RenamesFrom}
 use Rattle.ubi_commands.specs.Same.{ComparesOf}
-use Rattle.ubi_commands.specs.Show.{ShowsOf}
 use Rattle.ubi_commands.specs.Tool.{Mean, command as takes, image_part, needed, number, on_image, option, output, plan_options, volume}
 use Rattle.ubi_commands.specs.Unpack.{UnpacksOf}
 use Rattle.ubi_commands.specs.declared.outcome.Outcome.{Outcome}
+use Rattle.ubi_commands.specs.declared.readers.Reading.{Reading}
+use Rattle.ubi_commands.specs.declared.readers.Reading.TheVariants as reading
 use Rattle.ubi_commands.specs.declared.requests.Request.{Request}
 use Rattle.ubi_commands.specs.declared.requests.Request.TheVariants as request
 
@@ -90,6 +90,19 @@ tool = record {
   subs = commands;
 }
 
+-- the command that reads one image, and writes no file
+abbrev pub reading_command : Reading → Shape
+reading_command (reading.Geometry part) = geometry
+reading_command reading.List = list
+reading_command reading.Check = check
+reading_command (reading.Show block) = show
+
+-- what its words say beside the dump and the image. A geometry is asked for by a request of its own
+abbrev pub AsksReading : List Row → Reading → Type 0
+AsksReading words (reading.Geometry part) = ⊥
+AsksReading words (reading.Show block) = HasNumber words (codes "block") block
+AsksReading words _ = Unit {0}
+
 -- what is said of a request: by which command it is made; that the words give what it says; what it can be answered, of the files
 -- before and after; and which of them hold what they held
 pub record Said : Type 1 where
@@ -106,22 +119,10 @@ said (request.Geometry part image) = record {
   answers = λ d e. OfFile d (greatest_dump part) image.now (λ _. DetectsOf part);
   leaves = AllStay;
 }
-said (request.List dump image) = record {
-  command = list;
-  asks = λ words. AsksAsked words dump × HasText words (codes "IMAGE") image;
-  answers = λ d e. OfAsked d e dump image.now ListsOf;
-  leaves = AllStay;
-}
-said (request.Check dump image) = record {
-  command = check;
-  asks = λ words. AsksAsked words dump × HasText words (codes "IMAGE") image;
-  answers = λ d e. OfAsked d e dump image.now ChecksOf;
-  leaves = AllStay;
-}
-said (request.Show dump image block) = record {
-  command = show;
-  asks = λ words. AsksAsked words dump × HasText words (codes "IMAGE") image × HasNumber words (codes "block") block;
-  answers = λ d e. OfAsked d e dump image.now (ShowsOf block);
+said (request.Read dump image what) = record {
+  command = reading_command what;
+  asks = λ words. AsksAsked words dump × HasText words (codes "IMAGE") image × AsksReading words what;
+  answers = λ d e. OfAsked d e dump image.now (reads what);
   leaves = AllStay;
 }
 said (request.Extract dump extract_it) =

@@ -56,21 +56,11 @@ pub enum Request<'a> {
         part: FilePart,
         image: &'a str,
     },
-    /// The volumes of a file.
-    List {
+    /// What a command tells of one file that writes none.
+    Read {
         dump: Asked<'a>,
         image: &'a str,
-    },
-    /// The states of the eraseblocks of a file.
-    Check {
-        dump: Asked<'a>,
-        image: &'a str,
-    },
-    /// The headers of one eraseblock of a file.
-    Show {
-        dump: Asked<'a>,
-        image: &'a str,
-        block: u32,
+        command: Reading,
     },
     /// What a volume of one file reads, into another.
     Extract {
@@ -168,28 +158,30 @@ fn geometry_of<'a>(matches: &'a ArgMatches<'_>) -> Option<Request<'a>>
 fn list_of<'a>(matches: &'a ArgMatches<'_>) -> Option<Request<'a>>
     ensures { IsOneOf (IsAskedBy (codes "list") (words_in matches.now)) result }
 {
-    Some(Request::List {
+    Some(Request::Read {
         dump: asked_of(matches)?,
         image: text_of(matches, "IMAGE")?,
+        command: Reading::List,
     })
 }
 
 fn check_of<'a>(matches: &'a ArgMatches<'_>) -> Option<Request<'a>>
     ensures { IsOneOf (IsAskedBy (codes "check") (words_in matches.now)) result }
 {
-    Some(Request::Check {
+    Some(Request::Read {
         dump: asked_of(matches)?,
         image: text_of(matches, "IMAGE")?,
+        command: Reading::Check,
     })
 }
 
 fn show_of<'a>(matches: &'a ArgMatches<'_>) -> Option<Request<'a>>
     ensures { IsOneOf (IsAskedBy (codes "show") (words_in matches.now)) result }
 {
-    Some(Request::Show {
+    Some(Request::Read {
         dump: asked_of(matches)?,
         image: text_of(matches, "IMAGE")?,
-        block: number_of(matches, "block")?,
+        command: Reading::Show(number_of(matches, "block")?),
     })
 }
 
@@ -282,11 +274,11 @@ pub fn run_request<D: Disk + Eprint>(
             let known = KnownDump::given(Dump::greatest(part));
             read_dump(disk, alloc, known, image, &Reading::Geometry(part))
         }
-        Request::List { dump, image } => read_file(disk, alloc, &dump, image, &Reading::List),
-        Request::Check { dump, image } => read_file(disk, alloc, &dump, image, &Reading::Check),
-        Request::Show { dump, image, block } => {
-            read_file(disk, alloc, &dump, image, &Reading::Show(block))
-        }
+        Request::Read {
+            dump,
+            image,
+            command,
+        } => read_file(disk, alloc, &dump, image, &command),
         Request::Extract { dump, extract } => {
             let command = Writing::Extract(extract.key);
             write_file(disk, alloc, &dump, &extract.paths, &command, false)

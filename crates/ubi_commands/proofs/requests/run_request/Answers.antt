@@ -23,11 +23,5 @@ returns-in-Build-clause-answer g c = rw c.in-Build.is c.build_file.ensures.answe
 pub returns-in-Geometry-clause-answer : goal.returns-in-Geometry-clause-answer
 returns-in-Geometry-clause-answer g c = rw (c.in-Geometry.is, ← c.greatest.ensures, ← c.given-known.ensures.dump) c.read_dump.ensures
 
-pub returns-in-List-clause-answer : goal.returns-in-List-clause-answer
-returns-in-List-clause-answer g c = rw c.in-List.is c.read_file.ensures
-
-pub returns-in-Check-clause-answer : goal.returns-in-Check-clause-answer
-returns-in-Check-clause-answer g c = rw c.in-Check.is c.read_file-in-Check.ensures
-
-pub returns-in-Show-clause-answer : goal.returns-in-Show-clause-answer
-returns-in-Show-clause-answer g c = rw c.in-Show.is c.read_file-in-Show.ensures
+pub returns-in-Read-clause-answer : goal.returns-in-Read-clause-answer
+returns-in-Read-clause-answer g c = rw c.in-Read.is c.read_file.ensures
