@@ -74,7 +74,7 @@ request_names_one named r asked words is = go r asked.1 asked.2
         → is_some (first_of (codes "name") words) ≡ not (is_some (first_of (codes "id") words))
     go (request.Extract n x) at asks =
         rw (← (same (request.Extract n x) at).1) (one_volume asked.0 x.key asks.1.1)
-    go (request.Read d image reading.List) at asks = absurd (apart _ _ refl (same (request.Read d image reading.List) at).0)
+    go (request.Tell d image reading.List) at asks = absurd (apart _ _ refl (same (request.Tell d image reading.List) at).0)
     go q at asks = absurd (apart _ _ refl (same q at).0)
 
 -- what the words of a request list as bad is a list
@@ -150,7 +150,7 @@ request_means named r asked = record {
 
     lists : (q : Request) → named ≡ Some (command_name q, asked.0) → Asks asked.0 q → (name : Text) (words : List Row)
         → named ≡ Some (name, words) → reads_dump name ≡ true → ForSome (first_of (codes "bad") words) (λ list. is_block_list list ≡ true)
-    lists (request.Read d image what) at asks name words is holds = listed_asked (reading_command what).name d at asks.0 name words is
+    lists (request.Tell d image what) at asks name words is holds = listed_asked (reading_command what).name d at asks.0 name words is
     lists (request.Extract d extract) at asks name words is holds = listed_asked (codes "extract") d at asks.0 name words is
     lists (request.Unpack d paths) at asks name words is holds = listed_asked (codes "unpack") d at asks.0 name words is
     lists (request.Normalise d paths) at asks name words is holds = listed_asked (codes "normalise") d at asks.0 name words is
@@ -162,7 +162,7 @@ request_means named r asked = record {
     sizes : (q : Request) → named ≡ Some (command_name q, asked.0) → Asks asked.0 q → (name : Text) (words : List Row)
         → named ≡ Some (name, words) → finds name ≡ true
         → ((gives words (codes "peb") && gives words (codes "page")) || gives_no_geometry words) ≡ true
-    sizes (request.Read d image what) at asks name words is holds = sized (reading_command what).name d at asks.0 name words is
+    sizes (request.Tell d image what) at asks name words is holds = sized (reading_command what).name d at asks.0 name words is
     sizes (request.Extract d extract) at asks name words is holds = sized (codes "extract") d at asks.0 name words is
     sizes (request.Unpack d paths) at asks name words is holds = sized (codes "unpack") d at asks.0 name words is
     sizes (request.Normalise d paths) at asks name words is holds = sized (codes "normalise") d at asks.0 name words is
@@ -173,7 +173,7 @@ request_means named r asked = record {
         → named ≡ Some (name, words) → plans name ≡ true → ForSome (first_of (codes "blank") words) (λ word. word ≡ codes "keep")
     keeps (request.Change d change) at asks name words is holds = kept (codes "change") change.plan at asks.1.0 name words is
     keeps (request.Rename d rename) at asks name words is holds = kept (codes "rename") rename.plan at asks.1.0 name words is
-    keeps (request.Read d image (reading.Show block)) at asks name words is holds = other plans (codes "show") refl at name words is holds
+    keeps (request.Tell d image (reading.Show block)) at asks name words is holds = other plans (codes "show") refl at name words is holds
     keeps _ at asks name words is holds = other plans _ refl at name words is holds
 
 -- words that name just one volume name it by a number or by a text

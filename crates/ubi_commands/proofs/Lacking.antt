@@ -21,7 +21,7 @@ pub no_numbers : (name : Text) → makes name ≡ true → (rows : List Row) →
     → (r : Request) → IsAskedBy name rows r → ⊥
 no_numbers name made rows none (request.Compose n new) asked = none n asked.1.0
 no_numbers name made rows none (request.Build n new) asked = none n asked.1.0
-no_numbers name made rows none (request.Read d image reading.List) asked = other_test makes _ _ refl made asked.0
+no_numbers name made rows none (request.Tell d image reading.List) asked = other_test makes _ _ refl made asked.0
 no_numbers name made rows none _ asked = other_test makes _ _ refl made asked.0
 
 -- of a command that plans, over a dump
@@ -29,13 +29,13 @@ pub no_dump : (name : Text) → plans name ≡ true → (rows : List Row) → ((
     → IsAskedBy name rows r → ⊥
 no_dump name planned rows none (request.Change d change) asked = none d asked.1.0
 no_dump name planned rows none (request.Rename d rename) asked = none d asked.1.0
-no_dump name planned rows none (request.Read d image reading.List) asked = other_test plans _ _ refl planned asked.0
+no_dump name planned rows none (request.Tell d image reading.List) asked = other_test plans _ _ refl planned asked.0
 no_dump name planned rows none _ asked = other_test plans _ _ refl planned asked.0
 
 -- of a command that finds how a dump is read
 pub no_asked : (name : Text) → finds name ≡ true → (rows : List Row) → ((d : Asked) → AsksAsked rows d → ⊥) → (r : Request)
     → IsAskedBy name rows r → ⊥
-no_asked name found rows none (request.Read d image what) asked = none d asked.1.0
+no_asked name found rows none (request.Tell d image what) asked = none d asked.1.0
 no_asked name found rows none (request.Extract d extract) asked = none d asked.1.0
 no_asked name found rows none (request.Unpack d paths) asked = none d asked.1.0
 no_asked name found rows none (request.Normalise d paths) asked = none d asked.1.0
@@ -44,47 +44,47 @@ no_asked name found rows none _ asked = other_test finds _ _ refl found asked.0
 
 pub no_block : (rows : List Row) → ((n : ℕ) → HasNumber rows (codes "block") n → ⊥) → (r : Request)
     → IsAskedBy (codes "show") rows r → ⊥
-no_block rows none (request.Read n image (reading.Show block)) asked = none block asked.1.2
+no_block rows none (request.Tell n image (reading.Show block)) asked = none block asked.1.2
 no_block rows none _ asked = apart _ _ refl asked.0
 
 pub no_extract : (rows : List Row) → ((x : Extract) → AsksExtract rows x → ⊥) → (r : Request)
     → IsAskedBy (codes "extract") rows r → ⊥
 no_extract rows none (request.Extract n extract) asked = none extract asked.1.1
-no_extract rows none (request.Read d image reading.List) asked = apart _ _ refl asked.0
+no_extract rows none (request.Tell d image reading.List) asked = apart _ _ refl asked.0
 no_extract rows none _ asked = apart _ _ refl asked.0
 
 pub no_unpack : (rows : List Row) → ((p : Paths) → AsksPaths rows p → ⊥) → (r : Request)
     → IsAskedBy (codes "unpack") rows r → ⊥
 no_unpack rows none (request.Unpack n paths) asked = none paths asked.1.1
-no_unpack rows none (request.Read d image reading.List) asked = apart _ _ refl asked.0
+no_unpack rows none (request.Tell d image reading.List) asked = apart _ _ refl asked.0
 no_unpack rows none _ asked = apart _ _ refl asked.0
 
 pub no_normalise : (rows : List Row) → ((p : Paths) → AsksPaths rows p → ⊥) → (r : Request)
     → IsAskedBy (codes "normalise") rows r → ⊥
 no_normalise rows none (request.Normalise n paths) asked = none paths asked.1.1
-no_normalise rows none (request.Read d image reading.List) asked = apart _ _ refl asked.0
+no_normalise rows none (request.Tell d image reading.List) asked = apart _ _ refl asked.0
 no_normalise rows none _ asked = apart _ _ refl asked.0
 
 pub no_compose : (rows : List Row) → ((i : NewImage) → AsksNewImage rows (codes "SPEC") i → ⊥) → (r : Request)
     → IsAskedBy (codes "compose") rows r → ⊥
 no_compose rows none (request.Compose n new) asked = none new asked.1.1
-no_compose rows none (request.Read d image reading.List) asked = apart _ _ refl asked.0
+no_compose rows none (request.Tell d image reading.List) asked = apart _ _ refl asked.0
 no_compose rows none _ asked = apart _ _ refl asked.0
 
 pub no_build : (rows : List Row) → ((i : NewImage) → AsksNewImage rows (codes "CONFIG") i → ⊥) → (r : Request)
     → IsAskedBy (codes "build") rows r → ⊥
 no_build rows none (request.Build n new) asked = none new asked.1.1
-no_build rows none (request.Read d image reading.List) asked = apart _ _ refl asked.0
+no_build rows none (request.Tell d image reading.List) asked = apart _ _ refl asked.0
 no_build rows none _ asked = apart _ _ refl asked.0
 
 pub no_change : (rows : List Row) → ((c : Change) → AsksChange rows c → ⊥) → (r : Request)
     → IsAskedBy (codes "change") rows r → ⊥
 no_change rows none (request.Change n change) asked = none change asked.1.1
-no_change rows none (request.Read d image reading.List) asked = apart _ _ refl asked.0
+no_change rows none (request.Tell d image reading.List) asked = apart _ _ refl asked.0
 no_change rows none _ asked = apart _ _ refl asked.0
 
 pub no_rename : (rows : List Row) → ((c : Rename) → AsksRename rows c → ⊥) → (r : Request)
     → IsAskedBy (codes "rename") rows r → ⊥
 no_rename rows none (request.Rename n rename) asked = none rename asked.1.1
-no_rename rows none (request.Read d image reading.List) asked = apart _ _ refl asked.0
+no_rename rows none (request.Tell d image reading.List) asked = apart _ _ refl asked.0
 no_rename rows none _ asked = apart _ _ refl asked.0

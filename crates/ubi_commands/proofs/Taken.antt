@@ -174,13 +174,13 @@ module _ (s : Shape) (rows : List Row) (given : AreGiven s rows) where
   list_asked mean image =
       let n = asked_dump (codes "list") refl refl mean in
       let i = text (codes "IMAGE") image in
-      (request.Read n.0 i.0 reading.List, refl, (n.1, i.1, tt))
+      (request.Tell n.0 i.0 reading.List, refl, (n.1, i.1, tt))
 
   check_asked : Mean (Some (codes "check", rows)) → Needs s (codes "IMAGE") → IsAsked (codes "check") rows
   check_asked mean image =
       let n = asked_dump (codes "check") refl refl mean in
       let i = text (codes "IMAGE") image in
-      (request.Read n.0 i.0 reading.Check, refl, (n.1, i.1, tt))
+      (request.Tell n.0 i.0 reading.Check, refl, (n.1, i.1, tt))
 
   show_asked : Mean (Some (codes "show", rows)) → Needs s (codes "IMAGE") → Needs s (codes "block")
       → IsAsked (codes "show") rows
@@ -188,7 +188,7 @@ module _ (s : Shape) (rows : List Row) (given : AreGiven s rows) where
       let n = asked_dump (codes "show") refl refl mean in
       let i = text (codes "IMAGE") image in
       let b = number (codes "block") refl block in
-      (request.Read n.0 i.0 (reading.Show b.0), refl, (n.1, i.1, b.1))
+      (request.Tell n.0 i.0 (reading.Show b.0), refl, (n.1, i.1, b.1))
 
   extract_asked : Mean (Some (codes "extract", rows)) → Needs s (codes "IMAGE") → Needs s (codes "out")
       → IsAsked (codes "extract") rows

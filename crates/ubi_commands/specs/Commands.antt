@@ -119,7 +119,7 @@ said (request.Geometry part image) = record {
   answers = λ d e. OfFile d (greatest_dump part) image.now (λ _. DetectsOf part);
   leaves = AllStay;
 }
-said (request.Read dump image what) = record {
+said (request.Tell dump image what) = record {
   command = reading_command what;
   asks = λ words. AsksAsked words dump × HasText words (codes "IMAGE") image × AsksReading words what;
   answers = λ d e. OfAsked d e dump image.now (reads what);

@@ -57,7 +57,7 @@ pub enum Request<'a> {
         image: &'a str,
     },
     /// What a command tells of one file that writes none.
-    Read {
+    Tell {
         dump: Asked<'a>,
         image: &'a str,
         command: Reading,
@@ -158,7 +158,7 @@ fn geometry_of<'a>(matches: &'a ArgMatches<'_>) -> Option<Request<'a>>
 fn list_of<'a>(matches: &'a ArgMatches<'_>) -> Option<Request<'a>>
     ensures { IsOneOf (IsAskedBy (codes "list") (words_in matches.now)) result }
 {
-    Some(Request::Read {
+    Some(Request::Tell {
         dump: asked_of(matches)?,
         image: text_of(matches, "IMAGE")?,
         command: Reading::List,
@@ -168,7 +168,7 @@ fn list_of<'a>(matches: &'a ArgMatches<'_>) -> Option<Request<'a>>
 fn check_of<'a>(matches: &'a ArgMatches<'_>) -> Option<Request<'a>>
     ensures { IsOneOf (IsAskedBy (codes "check") (words_in matches.now)) result }
 {
-    Some(Request::Read {
+    Some(Request::Tell {
         dump: asked_of(matches)?,
         image: text_of(matches, "IMAGE")?,
         command: Reading::Check,
@@ -178,7 +178,7 @@ fn check_of<'a>(matches: &'a ArgMatches<'_>) -> Option<Request<'a>>
 fn show_of<'a>(matches: &'a ArgMatches<'_>) -> Option<Request<'a>>
     ensures { IsOneOf (IsAskedBy (codes "show") (words_in matches.now)) result }
 {
-    Some(Request::Read {
+    Some(Request::Tell {
         dump: asked_of(matches)?,
         image: text_of(matches, "IMAGE")?,
         command: Reading::Show(number_of(matches, "block")?),
@@ -274,7 +274,7 @@ pub fn run_request<D: Disk + Eprint>(
             let known = KnownDump::given(Dump::greatest(part));
             read_dump(disk, alloc, known, image, &Reading::Geometry(part))
         }
-        Request::Read {
+        Request::Tell {
             dump,
             image,
             command,

@@ -3,6 +3,22 @@
 //! [`detect_from`] reads the headers that stand in a file, groups them by what they say, and tells each geometry that those of one image
 //! give, with the part of the file that the image is. It takes any source of `ubi_scan`, and memory for the groups alone. What is told is
 //! exactly what the definitions say of all bytes of the file.
+//!
+//! A caller, proved from the contracts alone (`crates/ubi_uses`):
+//!
+//! ```
+//! use std::alloc::Global;
+//! use ubi_detect::{DetectError, detect_from};
+//! use ubi_scan::BlockSource;
+//!
+//! /// Where an image begins in a source of which nothing else is known.
+//! pub fn start_of<S: BlockSource>(alloc: Global, source: &mut S) -> Result<u64, DetectError>
+//!     ensures { IfOk result (λ start. (first : Detected) × (more : List Detected) × AreDetectedOf (S.agrees source.new) (first ∷ more) × (start ≡ first.start)) }
+//! {
+//!     let found = detect_from(alloc, source)?;
+//!     Ok(found[0].start)
+//! }
+//! ```
 #![tactic(auto)]
 
 mod at_places;

@@ -23,5 +23,5 @@ returns-in-Build-clause-answer g c = rw c.in-Build.is c.build_file.ensures.answe
 pub returns-in-Geometry-clause-answer : goal.returns-in-Geometry-clause-answer
 returns-in-Geometry-clause-answer g c = rw (c.in-Geometry.is, ← c.greatest.ensures, ← c.given-known.ensures.dump) c.read_dump.ensures
 
-pub returns-in-Read-clause-answer : goal.returns-in-Read-clause-answer
-returns-in-Read-clause-answer g c = rw c.in-Read.is c.read_file.ensures
+pub returns-in-Tell-clause-answer : goal.returns-in-Tell-clause-answer
+returns-in-Tell-clause-answer g c = rw c.in-Tell.is c.read_file.ensures
