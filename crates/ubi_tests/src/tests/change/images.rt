@@ -162,7 +162,8 @@ fn leb_of(
     lnum: u32,
 ) -> Result<(Vec<u8>, u32), Fail> {
     let attached = attached(alloc, geometry, image)?;
-    let mut out = Vec::from_elem(alloc, 0xAA, geometry.leb_size() as usize)?;
+    let size = attached.meaning().geometry().leb_size() as usize;
+    let mut out = Vec::from_elem(alloc, 0xAA, size)?;
     match read_leb(attached.meaning(), 0, lnum, out.as_mut_slice()) {
         Ok(size) => out.truncate(size),
         Err(_) => return Err("not read".into()),
