@@ -72,6 +72,7 @@ pub use Rattle.ubi_scan.proofs.Tops.{used_by}
 pub use Rattle.ubi_scan.specs.Clean.{IsClean, IsSound}
 pub use Rattle.ubi_scan.specs.Faults.{IsMislaid, NoFault}
 pub use Rattle.ubi_scan.specs.Image.{Image, IsWhole, IsWholeSize, block, ec, ec_area, eraseblocks, image_of, in_image, leb, vid, vid_area}
+pub use Rattle.ubi_scan.specs.Marks.{is_listed}
 pub use Rattle.ubi_scan.specs.Members.{IsMember, Leb, NoMember, Wins, foreign, foreign_if, good_at, good_in, has_members, header, header_if, is_good, is_right, layout, leb_of, member, member_if, named_in, sqnum_at, sqnum_in}
 pub use Rattle.ubi_scan.specs.Numbers.{carriers, counters, image_seq, is_carrier, mean, mean_ec, seq_if, seq_of, sqnum_in_use, top_sqnum, valid_ec}
 pub use Rattle.ubi_scan.specs.Scan.{Found, IsScan, leb_cmp}
@@ -109,7 +110,7 @@ pub use Rattle.ubi_volume.specs.Wrote.{All, IsWroteError, Wrote}
 pub use Rattle.ubi_volume.specs.declared.attached.BlockState.{BlockState}
 pub use Rattle.ubi_volume.specs.declared.content.Content.{Content}
 pub use Rattle.ubi_volume.specs.declared.content.Volume.{Volume}
-pub use Rattle.ubi_change.specs.Avoided.{Avoided, Avoids, BlankBelow, MayTouch, ReadBlank, avoiding, is_avoided, is_blank_one, is_listed, nothing, state_avoiding, states_avoiding}
+pub use Rattle.ubi_change.specs.Avoided.{Avoided, Avoids, BlankBelow, MayTouch, ReadBlank, avoiding, is_avoided, is_blank_one, nothing, state_avoiding, states_avoiding}
 pub use Rattle.ubi_change.specs.Cuts.{SurvivesCuts, changed, header_in, is_copy, programs_copy, turn, volume_with, with_leb}
 pub use Rattle.ubi_change.specs.Fitting.{AllFit, AllWithin, FitsBlock, fits, only_clears, page_of}
 pub use Rattle.ubi_change.specs.Frugal.{CountsErases, IsFrugal, TouchesOnly, counter_after, erases, given_up, stays_then, touched}

@@ -1,10 +1,11 @@
 -- What a plan may not touch, and what an attach shows of an image as a plan sees it that avoids it.
-use Rattle.std.specs.Prelude.{◌≡◌, ℕ, ◌<◌, ◌&&◌, ◌||◌, Bool, true, false, if◌then◌else◌, List, [], length, map, Some, slice_get, refl, unwrap_or}
+use Rattle.std.specs.Prelude.{◌≡◌, ℕ, ◌<◌, ◌&&◌, ◌||◌, Bool, true, false, if◌then◌else◌, List, [], length, map, Some, slice_get, refl}
 use Rattle.std.specs.Coded.{Coded, code_by, coded×, coded_bool, coded_list}
 use Rattle.std.specs.List.{enumerate_from}
 use Rattle.ubi_media.specs.Geometry.{Sizes}
 use Rattle.ubi_media.specs.declared.ec.EcRead.TheVariants as ec_read
 use Rattle.ubi_scan.specs.Image.{block, ec}
+use Rattle.ubi_scan.specs.Marks.{is_listed}
 use Rattle.ubi_volume.specs.Attached.{Whole}
 use Rattle.ubi_volume.specs.declared.attached.BlockState.{BlockState}
 use Rattle.ubi_volume.specs.declared.attached.BlockState.TheVariants as state
@@ -25,10 +26,6 @@ avoided_code =
 -- nothing is avoided
 abbrev pub nothing : Avoided
 nothing = record { marks = []; blank = false }
-
--- whether p is listed: it has a mark, and that says so
-abbrev pub is_listed : List Bool → ℕ → Bool
-is_listed marks p = unwrap_or (slice_get marks p) false
 
 -- whether an eraseblock in this state is Blank
 abbrev pub is_blank_one : BlockState → Bool

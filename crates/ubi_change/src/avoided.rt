@@ -2,7 +2,8 @@
 
 ghost use Rattle.std.specs.Prelude.{◌≡◌, ◌<◌, ◌≤◌, Some, length, slice_get};
 ghost use Rattle.ubi_change.specs.inner.Taking.{ListedIs, NotBlankIs};
-ghost use Rattle.ubi_change.specs.Avoided.{is_avoided, is_blank_one, is_listed, state_avoiding, states_avoiding};
+ghost use Rattle.ubi_change.specs.Avoided.{is_avoided, is_blank_one, state_avoiding, states_avoiding};
+ghost use Rattle.ubi_scan.specs.Marks.{is_listed};
 
 use crate::step::Step;
 use std::marker::Model;

@@ -6,7 +6,7 @@ use Rattle.ubi_change.proofs.Unrenamed as renaming
 use Rattle.ubi_commands.specs.Change as change
 use Rattle.ubi_commands.specs.inner.Planning.{done}
 use Rattle.ubi_commands.specs.Rename as rename
-use Rattle.ubi_commands.specs.declared.outcome.ToolError.TheVariants as tool
+use Rattle.ubi_files.specs.declared.outcome.ToolError.TheVariants as tool
 use Rattle.ubi_commands.proofs.Cut.{cut_accepts, few_done}
 use Rattle.ubi_commands.proofs.Outcomes.{not_both}
 

@@ -1,8 +1,8 @@
 -- The lines of what is told of files, and of why nothing is, on literals.
-use Rattle.ubi_commands.proofs.Prelude.{◌≡◌, [], ◌∷◌, Some, refl, digits, Sizes, first_broken, options, options_lines, sizes_options, undetected_line, greatest, whole_file}
-use Rattle.std.proofs.Common.{None, codes}
+use Rattle.ubi_commands.proofs.Prelude.{◌≡◌, [], ◌∷◌, Some, refl, digits, Sizes, first_broken, options, options_lines, sizes_options, undetected_line, greatest, whole_file, None}
+use Rattle.std.proofs.Common.{codes}
 use Rattle.ubi_detect.specs.declared.detect.Undetected.TheVariants as cause
-use Rattle.ubi_commands.specs.Numbers as numbers
+use Rattle.ubi_files.specs.Numbers as numbers
 
 -- an eraseblock of 64 pages, and one of 32
 abbrev small_pages : Sizes

@@ -1,6 +1,6 @@
 -- What the words of a request say: the volume that they name, what they list as bad, and what they keep.
-use Rattle.ubi_commands.proofs.Prelude.{◌≡◌, ◌∙◌, ◌&&◌, ◌||◌, Bool, List, Some, ap, ap₂, false, not, refl, subst, sym, true, true≢false, ℕ, Bor, ForSome, same_Some, find, is_some, option_and_then, option_map, slice_get, bytes_eq, without_leading_plus, Row, Text, first_of, one_of, is_block_list, Asks, AsksAsked, AsksBlank, AsksDump, AsksKey, AsksPlan, HasNumber, HasText, IsRequest, MayHaveText, command_name, gives, gives_no_geometry, HasOneVolume, Mean, finds, plans, reads_dump, Asked, Dump, Plan, Request, VolumeKey, reading_command}
-use Rattle.std.proofs.Common.{None, Option, codes}
+use Rattle.ubi_commands.proofs.Prelude.{◌≡◌, ◌∙◌, ◌&&◌, ◌||◌, Bool, List, Some, ap, ap₂, false, not, refl, subst, sym, true, true≢false, ℕ, Bor, ForSome, same_Some, find, is_some, option_and_then, option_map, slice_get, bytes_eq, without_leading_plus, Row, Text, first_of, one_of, is_block_list, Asks, AsksAsked, AsksBlank, AsksDump, AsksKey, AsksPlan, HasNumber, HasText, IsRequest, MayHaveText, command_name, gives, gives_no_geometry, HasOneVolume, Mean, finds, plans, reads_dump, Asked, Dump, Plan, Request, VolumeKey, reading_command, None}
+use Rattle.std.proofs.Common.{Option, codes}
 use Rattle.ubi_commands.specs.declared.asked.Asked.TheVariants as way
 use Rattle.ubi_commands.specs.declared.readers.Reading.TheVariants as reading
 use Rattle.ubi_commands.specs.declared.requests.Request.TheVariants as request

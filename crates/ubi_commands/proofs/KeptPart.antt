@@ -1,29 +1,10 @@
 -- What is kept of a file that was read whole to find how it is read.
-use Rattle.ubi_commands.proofs.Prelude.{◌≡◌, ◌∙◌, ℕ, ◌+◌, ◌-◌, ◌*◌, ◌/◌, ◌≤◌, Bool, List, ap, arith, drop, false, length, min, refl, take, true, ltb-false, drop-drop, drop-take, length-drop, length-take, take-take, option_map_or, IfSome, None, Option, option_map, unwrap_or, Sizes, judged, holds, Detected, Files, IsJudgedOf, FitsWhole, as_read, greatest_dump, misfit_of, seen, told_dump, viewed, whole_len, sizes_of, IsToldFirst, misfit, part_of, Dump, Sought, FilePart}
-use Rattle.ubi_commands.specs.inner.Kept.{IsPartOf}
+use Rattle.ubi_commands.proofs.Prelude.{◌≡◌, ◌∙◌, ℕ, ◌+◌, ◌-◌, ◌*◌, ◌≤◌, Bool, List, ap, arith, drop, false, length, refl, take, true, ltb-false, drop-drop, drop-take, length-drop, length-take, take-take, option_map_or, IfSome, Option, option_map, unwrap_or, Sizes, judged, holds, Detected, Files, IsJudgedOf, FitsWhole, as_read, greatest_dump, misfit_of, seen, told_dump, viewed, whole_len, sizes_of, IsToldFirst, misfit, part_of, Sought, FilePart, masked_none, pages_none}
+use Rattle.std.specs.Prelude.{None}
+use Rattle.ubi_files.specs.Kept.{IsPartOf}
 use Rattle.std.proofs.Common.{if◌then◌else◌}
 use Rattle.std.specs.Prelude.{Some}
-use Rattle.ubi_commands.proofs.MaskedBytes.{masked_none}
-use Rattle.ubi_commands.proofs.PageBytes.{pages_none}
 use Rattle.ubi_commands.proofs.ToldPlaces.{told_inside}
-
--- ---- as far as a device has bytes
-
-module _ (dump : Dump) where
-  -- how many bytes the pages of the device and one more have
-  abbrev pub raw : ℕ
-  raw = let s = sizes_of dump.numbers in (s.pebs * s.peb_size / s.page + 1) * (s.page + dump.oob)
-
-  -- the part as far as it is read
-  abbrev pub as_far : ℕ → FilePart
-  as_far n = record { start = dump.part.start; length = Some n }
-
-  pub as_read_some : (n : ℕ) → dump.part.length ≡ Some n → as_far (min n raw) ≡ (as_read dump).part
-  as_read_some n has =
-      let same : min n raw ≡ min n (min n raw) = omega arith in
-      rw has (ap as_far same)
-
--- ---- what is told of a part of a file
 
 -- what lies within the first bytes is the same without the others
 within : (xs : List ℕ) (n start count : ℕ) → start + count ≤ length (take n xs)

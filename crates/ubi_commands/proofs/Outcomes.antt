@@ -1,6 +1,5 @@
 -- What outcomes tell.
-use Rattle.ubi_commands.proofs.Prelude.{◌≡◌, ℕ, ◌≤◌, ◌∙◌, List, Some, ap, length, refl, subst, sym, Appends, ForSome, IsSome, MatchResult, Ok, Err, Option, Result, IfOk, option_map, AllocError, Global, Vec, Sizes, first_broken, Image, image_of, Meant, HasRoom, ComesTo, Composes, ComposesInto, ComposesOf, crowded, described, fits, unmade, unread, sizes_of, IsRead, WritesFile, OfImage, OfText, Tells, text_limit, Files, Holds, IsJudgedOf, IsKept, IsTextOf, OthersStay, Receives, fresh, contents_of, Unread, Memory, Told, Numbers, Outcome}
-use Rattle.std.proofs.Common.{None}
+use Rattle.ubi_commands.proofs.Prelude.{◌≡◌, ℕ, ◌≤◌, ◌∙◌, List, Some, ap, length, refl, subst, sym, Appends, ForSome, IsSome, MatchResult, Ok, Err, Option, Result, IfOk, option_map, AllocError, Global, Vec, Sizes, first_broken, Meant, HasRoom, ComesTo, Composes, ComposesInto, ComposesOf, crowded, described, fits, unmade, unread, sizes_of, WritesFile, OfText, Tells, text_limit, Files, Holds, IsKept, IsTextOf, OthersStay, Receives, fresh, contents_of, Unread, Memory, Told, Numbers, Outcome, None}
 use Rattle.ubi_commands.specs.Compose as compose
 use Rattle.ubi_commands.specs.Program as program
 use Rattle.ubi_commands.specs.inner.FileAnswers as file_answers
@@ -34,14 +33,6 @@ composes_into s text spares seq out d e work o n (file_answers.lost some gives) 
     let h = described_with_file s text spares seq work n some in
     compose.unwritten h.0 h.1 h.2 gives
 
--- what is answered of an image that was read
-pub of_image : (d : Files) (numbers : Numbers) (path : List ℕ) (answers : Image → Outcome → Type 0) (s : Sizes) (bytes : List ℕ)
-    (o : Outcome)
-    → s ≡ sizes_of numbers → IsRead (sizes_of numbers) bytes → IsJudgedOf d path (sizes_of numbers) bytes → answers (image_of s bytes) o
-    → OfImage d numbers path answers o
-of_image d numbers path answers s bytes o e read named a =
-    program.image bytes read named (subst (λ (t : Sizes). answers (image_of t bytes) o) e a)
-
 -- what is answered of a text that was read
 pub of_text : (d : Files) (numbers : Numbers) (path : List ℕ) (answers : Sizes → List ℕ → Outcome → Type 0) (s : Sizes)
     (bytes : List ℕ) (o : Outcome)
@@ -50,11 +41,6 @@ pub of_text : (d : Files) (numbers : Numbers) (path : List ℕ) (answers : Sizes
     → OfText d numbers path answers o
 of_text d numbers path answers s bytes o e limits few named a = program.text bytes limits few named
     (subst (λ (t : Sizes). answers t bytes o) e a)
-
--- what is told is no less than more
-pub Tells-weaker : (P Q : Outcome → Type 0) → ((o : Outcome) → P o → Q o) → (u : Unread) → Tells P u → Tells Q u
-Tells-weaker P Q f Memory h = tt
-Tells-weaker P Q f (Told o) h = f o h
 
 -- what is answered in place of an image is what is told
 pub told : (is : Outcome → Type 0) (u : Unread) (r : Result Outcome AllocError) → Tells is u

@@ -1,20 +1,16 @@
 -- The names that the proofs of this crate speak of, and where they come from.
-pub use Rattle.std.proofs.Common.{Bool, List, Some, [], ap, append-nil, append_assoc, ap₂, arith, cond, drop, false, get_or, inl, inr, le_refl, length, lit<, lit≤, map, min, nat_le, nat_lt, not, refl, replicate, rules, string_bytes, subst, suc, sym, take, true, true≢false, vec_items, vec_len, zero, zero-add, ℕ, ◌%◌, ◌&&◌, ◌*◌, ◌++◌, ◌+◌, ◌-◌, ◌/◌, ◌<◌, ◌==◌, ◌^◌, ◌||◌, ◌↔◌, ◌∙◌, ◌∷◌, ◌≡◌, ◌≢◌, ◌≤◌, ◌⊎◌}
-pub use Rattle.std.proofs.KnownBytes.{Consumes-trans, Keeps-refl}
-pub use Rattle.std.proofs.Math.Nat.{div-lt_iff_lt-mul, min-le_left, min-le_right, mod-add-div', mul-le-mul_right}
-pub use Rattle.std.proofs.Math.Seq.{drop-append-add, paste}
-pub use Rattle.std.proofs.lemmas.Bool.{cases_lt, eqb-true, ltb-false, ne_eqb}
-pub use Rattle.std.proofs.lemmas.Bool.Decides.{nat_tests}
+pub use Rattle.std.proofs.Common.{Bool, List, None, Some, [], ap, append-nil, append_assoc, ap₂, arith, cond, drop, false, get_or, inl, inr, length, lit<, lit≤, map, not, refl, string_bytes, subst, suc, sym, take, true, true≢false, vec_items, zero, zero-add, ℕ, ◌&&◌, ◌*◌, ◌++◌, ◌+◌, ◌-◌, ◌/◌, ◌<◌, ◌==◌, ◌^◌, ◌||◌, ◌↔◌, ◌∙◌, ◌∷◌, ◌≡◌, ◌≢◌, ◌≤◌, ◌⊎◌}
+pub use Rattle.std.proofs.KnownBytes.{Keeps-refl}
+pub use Rattle.std.proofs.Math.Nat.{mod-add-div', mul-le-mul_right}
+pub use Rattle.std.proofs.Math.Seq.{drop-append-add}
+pub use Rattle.std.proofs.lemmas.Bool.{eqb-true, ltb-false, ne_eqb}
 pub use Rattle.std.proofs.lemmas.Grind.{common_steps, flat_map-append}
 pub use Rattle.std.proofs.lemmas.Int.{ints}
-pub use Rattle.std.proofs.lemmas.List.{drop-append-le, drop-drop, drop-take, drop_all, drop_at, get_or-append_right, get_or-drop, get_or-replicate, get_or-take, get_or_append_left, length-append, length-drop, length-replicate, length-take, length-take-le, map-append, nil_from_length, same_lists, take-append-drop, take-append-le, take-take, take_all, take_at, take_min, take_more, take_rest, with_items_is}
-pub use Rattle.std.proofs.lemmas.List.Edits.{drop-paste, length-paste, take-paste}
+pub use Rattle.std.proofs.lemmas.List.{drop-drop, drop-take, length-append, length-drop, length-take, map-append, take-append-le, take-take, take_all, take_more}
 pub use Rattle.std.proofs.lemmas.List.Elements.{filter_map-append}
 pub use Rattle.std.proofs.lemmas.List.Folds.{list_all_more}
 pub use Rattle.std.proofs.lemmas.List.FromFn.{length-range_with_len}
-pub use Rattle.std.proofs.lemmas.List.Splits.{length-slice_split}
 pub use Rattle.std.proofs.lemmas.List.Sums.{fold_more, prefix_len-le-length, sum_by-append}
-pub use Rattle.std.proofs.lemmas.Nat.{div-add-mod', div-mul-add, mod-mul-add, mod_below, mul-le}
 pub use Rattle.std.proofs.lemmas.Option.{get_or_from_slice_get, same_Some, slice_get_cases, slice_get_read, slice_get_within}
 pub use Rattle.std.proofs.lemmas.Result.{IfErr-at_err, IfErr-weaker, IfOk-at_ok, IfOk-weaker, err_from_is_err_and}
 pub use Rattle.std.proofs.lemmas.Slice.Eq.{bytes_eq-Decides}
@@ -23,12 +19,11 @@ pub use Rattle.std.specs.Bool.{then_some}
 pub use Rattle.std.specs.Borrow.{Bor}
 pub use Rattle.std.specs.FinMap.{entries, get}
 unfoldable pub use Rattle.std.specs.Fmt.{digits}
-pub use Rattle.std.specs.Io.{ReadsAtMost}
-pub use Rattle.std.specs.Io.KnownBytes.{Appends, Consumes}
-pub use Rattle.std.specs.List.{AllByRecursion, concat, cons_option, enumerate_from, find, flat_map, list_all, list_any, range_with_len, slice_split}
+pub use Rattle.std.specs.Io.KnownBytes.{Appends}
+pub use Rattle.std.specs.List.{AllByRecursion, concat, cons_option, find, flat_map, list_all, list_any, range_with_len}
 pub use Rattle.std.specs.Option.{ForSome, IsSomeAnd, option_map_or}
 unfoldable pub use Rattle.std.specs.Path.{path_with_file_name}
-pub use Rattle.std.specs.Prelude.{Contains, Err, IfErr, IfOk, IfSome, IsErr, IsOk, IsSome, MatchOption, MatchResult, None, Ok, OnErr, OnOk, Option, Result, codes, count_by, decimal, filter_map, fold, if◌then◌else◌, is_ok, is_some, option_and_then, option_map, pos, slice_get, slice_index_or, sum_by, unwrap_or}
+pub use Rattle.std.specs.Prelude.{Contains, Err, IfErr, IfOk, IfSome, IsErr, IsOk, IsSome, MatchOption, MatchResult, Ok, OnErr, OnOk, Option, Result, codes, count_by, decimal, fold, if◌then◌else◌, is_ok, is_some, nat_lt, option_and_then, option_map, pos, slice_get, slice_index_or, sum_by, unwrap_or}
 pub use Rattle.std.specs.Result.{result_map_both}
 pub use Rattle.std.specs.Str.{bytes_eq}
 unfoldable pub use Rattle.std.specs.Str.{chars}
@@ -65,7 +60,7 @@ pub use Rattle.clap.specs.declared.parser.matches.Found.{Found}
 pub use Rattle.clap.specs.declared.parser.matches.ValueSource.TheVariants.{CommandLine}
 pub use Rattle.ubi_change.proofs.CutSizes.{blocks-cut, length-cut}
 pub use Rattle.ubi_change.proofs.PlanSurvives.{plan_survives_law}
-pub use Rattle.ubi_change.specs.Avoided.{Avoided, is_listed, nothing}
+pub use Rattle.ubi_change.specs.Avoided.{Avoided, nothing}
 pub use Rattle.ubi_change.specs.Cuts.{changed, turn}
 pub use Rattle.ubi_change.specs.Fitting.{AllWithin}
 pub use Rattle.ubi_change.specs.Pages.{programmed}
@@ -107,7 +102,34 @@ pub use Rattle.ubi_detect.specs.declared.detect.Detected.{Detected}
 pub use Rattle.ubi_detect.specs.declared.detect.Undetected.{Undetected}
 pub use Rattle.ubi_detect.specs.declared.groups.Group.{Group}
 pub use Rattle.ubi_detect.specs.declared.way.Way.{Way}
-pub use Rattle.ubi_media.specs.Geometry.{IsGeometry, Sizes, page_sizes}
+pub use Rattle.ubi_files.proofs.FileRows.{row_sized, sum_cons}
+pub use Rattle.ubi_files.proofs.MaskedBytes.{masked_none}
+pub use Rattle.ubi_files.proofs.OpensAtPlaces.{never_opened}
+pub use Rattle.ubi_files.proofs.PageBytes.{pages_none}
+pub use Rattle.ubi_files.proofs.Tells.{Tells-weaker}
+pub use Rattle.ubi_files.specs.AfterRun.{WhereNotDone, after_left, after_right, after_run}
+pub use Rattle.ubi_files.specs.Answer.{Answer, Gives, says}
+pub use Rattle.ubi_files.specs.BadBlocks.{is_block_list, masked}
+pub use Rattle.ubi_files.specs.Disk.{AllStay, Files, Holds, IsJudgedOf, IsKept, IsLeft, IsTextOf, OthersStay, OutsideStay, Receives, Stays, fresh}
+pub use Rattle.ubi_files.specs.Dump.{Fits, FitsWhole, as_read, greatest_dump, misfit_of, seen, viewed, whole_len}
+pub use Rattle.ubi_files.specs.Late.{contents_of}
+pub use Rattle.ubi_files.specs.Lines.{file_line, refusal_line, refused_line}
+pub use Rattle.ubi_files.specs.Numbers.{greatest, sizes_of}
+pub use Rattle.ubi_files.specs.Opened.{IsOpened}
+pub use Rattle.ubi_files.specs.OverFile.{IsRead, IsUnseen, OfFile, WhereRead, bad_limit, cannot_read, file, image, no_file, places, unfit, unfit_whole, unreadable, whole}
+pub use Rattle.ubi_files.specs.Row.{row_bytes}
+pub use Rattle.ubi_files.specs.Told.{IsTold, Tells, outcome, read_failed}
+pub use Rattle.ubi_files.specs.Views.{misfit, pages_of, part_of, whole_file}
+pub use Rattle.ubi_files.specs.declared.dump.Dump.{Dump}
+pub use Rattle.ubi_files.specs.declared.image_file.Unread.{Unread}
+pub use Rattle.ubi_files.specs.declared.image_file.Unread.TheVariants.{Memory, Told}
+pub use Rattle.ubi_files.specs.declared.numbers.Numbers.{Numbers}
+pub use Rattle.ubi_files.specs.declared.open_image.OpenImage.{OpenImage}
+pub use Rattle.ubi_files.specs.declared.outcome.Outcome.{Outcome}
+pub use Rattle.ubi_files.specs.declared.outcome.SidesError.{SidesError}
+pub use Rattle.ubi_files.specs.declared.outcome.ToolError.{ToolError}
+pub use Rattle.ubi_files.specs.declared.view.FilePart.{FilePart}
+pub use Rattle.ubi_media.specs.Geometry.{IsGeometry, Sizes}
 unfoldable pub use Rattle.ubi_media.specs.Limits.{first_broken}
 pub use Rattle.ubi_media.specs.OtherPage.{with_page}
 pub use Rattle.ubi_media.specs.Record.{rec_fault, usable}
@@ -116,9 +138,7 @@ pub use Rattle.ubi_media.specs.declared.refusal.Refusal.{Refusal}
 pub use Rattle.ubi_scan.proofs.InMemory.{still}
 pub use Rattle.ubi_scan.proofs.Narrowed.{source_narrowed}
 pub use Rattle.ubi_scan.proofs.ReadParts.{count_blocks}
-pub use Rattle.ubi_scan.proofs.Stands.{stand_within}
 pub use Rattle.ubi_scan.specs.Image.{Image, IsLengthFault, IsWhole, IsWholeSize, block, eraseblocks, image_of, judged}
-pub use Rattle.ubi_scan.specs.Placed.{StandsAt}
 pub use Rattle.ubi_scan.specs.Promised.{keeps_promise}
 pub use Rattle.ubi_scan.specs.Source.{Agreed, IsSource, Narrows, Source, WhereHeld, blocks_in, blocks_of, holds, known_by, memory}
 pub use Rattle.ubi_scan.specs.declared.errors.StreamError.{StreamError}
@@ -146,9 +166,6 @@ pub use Rattle.ubi_volume.specs.declared.errors.MeaningCause.{MeaningCause}
 pub use Rattle.ubi_volume.specs.declared.errors.ReadError.{ReadError}
 pub use Rattle.ubi_volume.specs.declared.places.Extent.{Extent}
 pub use Rattle.ubi_volume.specs.declared.places.PlaceContent.{PlaceContent}
-pub use Rattle.ubi_commands.specs.AfterRun.{WhereNotDone, after_left, after_right, after_run}
-pub use Rattle.ubi_commands.specs.Answer.{Answer, Gives, says}
-pub use Rattle.ubi_commands.specs.BadBlocks.{has_number, is_block_list, masked, range_of, range_of_parts, ranges_of, with_ranges}
 pub use Rattle.ubi_commands.specs.Build.{AreBesideOut, AreGathered, ArePartsOf, Builds, BuildsParts, HaveImage, IsNoVolume, IsSized, IsUngathered, IsUnreadLine, Sized, built, faulty, gathered, image_path, image_paths, len_of, no_image, no_path, no_record, numbered, part_at, ungathered, unwritten}
 pub use Rattle.ubi_commands.specs.BuildLaws.{AreTold, BuildReads, ReadsItsFile, file_of}
 pub use Rattle.ubi_commands.specs.Change.{Changes, ChangesFrom, CutMeans, HasPlan, IsChangeFault, not_blank_from, unplanned_from}
@@ -158,62 +175,45 @@ pub use Rattle.ubi_commands.specs.CommandLine.{AsksAsked, AsksBlank, AsksChange,
 pub use Rattle.ubi_commands.specs.Commands.{Asks, IsAllElse, IsAnswer, IsAnswerTo, IsRequest, Takes, command_name, reading_command, wrong_words}
 unfoldable pub use Rattle.ubi_commands.specs.Commands.{tool}
 pub use Rattle.ubi_commands.specs.Compose.{Composes, ComposesInto, ComposesOf, crowded, described, fits, meaning_line, spec_line, unmade, unread}
-pub use Rattle.ubi_commands.specs.Disk.{AllStay, Files, Holds, IsJudgedOf, IsKept, IsLeft, IsTextOf, OthersStay, OutsideStay, Receives, Stays, fresh}
-pub use Rattle.ubi_commands.specs.Dump.{Fits, FitsWhole, as_read, greatest_dump, marks_of, misfit_of, most_of, seen, told_dump, viewed, whole_len}
 pub use Rattle.ubi_commands.specs.Extract.{Extracts, HasTextIn, IsExtractError, ReadsVolume, accepted, read, read_key, refused_from, unread_from, wrote}
 pub use Rattle.ubi_commands.specs.Geometry.{Detects, detected, detected_from, options_lines, undetected, undetected_from}
 unfoldable pub use Rattle.ubi_commands.specs.Geometry.{options, sizes_options}
 pub use Rattle.ubi_commands.specs.Key.{number_in}
-pub use Rattle.ubi_commands.specs.Lines.{blocks_line, bytes_line, comparison_line, file_line, no_block_line, refusal_line, refused_line, undetected_line}
+pub use Rattle.ubi_commands.specs.Lines.{blocks_line, bytes_line, comparison_line, no_block_line, undetected_line}
 unfoldable pub use Rattle.ubi_commands.specs.Lines.{layout_words}
 pub use Rattle.ubi_commands.specs.List.{Lists, list_lines, listed, record_line, shown, unlisted, volume_line}
 unfoldable pub use Rattle.ubi_commands.specs.List.{room_words, sizes_line}
 pub use Rattle.ubi_commands.specs.Normalise.{HasMeaning, IsNormaliseError, Normalises, wrote_nothing}
-pub use Rattle.ubi_commands.specs.Numbers.{greatest, sizes_of}
 pub use Rattle.ubi_commands.specs.PageLaws.{AreOfFirst, LeastTold}
 pub use Rattle.ubi_commands.specs.Plan.{CutAccepts, IsCarryFault, cut_bytes, cut_text, plan_answer, plan_lines, step_line, steps_done}
-pub use Rattle.ubi_commands.specs.Program.{IsDump, IsRead, IsToldFirst, IsUnseen, OfFile, OfImage, OfText, TellsNothing, WhereRead, WritesInto, WritesPlan, alike, avoided, bad_limit, cannot_read, file, given, image, no_file, no_left, no_list, no_pages, no_right, no_text, of_dump, places, planned, text_limit, told, unfit, unfit_whole, unlike, unreadable, untold, whole, with_list, written}
+pub use Rattle.ubi_commands.specs.Program.{IsDump, IsToldFirst, OfText, TellsNothing, WritesInto, WritesPlan, alike, avoided, given, no_left, no_list, no_pages, no_right, no_text, of_dump, planned, text_limit, told, told_dump, unlike, untold, with_list, written}
 pub use Rattle.ubi_commands.specs.Reads.{reads}
 pub use Rattle.ubi_commands.specs.Rename.{CutIsNamed, HasRename, IsRenameFault, Renames, RenamesFrom, nameless_from}
-pub use Rattle.ubi_commands.specs.Row.{row_bytes}
 pub use Rattle.ubi_commands.specs.Same.{Compares, ComparesOf, compared, comparison_status, different, left_refused, left_refused_from, right_refused, right_refused_from, same}
 pub use Rattle.ubi_commands.specs.Show.{Shows, block_lines, no_block, no_block_from, no_size, shown_from}
 pub use Rattle.ubi_commands.specs.Tool.{HasOneVolume, Mean, finds, plans, reads_dump}
 pub use Rattle.ubi_commands.specs.Unpack.{AreUnpacked, AreUnpackedUntil, IsUnpacked, Listed, Unpacks, UnpacksOf, file_byte, file_name, file_path, no_folder, unpacked, unpacked_line, unpacked_lines, unpacked_status}
-pub use Rattle.ubi_commands.specs.Views.{misfit, pages_from, pages_of, part_len, part_of, whole_file}
 pub use Rattle.ubi_commands.specs.declared.asked.Asked.{Asked}
 pub use Rattle.ubi_commands.specs.declared.asked.Change.{Change}
-pub use Rattle.ubi_commands.specs.declared.asked.Dump.{Dump}
 pub use Rattle.ubi_commands.specs.declared.asked.Extract.{Extract}
 pub use Rattle.ubi_commands.specs.declared.asked.NewImage.{NewImage}
 pub use Rattle.ubi_commands.specs.declared.asked.Paths.{Paths}
 pub use Rattle.ubi_commands.specs.declared.asked.Plan.{Plan}
 pub use Rattle.ubi_commands.specs.declared.asked.Rename.{Rename}
 pub use Rattle.ubi_commands.specs.declared.asked.Sought.{Sought}
-pub use Rattle.ubi_commands.specs.declared.bad_blocks.BlockRange.{BlockRange}
 pub use Rattle.ubi_commands.specs.declared.build.Answers.{Answers}
 pub use Rattle.ubi_commands.specs.declared.command_line.Argument.{Argument}
 pub use Rattle.ubi_commands.specs.declared.command_line.CommandRow.{CommandRow}
-pub use Rattle.ubi_commands.specs.declared.image_file.Unread.{Unread}
-pub use Rattle.ubi_commands.specs.declared.image_file.Unread.TheVariants.{Memory, Told}
-pub use Rattle.ubi_commands.specs.declared.numbers.Numbers.{Numbers}
-pub use Rattle.ubi_commands.specs.declared.open_image.OpenImage.{OpenImage}
-pub use Rattle.ubi_commands.specs.declared.outcome.Outcome.{Outcome}
-pub use Rattle.ubi_commands.specs.declared.outcome.SidesError.{SidesError}
-pub use Rattle.ubi_commands.specs.declared.outcome.ToolError.{ToolError}
 pub use Rattle.ubi_commands.specs.declared.requests.Request.{Request}
 pub use Rattle.ubi_commands.specs.declared.unpack.VolumeFile.{VolumeFile}
-pub use Rattle.ubi_commands.specs.declared.view.FilePart.{FilePart}
 pub use Rattle.ubi_commands.specs.declared.volume_key.VolumeKey.{VolumeKey}
 pub use Rattle.ubi_commands.specs.inner.Built.{AreAnswers, IsNotBegun, IsToldOf}
 pub use Rattle.ubi_commands.specs.inner.CommandLine.{IsAskedBy, IsOneOf, bare_tool, rule, words_in}
 unfoldable pub use Rattle.ubi_commands.specs.inner.CommandLine.{command_row, with_commands, with_groups, with_rows}
 pub use Rattle.ubi_commands.specs.inner.Ended.{IsEnded, IsToldOfSides, Works, answered, comparison, left_failed, no_read, no_source, no_write, right_failed, unopened}
 pub use Rattle.ubi_commands.specs.inner.Extracting.{HasFirst, IsExtractFault}
-pub use Rattle.ubi_commands.specs.inner.FileAnswers.{IsTold, Tells, WritesFile, kept, lost, outcome, read_failed}
+pub use Rattle.ubi_commands.specs.inner.FileAnswers.{WritesFile, kept, lost}
 pub use Rattle.ubi_commands.specs.inner.Folder.{AreFilesOf, Ends, IsFileOf}
 pub use Rattle.ubi_commands.specs.inner.Gathering.{AreSoFar, AreUnread, IsFound, IsPartOf}
-pub use Rattle.ubi_commands.specs.inner.Late.{contents_of}
-pub use Rattle.ubi_commands.specs.inner.Opened.{IsOpened}
 pub use Rattle.ubi_commands.specs.inner.Planning.{AreCut, HasFile, IsCut, refused_file}
 pub use Rattle.ubi_commands.specs.inner.Writes.{HasWork, writes}

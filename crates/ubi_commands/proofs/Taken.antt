@@ -1,6 +1,6 @@
 -- Words that the command line takes are a request.
-use Rattle.ubi_commands.proofs.Prelude.{◌≡◌, ◌∙◌, ◌&&◌, ◌||◌, ◌∷◌, [], Bool, List, Some, ap, cond, false, refl, sym, subst, true, true≢false, ℕ, Bor, then_some, ForSome, is_some, option_and_then, option_map, slice_get, unwrap_or, find, list_all, bytes_eq, same_Some, bytes_eq-Decides, fault_of, level_fault, Shape, argument_words, label_of, subcommand_of, Row, Text, answers_to, first_of, nothing_held, rows_after, both, is_block_list, Asks, AsksAsked, AsksBlank, AsksDump, AsksNewImage, AsksNumbers, AsksPart, AsksPaths, AsksPlan, IsRequest, HasNumber, HasText, MayHaveNumber, MayHaveText, command_name, gives, gives_no_geometry, Mean, Takes, finds, plans, reads_dump, tool, Asked, Change, Dump, Extract, NewImage, Paths, Plan, Rename, Request, Sought, Numbers, FilePart}
-use Rattle.std.proofs.Common.{None, Option, codes}
+use Rattle.ubi_commands.proofs.Prelude.{◌≡◌, ◌∙◌, ◌&&◌, ◌||◌, ◌∷◌, [], Bool, List, Some, ap, cond, false, refl, sym, subst, true, true≢false, ℕ, Bor, then_some, ForSome, is_some, option_and_then, option_map, slice_get, unwrap_or, find, list_all, bytes_eq, same_Some, bytes_eq-Decides, fault_of, level_fault, Shape, argument_words, label_of, subcommand_of, Row, Text, answers_to, first_of, nothing_held, rows_after, both, is_block_list, Asks, AsksAsked, AsksBlank, AsksDump, AsksNewImage, AsksNumbers, AsksPart, AsksPaths, AsksPlan, IsRequest, HasNumber, HasText, MayHaveNumber, MayHaveText, command_name, gives, gives_no_geometry, Mean, Takes, finds, plans, reads_dump, tool, Asked, Change, Dump, Extract, NewImage, Paths, Plan, Rename, Request, Sought, Numbers, FilePart, None}
+use Rattle.std.proofs.Common.{Option, codes}
 use Rattle.clap.specs.Simple.{built}
 use Rattle.ubi_commands.specs.declared.asked.Asked.TheVariants as way
 use Rattle.ubi_commands.specs.declared.readers.Reading.TheVariants as reading

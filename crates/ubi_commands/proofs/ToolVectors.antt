@@ -1,6 +1,6 @@
 -- Which words the command line takes.
-use Rattle.ubi_commands.proofs.Prelude.{◌≡◌, ◌&&◌, ◌||◌, ◌∷◌, ◌∙◌, [], List, Some, ap, false, refl, subst, sym, true, true≢false, ForSome, same_Some, bytes_eq, fault_of, Row, Text, first_of, clap_on_literals, is_block_list, gives, gives_no_geometry, HasOneVolume, Mean, Takes, tool}
-use Rattle.std.proofs.Common.{None, Option, codes}
+use Rattle.ubi_commands.proofs.Prelude.{◌≡◌, ◌&&◌, ◌||◌, ◌∷◌, ◌∙◌, [], List, Some, ap, false, refl, subst, sym, true, true≢false, ForSome, same_Some, bytes_eq, fault_of, Row, Text, first_of, clap_on_literals, is_block_list, gives, gives_no_geometry, HasOneVolume, Mean, Takes, tool, None}
+use Rattle.std.proofs.Common.{Option, codes}
 use Rattle.clap.specs.declared.error.kind.ErrorKind.TheVariants as kind
 use Rattle.ubi_commands.proofs.Lacking.{apart}
 

@@ -1,7 +1,7 @@
 -- What is seen of files, on literals.
-use Rattle.ubi_commands.proofs.Prelude.{◌≡◌, ◌∷◌, [], List, Some, refl, ℕ, Bor, Detected, as_read, misfit_of, told_dump, viewed, whole_len, misfit, pages_of, part_of, Dump, Sought, FilePart}
-use Rattle.std.proofs.Common.{None, Option, codes}
-use Rattle.ubi_commands.specs.declared.view.Misfit.TheVariants as why
+use Rattle.ubi_commands.proofs.Prelude.{◌≡◌, ◌∷◌, [], List, Some, refl, ℕ, Bor, Detected, as_read, misfit_of, told_dump, viewed, whole_len, misfit, pages_of, part_of, Dump, Sought, FilePart, None}
+use Rattle.std.proofs.Common.{Option, codes}
+use Rattle.ubi_files.specs.declared.view.Misfit.TheVariants as why
 
 abbrev bytes : List ℕ
 bytes = 0 ∷ 1 ∷ 2 ∷ 3 ∷ 4 ∷ 5 ∷ 6 ∷ 7 ∷ 8 ∷ 9 ∷ 10 ∷ 11 ∷ 12 ∷ 13 ∷ []

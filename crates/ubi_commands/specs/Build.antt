@@ -19,12 +19,13 @@ use Rattle.ubi_compose.specs.Built.{HaveMeaning, IsRecipeError, Parts, most_bloc
 use Rattle.ubi_compose.specs.declared.errors.RecipeError.TheVariants as recipe
 use Rattle.ubi_compose.specs.declared.recipe.Part.{Part}
 use Rattle.ubi_volume.specs.declared.errors.MeaningCause.{MeaningCause}
-use Rattle.ubi_commands.specs.Answer.{Gives, says}
+use Rattle.ubi_files.specs.Answer.{Gives, says}
 use Rattle.ubi_commands.specs.Compose.{meaning_line, room_line}
-use Rattle.ubi_commands.specs.Disk.{AllStay, Files, Holds, fresh}
-use Rattle.ubi_commands.specs.Lines.{blocks_line, file_line, refused_line}
-use Rattle.ubi_commands.specs.Row.{row_bytes}
-use Rattle.ubi_commands.specs.declared.outcome.Outcome.{Outcome}
+use Rattle.ubi_files.specs.Disk.{AllStay, Files, Holds, fresh}
+use Rattle.ubi_commands.specs.Lines.{blocks_line}
+use Rattle.ubi_files.specs.Lines.{file_line, refused_line}
+use Rattle.ubi_files.specs.Row.{row_bytes}
+use Rattle.ubi_files.specs.declared.outcome.Outcome.{Outcome}
 
 -- the line of a config's line that something is wrong with
 abbrev pub config_line : ℕ → ConfigCause → List ℕ

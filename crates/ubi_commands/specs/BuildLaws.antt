@@ -14,8 +14,8 @@ use Rattle.ubi_config.specs.Records.{record_in}
 use Rattle.ubi_config.specs.declared.section.Section.{Section}
 use Rattle.ubi_compose.specs.BuiltLaws.{text_read}
 use Rattle.ubi_commands.specs.Build.{Builds, image_path}
-use Rattle.ubi_commands.specs.Disk.{Files}
-use Rattle.ubi_commands.specs.declared.outcome.Outcome.{Outcome}
+use Rattle.ubi_files.specs.Disk.{Files}
+use Rattle.ubi_files.specs.declared.outcome.Outcome.{Outcome}
 
 -- what the file of a section's `image` key holds, where that is known; no byte where the section has no such key
 abbrev pub file_of : Files → List ℕ → Section → Option (List ℕ)

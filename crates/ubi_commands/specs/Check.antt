@@ -11,9 +11,9 @@ use Rattle.ubi_volume.specs.Places.{ArePlacesError}
 use Rattle.ubi_volume.specs.Survey.{IsSurvey, IsSurveyOf, Seen}
 use Rattle.ubi_volume.specs.declared.attached.BlockState.{BlockState}
 use Rattle.ubi_volume.specs.declared.attached.BlockState.TheVariants as state
-use Rattle.ubi_commands.specs.Answer.{Gives, says}
-use Rattle.ubi_commands.specs.Lines.{refusal_line}
-use Rattle.ubi_commands.specs.declared.outcome.Outcome.{Outcome}
+use Rattle.ubi_files.specs.Answer.{Gives, says}
+use Rattle.ubi_files.specs.Lines.{refusal_line}
+use Rattle.ubi_files.specs.declared.outcome.Outcome.{Outcome}
 
 -- whether two states are the same
 abbrev pub same_state : BlockState → BlockState → Bool

@@ -5,19 +5,19 @@ use Rattle.std.specs.Option.{ForSome}
 use Rattle.std.specs.Prelude.{◌≡◌, ◌↔◌, ◌<◌, ◌^◌, ◌&&◌, List, None, Option, Some, Bool, codes, is_some, not, option_map, true, unwrap_or, ℕ}
 use Rattle.std.specs.Str.Parse.{IsNumeral, digits_value, without_leading_plus}
 use Rattle.clap.specs.Walk.{Row, first_of, one_of}
-use Rattle.ubi_commands.specs.BadBlocks.{is_block_list}
+use Rattle.ubi_files.specs.BadBlocks.{is_block_list}
 use Rattle.ubi_commands.specs.declared.asked.Asked.{Asked}
 use Rattle.ubi_commands.specs.declared.asked.Asked.TheVariants as asked
 use Rattle.ubi_commands.specs.declared.asked.Change.{Change}
-use Rattle.ubi_commands.specs.declared.asked.Dump.{Dump}
+use Rattle.ubi_files.specs.declared.dump.Dump.{Dump}
 use Rattle.ubi_commands.specs.declared.asked.Extract.{Extract}
 use Rattle.ubi_commands.specs.declared.asked.NewImage.{NewImage}
 use Rattle.ubi_commands.specs.declared.asked.Paths.{Paths}
 use Rattle.ubi_commands.specs.declared.asked.Plan.{Plan}
 use Rattle.ubi_commands.specs.declared.asked.Rename.{Rename}
 use Rattle.ubi_commands.specs.declared.asked.Sought.{Sought}
-use Rattle.ubi_commands.specs.declared.numbers.Numbers.{Numbers}
-use Rattle.ubi_commands.specs.declared.view.FilePart.{FilePart}
+use Rattle.ubi_files.specs.declared.numbers.Numbers.{Numbers}
+use Rattle.ubi_files.specs.declared.view.FilePart.{FilePart}
 use Rattle.ubi_commands.specs.declared.volume_key.VolumeKey.{VolumeKey}
 use Rattle.ubi_commands.specs.declared.volume_key.VolumeKey.TheVariants as key
 

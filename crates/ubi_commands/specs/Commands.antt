@@ -3,23 +3,24 @@ use Rattle.std.specs.Prelude.{◌≡◌, ◌∷◌, [], List, Option, Some, code
 use Rattle.clap.specs.Faults.{fault_of}
 use Rattle.clap.specs.Simple.{App, Shape, new_rule, new_shape, subcommand_of}
 use Rattle.clap.specs.Walk.{Row, Text}
-use Rattle.ubi_commands.specs.Answer.{Gives, says}
+use Rattle.ubi_files.specs.Answer.{Gives, says}
 use Rattle.ubi_commands.specs.Build.{Builds}
 use Rattle.ubi_commands.specs.Change.{ChangesFrom, HasPlan}
 use Rattle.ubi_commands.specs.CommandLine.{AsksAsked, AsksChange, AsksDump, AsksExtract, AsksNewImage, AsksNumbers, AsksPart, AsksPaths, AsksRename, HasNumber, HasText}
 use Rattle.ubi_commands.specs.Compose.{ComposesInto}
-use Rattle.ubi_commands.specs.Disk.{AllStay, Files, OthersStay, OutsideStay, Stays}
-use Rattle.ubi_commands.specs.Dump.{greatest_dump}
+use Rattle.ubi_files.specs.Disk.{AllStay, Files, OthersStay, OutsideStay, Stays}
+use Rattle.ubi_files.specs.Dump.{greatest_dump}
 use Rattle.ubi_commands.specs.Extract.{ExtractsOf, HasTextIn}
 use Rattle.ubi_commands.specs.Geometry.{DetectsOf}
 use Rattle.ubi_commands.specs.Normalise.{HasMeaning, NormalisesOf}
-use Rattle.ubi_commands.specs.Program.{OfAsked, OfBoth, OfFile, OfImage, OfText, PlanStays, WithList, WritesInto, WritesPlan, avoided}
+use Rattle.ubi_commands.specs.Program.{OfAsked, OfBoth, OfText, PlanStays, WithList, WritesInto, WritesPlan, avoided}
+use Rattle.ubi_files.specs.OverFile.{OfFile, OfImage}
 use Rattle.ubi_commands.specs.Reads.{reads}
 use Rattle.ubi_commands.specs.Rename.{HasRename, RenamesFrom}
 use Rattle.ubi_commands.specs.Same.{ComparesOf}
 use Rattle.ubi_commands.specs.Tool.{Mean, command as takes, image_part, needed, number, on_image, option, output, plan_options, volume}
 use Rattle.ubi_commands.specs.Unpack.{UnpacksOf}
-use Rattle.ubi_commands.specs.declared.outcome.Outcome.{Outcome}
+use Rattle.ubi_files.specs.declared.outcome.Outcome.{Outcome}
 use Rattle.ubi_commands.specs.declared.readers.Reading.{Reading}
 use Rattle.ubi_commands.specs.declared.readers.Reading.TheVariants as reading
 use Rattle.ubi_commands.specs.declared.requests.Request.{Request}

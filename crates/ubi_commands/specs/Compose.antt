@@ -14,10 +14,11 @@ use Rattle.ubi_compose.specs.Spec.{first_cause}
 use Rattle.ubi_compose.specs.declared.errors.ComposeError.TheVariants as error
 use Rattle.ubi_compose.specs.declared.errors.SpecCause.{SpecCause}
 use Rattle.ubi_compose.specs.declared.errors.SpecError.TheVariants as spec
-use Rattle.ubi_commands.specs.Answer.{Answer, Gives, says}
-use Rattle.ubi_commands.specs.Disk.{Files, Receives}
-use Rattle.ubi_commands.specs.Lines.{blocks_line, file_line, refused_line}
-use Rattle.ubi_commands.specs.declared.outcome.Outcome.{Outcome}
+use Rattle.ubi_files.specs.Answer.{Answer, Gives, says}
+use Rattle.ubi_files.specs.Disk.{Files, Receives}
+use Rattle.ubi_commands.specs.Lines.{blocks_line}
+use Rattle.ubi_files.specs.Lines.{file_line, refused_line}
+use Rattle.ubi_files.specs.declared.outcome.Outcome.{Outcome}
 
 -- the line of a text's line that something is wrong with
 abbrev pub spec_line : ℕ → SpecCause → List ℕ

@@ -15,12 +15,13 @@ use Rattle.ubi_volume.specs.Reading.{read_volume}
 use Rattle.ubi_volume.specs.declared.errors.ReadError.{ReadError}
 use Rattle.ubi_volume.specs.declared.errors.ReadError.TheVariants as error
 use Rattle.ubi_compose.specs.Streamed.{HasGot}
-use Rattle.ubi_commands.specs.Answer.{Gives, says}
+use Rattle.ubi_files.specs.Answer.{Gives, says}
 use Rattle.ubi_commands.specs.Key.{number_in}
-use Rattle.ubi_commands.specs.Lines.{bytes_line, refusal_line, refused_line}
-use Rattle.ubi_commands.specs.declared.outcome.Outcome.{Outcome}
-use Rattle.ubi_commands.specs.declared.outcome.ToolError.{ToolError}
-use Rattle.ubi_commands.specs.declared.outcome.ToolError.TheVariants as tool
+use Rattle.ubi_commands.specs.Lines.{bytes_line}
+use Rattle.ubi_files.specs.Lines.{refusal_line, refused_line}
+use Rattle.ubi_files.specs.declared.outcome.Outcome.{Outcome}
+use Rattle.ubi_files.specs.declared.outcome.ToolError.{ToolError}
+use Rattle.ubi_files.specs.declared.outcome.ToolError.TheVariants as tool
 use Rattle.ubi_commands.specs.declared.volume_key.VolumeKey.{VolumeKey}
 
 -- the text of a refusal to read; a fault of the machine has none

@@ -7,10 +7,10 @@ use Rattle.ubi_scan.specs.Source.{Agreed, Source, WhereHeld}
 use Rattle.ubi_detect.specs.declared.detect.DetectError.TheVariants as error
 use Rattle.ubi_detect.specs.declared.detect.Detected.{Detected}
 use Rattle.ubi_detect.specs.declared.detect.Undetected.{Undetected}
-use Rattle.ubi_commands.specs.Answer.{Gives, says}
+use Rattle.ubi_files.specs.Answer.{Gives, says}
 use Rattle.ubi_commands.specs.Lines.{undetected_line}
-use Rattle.ubi_commands.specs.declared.outcome.Outcome.{Outcome}
-use Rattle.ubi_commands.specs.declared.view.FilePart.{FilePart}
+use Rattle.ubi_files.specs.declared.outcome.Outcome.{Outcome}
+use Rattle.ubi_files.specs.declared.view.FilePart.{FilePart}
 
 -- the options by which the other commands are given the sizes of a device
 unfoldable pub sizes_options : Sizes → List ℕ

@@ -4,10 +4,10 @@ use Rattle.ubi_media.specs.Geometry.{Sizes}
 use Rattle.ubi_scan.specs.Image.{image_of}
 use Rattle.ubi_volume.specs.Meant.{Meant}
 use Rattle.ubi_compose.specs.TextLaws.{ComesTo}
-use Rattle.ubi_commands.specs.Answer.{Answer, Gives, says}
+use Rattle.ubi_files.specs.Answer.{Answer, Gives, says}
 use Rattle.ubi_commands.specs.Compose.{Composes}
 use Rattle.ubi_commands.specs.List.{Lists, list_lines}
-use Rattle.ubi_commands.specs.declared.outcome.Outcome.{Outcome}
+use Rattle.ubi_files.specs.declared.outcome.Outcome.{Outcome}
 
 -- what composing answers is a function of the text, the number of spares and the image
 -- sequence number: what one run gives, each gives

@@ -1,6 +1,3 @@
-pub mod AfterRun
-pub mod Answer
-pub mod BadBlocks
 pub mod Build
 pub mod BuildLaws
 pub mod Change
@@ -8,8 +5,6 @@ pub mod Check
 pub mod CommandLine
 pub mod Commands
 pub mod Compose
-pub mod Disk
-pub mod Dump
 pub mod Extract
 pub mod Geometry
 pub mod Headline
@@ -18,18 +13,14 @@ pub mod Laws
 pub mod Lines
 pub mod List
 pub mod Normalise
-pub mod Numbers
 pub mod PageLaws
 pub mod Plan
 pub mod Printed
 pub mod Program
-pub mod Read
 pub mod Reads
 pub mod Rename
-pub mod Row
 pub mod Same
 pub mod Show
 pub mod Tool
 pub mod Unpack
-pub mod Views
 pub mod inner

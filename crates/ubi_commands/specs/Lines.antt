@@ -1,25 +1,10 @@
 -- Printed lines.
 use Rattle.std.specs.Prelude.{ℕ, Bool, true, false, List, ◌++◌, codes, decimal}
-use Rattle.ubi_media.specs.ErrorTexts.{geometry_error_text, refusal_text}
 use Rattle.ubi_media.specs.Geometry.{Sizes}
-use Rattle.ubi_media.specs.declared.geometry.GeometryError.{GeometryError}
 use Rattle.ubi_media.specs.declared.refusal.Refusal.{Refusal}
 use Rattle.ubi_detect.specs.ErrorTexts.{undetected_text}
 use Rattle.ubi_detect.specs.declared.detect.Undetected.{Undetected}
-use Rattle.ubi_commands.specs.declared.view.Misfit.{Misfit}
-use Rattle.ubi_commands.specs.declared.view.Misfit.TheVariants as why
-
--- the line of a refusal, by the text of its cause
-abbrev pub refused_line : List ℕ → List ℕ
-refused_line cause = codes "refused " ++ cause ++ codes "\n"
-
--- the line of a limit that a geometry breaks
-abbrev pub geometry_line : GeometryError → List ℕ
-geometry_line limit = refused_line (geometry_error_text limit)
-
--- the line of an image that is refused
-abbrev pub refusal_line : Refusal → List ℕ
-refusal_line c = refused_line (refusal_text c)
+use Rattle.ubi_files.specs.Lines.{refusal_line, refused_line}
 
 -- the line of a file of which no geometry is told
 abbrev pub undetected_line : Undetected → List ℕ
@@ -28,15 +13,6 @@ undetected_line c = refused_line (undetected_text c)
 -- the same of one of two files, behind the side on which it stands
 abbrev pub undetected_side_line : List ℕ → Undetected → List ℕ
 undetected_side_line side c = side ++ undetected_line c
-
--- the text of why a file can't be seen as the words tell
-abbrev pub misfit_text : Misfit → List ℕ
-misfit_text (why.Part bytes) = codes "F7 Part bytes=" ++ decimal bytes
-misfit_text (why.Pages rest) = codes "F8 Pages rest=" ++ decimal rest
-
--- the line of a file that can't be seen so
-abbrev pub misfit_line : Misfit → List ℕ
-misfit_line m = refused_line (misfit_text m)
 
 -- the numbers of a geometry but how many eraseblocks there are
 unfoldable pub layout_words : Sizes → List ℕ
@@ -68,7 +44,3 @@ bytes_line n = codes "bytes " ++ decimal n ++ codes "\n"
 -- the line of a number of eraseblocks
 abbrev pub blocks_line : ℕ → List ℕ
 blocks_line n = codes "blocks " ++ decimal n ++ codes "\n"
-
--- the line of a file that fails
-abbrev pub file_line : List ℕ → List ℕ → List ℕ
-file_line cannot path = cannot ++ path ++ codes "\n"

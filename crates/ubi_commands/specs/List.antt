@@ -19,9 +19,10 @@ use Rattle.ubi_volume.specs.Places.{ArePlacesError, ArePlacesOf, Placed}
 use Rattle.ubi_volume.specs.declared.block.Amount.{Amount}
 use Rattle.ubi_volume.specs.declared.block.Amount.TheVariants as amount
 use Rattle.ubi_volume.specs.declared.content.Volume.{Volume}
-use Rattle.ubi_commands.specs.Answer.{Gives, says}
-use Rattle.ubi_commands.specs.Lines.{layout_words, refusal_line}
-use Rattle.ubi_commands.specs.declared.outcome.Outcome.{Outcome}
+use Rattle.ubi_files.specs.Answer.{Gives, says}
+use Rattle.ubi_commands.specs.Lines.{layout_words}
+use Rattle.ubi_files.specs.Lines.{refusal_line}
+use Rattle.ubi_files.specs.declared.outcome.Outcome.{Outcome}
 
 -- a byte of a name as it is shown: a printable one but the backslash as it is, and any other by its two digits
 abbrev pub shown_byte : ℕ → List ℕ

@@ -11,11 +11,12 @@ use Rattle.ubi_volume.specs.Meant.{Meant}
 use Rattle.ubi_volume.specs.Places.{ArePlacesError}
 use Rattle.ubi_compose.specs.Normal.{normal_blocks, normal_bytes}
 use Rattle.ubi_compose.specs.Streamed.{IsNormaliseToError, IsNormalisedTo}
-use Rattle.ubi_commands.specs.Answer.{Gives, says}
-use Rattle.ubi_commands.specs.Lines.{blocks_line, refusal_line}
-use Rattle.ubi_commands.specs.declared.outcome.Outcome.{Outcome}
-use Rattle.ubi_commands.specs.declared.outcome.ToolError.{ToolError}
-use Rattle.ubi_commands.specs.declared.outcome.ToolError.TheVariants as tool
+use Rattle.ubi_files.specs.Answer.{Gives, says}
+use Rattle.ubi_commands.specs.Lines.{blocks_line}
+use Rattle.ubi_files.specs.Lines.{refusal_line}
+use Rattle.ubi_files.specs.declared.outcome.Outcome.{Outcome}
+use Rattle.ubi_files.specs.declared.outcome.ToolError.{ToolError}
+use Rattle.ubi_files.specs.declared.outcome.ToolError.TheVariants as tool
 
 -- what the command answers of an image: how many eraseblocks the normal image of what it means has, and the writer
 -- received that; or the line of its refusal, and the writer received nothing

@@ -11,10 +11,10 @@ use Rattle.ubi_scan.specs.Source.{Agreed}
 use Rattle.ubi_volume.specs.Accepts.{Accepts}
 use Rattle.ubi_volume.specs.Meant.{Meant}
 use Rattle.ubi_volume.specs.Wrote.{First, NotAll, Wrote}
-use Rattle.ubi_commands.specs.Answer.{Answer}
-use Rattle.ubi_commands.specs.Lines.{refused_line}
-use Rattle.ubi_commands.specs.declared.outcome.ToolError.{ToolError}
-use Rattle.ubi_commands.specs.declared.outcome.ToolError.TheVariants as tool
+use Rattle.ubi_files.specs.Answer.{Answer}
+use Rattle.ubi_files.specs.Lines.{refused_line}
+use Rattle.ubi_files.specs.declared.outcome.ToolError.{ToolError}
+use Rattle.ubi_files.specs.declared.outcome.ToolError.TheVariants as tool
 
 -- what a step does, and to which eraseblock and page
 abbrev pub step_words : Step → List ℕ

@@ -5,7 +5,7 @@ use Rattle.ubi_commands.specs.Check.{ChecksOf}
 use Rattle.ubi_commands.specs.Geometry.{DetectsOf}
 use Rattle.ubi_commands.specs.List.{ListsOf}
 use Rattle.ubi_commands.specs.Show.{ShowsOf}
-use Rattle.ubi_commands.specs.declared.outcome.Outcome.{Outcome}
+use Rattle.ubi_files.specs.declared.outcome.Outcome.{Outcome}
 use Rattle.ubi_commands.specs.declared.readers.Reading.{Reading}
 use Rattle.ubi_commands.specs.declared.readers.Reading.TheVariants as reading
 

@@ -19,12 +19,12 @@ use Rattle.ubi_scan.specs.Source.{Agreed, Source, WhereHeld}
 use Rattle.ubi_volume.specs.Accepts.{Accepts}
 use Rattle.ubi_volume.specs.Meant.{Meant}
 use Rattle.ubi_volume.specs.Wrote.{All, Wrote}
-use Rattle.ubi_commands.specs.Answer.{Gives, says}
-use Rattle.ubi_commands.specs.Lines.{refused_line}
+use Rattle.ubi_files.specs.Answer.{Gives, says}
+use Rattle.ubi_files.specs.Lines.{refused_line}
 use Rattle.ubi_commands.specs.Plan.{CutAccepts, IsCarryFault, cut_text, not_blank_line, plan_answer, plan_lines, steps_done}
-use Rattle.ubi_commands.specs.declared.outcome.Outcome.{Outcome}
-use Rattle.ubi_commands.specs.declared.outcome.ToolError.{ToolError}
-use Rattle.ubi_commands.specs.declared.outcome.ToolError.TheVariants as tool
+use Rattle.ubi_files.specs.declared.outcome.Outcome.{Outcome}
+use Rattle.ubi_files.specs.declared.outcome.ToolError.{ToolError}
+use Rattle.ubi_files.specs.declared.outcome.ToolError.TheVariants as tool
 
 -- the line of a rename that isn't planned; memory that ran out has none
 abbrev pub rename_line : RenameRefusal → Option (List ℕ)

@@ -9,9 +9,9 @@ use Rattle.ubi_volume.specs.Accepts.{Accepts, Refuses}
 use Rattle.ubi_volume.specs.Meant.{Meant}
 use Rattle.ubi_volume.specs.Places.{ArePlacesError}
 use Rattle.ubi_compose.specs.Compared.{WhereBothHeld}
-use Rattle.ubi_commands.specs.Answer.{Gives, says}
+use Rattle.ubi_files.specs.Answer.{Gives, says}
 use Rattle.ubi_commands.specs.Lines.{comparison_line, side_line}
-use Rattle.ubi_commands.specs.declared.outcome.Outcome.{Outcome}
+use Rattle.ubi_files.specs.declared.outcome.Outcome.{Outcome}
 
 -- what the command answers of two images: whether they mean the same, or the line of the first that is refused
 pub data Compares (left right : Image) : Outcome → Type 0 where

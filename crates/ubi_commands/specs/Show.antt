@@ -12,9 +12,10 @@ use Rattle.ubi_media.specs.declared.vid.VidRead.{VidRead}
 use Rattle.ubi_media.specs.declared.vid.VidRead.TheVariants as vid_read
 use Rattle.ubi_scan.specs.Image.{Image, IsLengthFault, IsSizeFault, IsWhole, IsWholeSize, block, ec_area, eraseblocks, image_of, vid_area}
 use Rattle.ubi_scan.specs.Source.{Agreed, Source, WhereHeld, blocks_in}
-use Rattle.ubi_commands.specs.Answer.{Gives, says}
-use Rattle.ubi_commands.specs.Lines.{no_block_line, refusal_line}
-use Rattle.ubi_commands.specs.declared.outcome.Outcome.{Outcome}
+use Rattle.ubi_files.specs.Answer.{Gives, says}
+use Rattle.ubi_commands.specs.Lines.{no_block_line}
+use Rattle.ubi_files.specs.Lines.{refusal_line}
+use Rattle.ubi_files.specs.declared.outcome.Outcome.{Outcome}
 
 -- the word for what an EC header is
 abbrev pub ec_state : EcRead → List ℕ

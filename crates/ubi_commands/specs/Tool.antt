@@ -6,7 +6,7 @@ use Rattle.std.specs.Str.{bytes_eq}
 use Rattle.clap.specs.Simple.{Shape, new_rule, new_shape}
 use Rattle.clap.specs.Walk.{Row, Rule, Text, first_of}
 use Rattle.clap.specs.declared.builder.value_parser.ValueParser.TheVariants as parser
-use Rattle.ubi_commands.specs.BadBlocks.{is_block_list}
+use Rattle.ubi_files.specs.BadBlocks.{is_block_list}
 use Rattle.ubi_commands.specs.CommandLine.{gives, gives_no_geometry}
 
 -- an argument that has to be given

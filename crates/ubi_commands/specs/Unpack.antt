@@ -17,11 +17,11 @@ use Rattle.ubi_volume.specs.declared.block.Amount.{Amount}
 use Rattle.ubi_volume.specs.declared.block.Amount.TheVariants as amount
 use Rattle.ubi_volume.specs.declared.errors.ReadError.{ReadError}
 use Rattle.ubi_volume.specs.declared.errors.ReadError.TheVariants as error
-use Rattle.ubi_commands.specs.Answer.{Gives, says}
-use Rattle.ubi_commands.specs.Disk.{AllStay, Files, IsKept, OthersStay, fresh}
-use Rattle.ubi_commands.specs.Lines.{file_line, refusal_line}
+use Rattle.ubi_files.specs.Answer.{Gives, says}
+use Rattle.ubi_files.specs.Disk.{AllStay, Files, IsKept, OthersStay, fresh}
+use Rattle.ubi_files.specs.Lines.{file_line, refusal_line}
 use Rattle.ubi_commands.specs.List.{amount_word, shown, shown_byte}
-use Rattle.ubi_commands.specs.declared.outcome.Outcome.{Outcome}
+use Rattle.ubi_files.specs.declared.outcome.Outcome.{Outcome}
 
 -- a record of a volume table, behind the number of its volume
 abbrev pub Listed : Type 0

@@ -6,9 +6,6 @@ pub mod Extracting
 pub mod FileAnswers
 pub mod Folder
 pub mod Gathering
-pub mod Kept
-pub mod Late
-pub mod Opened
 pub mod Planning
 pub mod Telling
 pub mod Writes

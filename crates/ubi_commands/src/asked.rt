@@ -2,17 +2,14 @@
 
 ghost use Rattle.std.specs.Option.{ForSome};
 ghost use Rattle.std.specs.Prelude.{◌≡◌, ◌↔◌, IsTrue, true};
-ghost use Rattle.ubi_commands.specs.BadBlocks.{is_block_list};
+ghost use Rattle.ubi_files.specs.BadBlocks.{is_block_list};
 ghost use Rattle.ubi_commands.specs.CommandLine.{AsksAsked, AsksBlank, AsksChange, AsksDump, AsksExtract, AsksKey, AsksNewImage, AsksNumbers, AsksPart, AsksPaths, AsksPlan, AsksRename, AsksSought, HasNumber, HasText, MayHaveLong, MayHaveNumber, MayHaveText, gives, gives_no_geometry};
 ghost use Rattle.ubi_commands.specs.inner.CommandLine.{IsOneOf};
-ghost use Rattle.ubi_commands.specs.Dump.{greatest_dump};
 ghost use Rattle.ubi_commands.specs.inner.CommandLine.{words_in};
 
-use crate::bad_blocks::is_block_list;
-use crate::numbers::{GREATEST, Numbers};
-use crate::view::FilePart;
 use crate::volume_key::VolumeKey;
 use clap::ArgMatches;
+use ubi_files::{Dump, FilePart, Numbers, is_block_list};
 
 /// The one word that `--blank` takes.
 const KEEP: &str = "keep";
@@ -24,33 +21,6 @@ pub struct Paths<'a> {
     pub image: &'a str,
     /// That of the file or the folder that is written.
     pub out: &'a str,
-}
-
-/// A dump, as the words tell how it is read.
-#[derive(Clone, Copy)]
-pub struct Dump<'a> {
-    /// The numbers of its geometry.
-    pub numbers: Numbers,
-    /// The part of its file that it is.
-    pub part: FilePart,
-    /// How many out-of-band bytes lie behind each page.
-    pub oob: u32,
-    /// The list of its bad eraseblocks, which read 0xFF; none is bad where it is left out.
-    pub bad: Option<&'a str>,
-}
-
-impl<'a> Dump<'a> {
-    /// A part of a file of which no geometry is known: no more is read of it than the greatest dump has that there is.
-    pub fn greatest(part: FilePart) -> Dump<'a>
-        ensures { result ≡ greatest_dump part }
-    {
-        Dump {
-            numbers: GREATEST,
-            part,
-            oob: 0,
-            bad: None,
-        }
-    }
 }
 
 /// A dump of which the words give no geometry: it is read as its own headers tell.

@@ -3,15 +3,14 @@
 ghost use Rattle.std.specs.Prelude.{◌≡◌, [], IfErr, IfOk, Some};
 ghost use Rattle.ubi_scan.specs.Image.{image_of};
 ghost use Rattle.ubi_scan.specs.Source.{Narrows};
-ghost use Rattle.ubi_commands.specs.AfterRun.{WhereNotDone, after_run};
+ghost use Rattle.ubi_files.specs.AfterRun.{WhereNotDone, after_run};
 ghost use Rattle.ubi_commands.specs.Change.{Changes, ChangesFrom, IsChangeFault, cause_line};
 
-use crate::lines::refused;
-use crate::outcome::{FAILED, Outcome, ToolError};
 use crate::plan::{carry_out, not_blank_line, with_file};
 use std::alloc::{AllocError, Global};
 use std::io::Write;
 use ubi_change::{Avoided, ChangeRefusal, PlanError, plan_change_from};
+use ubi_files::{FAILED, Outcome, ToolError, refused};
 use ubi_media::Geometry;
 use ubi_scan::{BlockSource, MemorySource};
 

@@ -4,12 +4,11 @@ ghost use Rattle.std.specs.Prelude.{◌≡◌, ◌++◌, IfErr, IfOk, OnOk, code
 ghost use Rattle.std.specs.List.{flat_map};
 ghost use Rattle.ubi_scan.specs.Image.{image_of};
 ghost use Rattle.ubi_scan.specs.Source.{Narrows, WhereHeld};
-ghost use Rattle.ubi_commands.specs.AfterRun.{IsNoWrite, after_run};
+ghost use Rattle.ubi_files.specs.AfterRun.{IsNoWrite, after_run};
 ghost use Rattle.ubi_commands.specs.Check.{Checks, ChecksFrom, check_lines, number_line, printed_states, same_state, state_line, state_word};
 
-use crate::lines::{put_number, put_word, refusal_line};
-use crate::outcome::{DONE, FAILED, Outcome, ToolError, in_memory};
 use std::alloc::{AllocError, Global};
+use ubi_files::{DONE, FAILED, Outcome, ToolError, in_memory, put_number, put_word, refusal_line};
 use ubi_media::Geometry;
 use ubi_scan::{BlockSource, MemorySource, StreamError};
 use ubi_volume::{BlockState, Surveyed, survey_from};

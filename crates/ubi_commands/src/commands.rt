@@ -2,17 +2,16 @@
 
 ghost use Rattle.clap.specs.Values.{kind_of};
 ghost use Rattle.std.specs.Prelude.{◌≡◌, ◌↔◌, [], IfOk, IfSome, IsErr, None, OnErr, map, string_bytes};
-ghost use Rattle.ubi_commands.specs.Answer.{Gives, says};
-ghost use Rattle.ubi_commands.specs.Disk.{AllStay};
+ghost use Rattle.ubi_files.specs.Answer.{Gives, says};
+ghost use Rattle.ubi_files.specs.Disk.{AllStay};
 ghost use Rattle.ubi_commands.specs.Commands.{IsAllElse, IsAnswer, IsAnswerTo};
 
 use crate::command_line::tool_command;
-use crate::disk::Disk;
-use crate::outcome::{Outcome, nothing};
 use crate::requests::{Request, request_of, run_request, why_unasked};
 use clap::Error;
 use clap::error::ErrorKind;
 use std::alloc::{AllocError, Global};
+use ubi_files::{Disk, Outcome, nothing};
 
 /// Runs the command that the words name, over files. The first word is the program's name. Where somebody watches the
 /// standard error, it is told there how far long work is.

@@ -2,18 +2,16 @@
 
 ghost use Rattle.std.specs.Prelude.{◌≡◌, IfOk, OnErr};
 ghost use Rattle.ubi_commands.specs.Compose.{Composes, ComposesInto, ComposesOf, meaning_line, room_line, spec_line};
-ghost use Rattle.ubi_commands.specs.Disk.{AllStay, OthersStay, Stays};
+ghost use Rattle.ubi_files.specs.Disk.{AllStay, OthersStay, Stays};
 ghost use Rattle.ubi_commands.specs.Program.{OfText};
 
 use crate::asked::NewImage;
-use crate::disk::Disk;
-use crate::lines::{blocks_line, refused};
-use crate::numbers::Numbers;
-use crate::outcome::{DONE, FAILED, Outcome};
+use crate::lines::blocks_line;
 use crate::output_file::write_outcome;
 use crate::spec_file::load_spec;
 use std::alloc::{AllocError, Global};
 use ubi_compose::{ComposeError, SpecCause, SpecError, compose, parse_spec};
+use ubi_files::{DONE, Disk, FAILED, Numbers, Outcome, refused};
 use ubi_media::Geometry;
 use ubi_volume::{Meaning, MeaningCause};
 

@@ -4,27 +4,27 @@ ghost use Rattle.std.specs.Option.{ForSome, IsSomeAnd};
 ghost use Rattle.std.specs.Prelude.{◌≡◌, ◌≢◌, ◌+◌, ◌^◌, ◌≤◌, ◌⊎◌, IfErr, IfOk, IfSome, IsOkAnd, None, [], codes, drop, length, take, true};
 ghost use Rattle.ubi_scan.specs.Source.{Narrows, holds, memory};
 ghost use Rattle.ubi_detect.specs.declared.detect.Detected.{Detected};
-ghost use Rattle.ubi_commands.specs.Answer.{Gives, says};
-ghost use Rattle.ubi_commands.specs.Dump.{greatest_dump, misfit_of, seen, told_dump};
-ghost use Rattle.ubi_commands.specs.inner.Kept.{IsPartOf};
-ghost use Rattle.ubi_commands.specs.Lines.{file_line, undetected_side_line};
-ghost use Rattle.ubi_commands.specs.inner.Opened.{IsAtPlaces, IsOpened, IsUnreadOf, WhereAtPlaces};
-ghost use Rattle.ubi_commands.specs.Program.{IsDump, IsToldFirst, IsUnseen, IsUntold, TellsNothing};
-ghost use Rattle.ubi_commands.specs.inner.FileAnswers.{Tells};
+ghost use Rattle.ubi_files.specs.Answer.{Gives, says};
+ghost use Rattle.ubi_files.specs.Dump.{greatest_dump, misfit_of, seen};
+ghost use Rattle.ubi_commands.specs.Program.{told_dump};
+ghost use Rattle.ubi_files.specs.Kept.{IsPartOf};
+ghost use Rattle.ubi_files.specs.Lines.{file_line};
+ghost use Rattle.ubi_commands.specs.Lines.{undetected_side_line};
+ghost use Rattle.ubi_files.specs.Opened.{IsAtPlaces, IsOpened, IsUnreadOf, WhereAtPlaces};
+ghost use Rattle.ubi_commands.specs.Program.{IsDump, IsToldFirst, IsUntold, TellsNothing};
+ghost use Rattle.ubi_files.specs.OverFile.{IsUnseen};
+ghost use Rattle.ubi_files.specs.Told.{Tells};
 ghost use Rattle.ubi_commands.specs.declared.asked.Asked.TheVariants as asked;
 ghost use Rattle.ubi_commands.specs.inner.Ended.{Works};
 
-use crate::asked::{Asked, Dump, Paths, Sought};
-use crate::disk::Disk;
-use crate::image_file::{ImageFile, Unread, unread_file};
+use crate::asked::{Asked, Paths, Sought};
 use crate::lines::undetected_side_line;
-use crate::numbers::Numbers;
-use crate::open_image::{DumpSource, Frame, OpenImage, Seen, frame_of, open_beside, open_image};
-use crate::outcome::{FAILED, Outcome, ToolError};
-use crate::view::FilePart;
-use crate::whole_dump::see_kept;
 use std::alloc::{AllocError, Global};
 use ubi_detect::{DetectError, Detected, Undetected, detect_from};
+use ubi_files::{
+    Disk, Dump, DumpSource, FAILED, FilePart, Frame, ImageFile, Numbers, OpenImage, Outcome, Seen,
+    ToolError, Unread, frame_of, open_beside, open_dump, see_kept, unread_file,
+};
 use ubi_scan::{BlockSource, MemorySource, PlacedFile};
 
 /// A dump of which it is known how it is read.
@@ -201,7 +201,7 @@ fn seek_dump<'a, D: Disk>(
     ensures untold { IfErr result (Tells (IsUntold (D.files disk.now) path.now side.now (asked.Sought sought.now))) }
 {
     let frame = frame_of(alloc, &Dump::greatest(sought.part))?;
-    match open_image(disk, alloc, &frame, path)? {
+    match open_dump(disk, alloc, &frame, path)? {
         OpenImage::AtPlaces(mut file) => {
             seek_at_places(alloc, sought, &mut file.source, path, side)
         }
@@ -232,11 +232,11 @@ pub fn find_dump<'a, D: Disk>(
     }
 }
 
-/// Opens the image of a path, as [`open_image`] does. What is kept of its part isn't read again.
+/// Opens the image of a path, as [`open_dump`] does. What is kept of its part isn't read again.
 ///
 /// # Errors
 ///
-/// Those of [`open_image`].
+/// Those of [`open_dump`].
 pub fn open_known<'f, D: Disk>(
     disk: &D,
     alloc: Global,
@@ -251,7 +251,7 @@ pub fn open_known<'f, D: Disk>(
 {
     match kept {
         Some(bytes) => Ok(OpenImage::Whole(see_kept(alloc, frame, bytes, path)?)),
-        None => open_image(disk, alloc, frame, path),
+        None => open_dump(disk, alloc, frame, path),
     }
 }
 
@@ -259,7 +259,7 @@ pub fn open_known<'f, D: Disk>(
 ///
 /// # Errors
 ///
-/// Those of [`open_image`].
+/// Those of [`open_dump`].
 pub fn open_known_beside<'f, D: Disk>(
     disk: &D,
     alloc: Global,

@@ -4,21 +4,17 @@ ghost use Rattle.std.specs.Prelude.{◌≡◌, ◌++◌, ◌<◌, ◌^◌, ◌�
 ghost use Rattle.ubi_media.specs.Geometry.{Sizes};
 ghost use Rattle.ubi_config.specs.Records.{record_in};
 ghost use Rattle.ubi_config.specs.declared.section.Section.{Section};
-ghost use Rattle.ubi_commands.specs.Answer.{Gives, says};
+ghost use Rattle.ubi_files.specs.Answer.{Gives, says};
 ghost use Rattle.ubi_commands.specs.Build.{AreBesideOut, AreGathered, IsNoVolume, IsUngathered, config_line};
 ghost use Rattle.ubi_commands.specs.inner.Gathering.{AreUnread};
-ghost use Rattle.ubi_commands.specs.inner.FileAnswers.{Tells};
+ghost use Rattle.ubi_files.specs.Told.{Tells};
 ghost use Rattle.ubi_commands.specs.inner.Gathering.{IsFound, IsPartOf, listed};
 
-use crate::disk::Disk;
-use crate::file_row::SizedFile;
-use crate::image_file::{Unread, unread_line};
-use crate::lines::refused;
-use crate::outcome::{FAILED, Outcome};
 use std::alloc::{AllocError, Global};
 use std::path::Path;
 use ubi_compose::Part;
 use ubi_config::{ConfigCause, ConfigError, Section};
+use ubi_files::{Disk, FAILED, Outcome, SizedFile, Unread, refused, unread_line};
 use ubi_media::Geometry;
 use ubi_scan::PlacedFile;
 

@@ -2,16 +2,17 @@
 
 ghost use Rattle.std.specs.Prelude.{◌≡◌, ◌+◌, ◌++◌, IfErr, IfOk, OnOk, codes, decimal};
 ghost use Rattle.ubi_scan.specs.Source.{Narrows, WhereHeld};
-ghost use Rattle.ubi_commands.specs.AfterRun.{IsNoWrite, after_run};
+ghost use Rattle.ubi_files.specs.AfterRun.{IsNoWrite, after_run};
 ghost use Rattle.ubi_commands.specs.Geometry.{Detects, DetectsFrom, is_whole_file, oob_option, options, options_line, options_lines, part_options, sizes_options};
-ghost use Rattle.ubi_commands.specs.Views.{whole_file};
+ghost use Rattle.ubi_files.specs.Views.{whole_file};
 
-use crate::lines::{put_number, put_word, undetected_line};
-use crate::outcome::{DONE, FAILED, Outcome, ToolError, in_memory};
-use crate::view::{FilePart, WHOLE_FILE};
+use crate::lines::undetected_line;
 use itoa::Buffer;
 use std::alloc::{AllocError, Global};
 use ubi_detect::{DetectError, Detected, detect_from};
+use ubi_files::{
+    DONE, FAILED, FilePart, Outcome, ToolError, WHOLE_FILE, in_memory, put_number, put_word,
+};
 use ubi_media::Geometry;
 use ubi_scan::{BlockSource, MemorySource};
 

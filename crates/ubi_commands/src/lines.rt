@@ -1,53 +1,14 @@
 //! Printed lines.
 
-ghost use Rattle.std.specs.Prelude.{◌≡◌, ◌+◌, ◌++◌, ◌≤◌, IfOk, IfSome, IsOk, OnOk, codes, decimal, length, unwrap_or, vec_capacity, vec_len};
-ghost use Rattle.ubi_commands.specs.Lines.{blocks_line, bytes_line, comparison_line, file_line, geometry_line, layout_words, misfit_line, no_block_line, refusal_line, refused_line, side_line, undetected_line, undetected_side_line, unlike_line};
-ghost use Rattle.ubi_commands.specs.Numbers.{sizes_of};
+ghost use Rattle.std.specs.Prelude.{◌≡◌, ◌+◌, ◌++◌, ◌≤◌, IfOk, IsOk, OnOk, codes, decimal, length, unwrap_or, vec_capacity, vec_len};
+ghost use Rattle.ubi_commands.specs.Lines.{blocks_line, bytes_line, comparison_line, layout_words, no_block_line, side_line, undetected_line, undetected_side_line, unlike_line};
+ghost use Rattle.ubi_files.specs.Numbers.{sizes_of};
 
-use crate::numbers::Numbers;
-use crate::view::Misfit;
 use itoa::Buffer;
 use std::alloc::{AllocError, Global};
-use std::fmt;
 use ubi_detect::Undetected;
-use ubi_media::{GeometryError, Refusal};
-
-/// Adds a word.
-pub fn put_word(text: &mut Vec<u8>, word: &str) -> Result<(), AllocError>
-    ensures { OnOk result (text.new.items ≡ text.old.items ++ word.now) }
-{
-    text.extend_from_slice(word.as_bytes())
-}
-
-/// Adds a word and a decimal number.
-pub fn put_number(text: &mut Vec<u8>, word: &str, number: u64) -> Result<(), AllocError>
-    ensures { OnOk result (text.new.items ≡ text.old.items ++ (word.now ++ decimal number)) }
-{
-    let mut buffer = Buffer::new();
-    put_word(text, word)?;
-    put_word(text, buffer.format(number))
-}
-
-/// The line of a refusal, by what is printed of its cause.
-pub fn refused<C: fmt::Display>(alloc: Global, cause: &C) -> Result<Vec<u8>, AllocError>
-    ensures { IfOk result (λ line. IfSome (C.output cause.now) (λ text. line.items ≡ refused_line text)) }
-{
-    Ok(format!(in alloc; "refused {cause}\n")?.into_bytes())
-}
-
-/// The line of a limit that a geometry breaks.
-pub fn geometry_line(alloc: Global, limit: GeometryError) -> Result<Vec<u8>, AllocError>
-    ensures { IfOk result (λ text. text.items ≡ geometry_line limit) }
-{
-    refused(alloc, &limit)
-}
-
-/// The line of an image that is refused.
-pub fn refusal_line(alloc: Global, cause: Refusal) -> Result<Vec<u8>, AllocError>
-    ensures { IfOk result (λ text. text.items ≡ refusal_line cause) }
-{
-    refused(alloc, &cause)
-}
+use ubi_files::{Numbers, put_number, put_word, refusal_line, refused};
+use ubi_media::Refusal;
 
 /// The line of a file of which no geometry is told.
 pub fn undetected_line(alloc: Global, why: Undetected) -> Result<Vec<u8>, AllocError>
@@ -100,13 +61,6 @@ pub fn unlike_line(alloc: Global, left: Numbers, right: Numbers) -> Result<Vec<u
     put_layout(&mut text, right)?;
     put_word(&mut text, "\n")?;
     Ok(text)
-}
-
-/// The line of a file that can't be seen as the words tell.
-pub fn misfit_line(alloc: Global, misfit: Misfit) -> Result<Vec<u8>, AllocError>
-    ensures { IfOk result (λ text. text.items ≡ misfit_line misfit) }
-{
-    refused(alloc, &misfit)
 }
 
 /// The line of one of two images that is refused, behind the side on which it stands.
@@ -176,15 +130,5 @@ pub fn blocks_line(alloc: Global, count: usize) -> Result<Vec<u8>, AllocError>
 {
     let mut text = Vec::new(alloc);
     put_blocks_line(&mut text, count as u64)?;
-    Ok(text)
-}
-
-/// The line of a file that fails: what can't be done with it, and its path.
-pub fn file_line(alloc: Global, cannot: &str, path: &str) -> Result<Vec<u8>, AllocError>
-    ensures { IfOk result (λ text. text.items ≡ file_line cannot.now path.now) }
-{
-    let mut text = Vec::from_slice(alloc, cannot.as_bytes())?;
-    put_word(&mut text, path)?;
-    put_word(&mut text, "\n")?;
     Ok(text)
 }

@@ -8,13 +8,14 @@ ghost use Rattle.ubi_media.specs.Record.{rec_fault};
 ghost use Rattle.ubi_scan.specs.Image.{image_of};
 ghost use Rattle.ubi_scan.specs.Source.{Narrows, WhereHeld};
 ghost use Rattle.ubi_volume.specs.Places.{ArePlaces, ArePlacesOf};
-ghost use Rattle.ubi_commands.specs.AfterRun.{IsNoWrite, after_run};
+ghost use Rattle.ubi_files.specs.AfterRun.{IsNoWrite, after_run};
 ghost use Rattle.ubi_commands.specs.List.{Lists, ListsFrom, amount_word, kind_word, list_lines, record_line, record_words, room_words, shown, shown_byte, sizes_line, volume_line};
 
-use crate::lines::{put_layout, put_number, put_word, refusal_line};
-use crate::numbers::Numbers;
-use crate::outcome::{DONE, FAILED, Outcome, ToolError, in_memory};
+use crate::lines::put_layout;
 use std::alloc::{AllocError, Global};
+use ubi_files::{
+    DONE, FAILED, Numbers, Outcome, ToolError, in_memory, put_number, put_word, refusal_line,
+};
 use ubi_media::{Geometry, VolKind, VolumeRecord};
 use ubi_scan::{BlockSource, MemorySource, StreamError};
 use ubi_volume::{Amount, Places, amount_of, attach_places};

@@ -3,18 +3,15 @@
 ghost use Rattle.std.specs.Io.KnownBytes.{Appends};
 ghost use Rattle.std.specs.Option.{ForSome};
 ghost use Rattle.std.specs.Prelude.{◌≡◌, IfOk, IsSome, None, OnErr, OnOk, Some, codes, true};
-ghost use Rattle.ubi_commands.specs.Answer.{Gives, says};
-ghost use Rattle.ubi_commands.specs.Disk.{AllStay, IsKept, OthersStay, Receives, Stays, fresh};
-ghost use Rattle.ubi_commands.specs.inner.Late.{contents_of};
-ghost use Rattle.ubi_commands.specs.Lines.{file_line};
+ghost use Rattle.ubi_files.specs.Answer.{Gives, says};
+ghost use Rattle.ubi_files.specs.Disk.{AllStay, IsKept, OthersStay, Receives, Stays, fresh};
+ghost use Rattle.ubi_files.specs.Late.{contents_of};
+ghost use Rattle.ubi_files.specs.Lines.{file_line};
 ghost use Rattle.ubi_commands.specs.inner.FileAnswers.{WritesFile};
 
-use crate::disk::{Disk, OutputFile};
-use crate::late_file::{LateFile, Target};
-use crate::lines::file_line;
-use crate::outcome::{FAILED, Outcome, ToolError};
 use std::alloc::{AllocError, Global};
 use std::marker::Brand;
+use ubi_files::{Disk, FAILED, LateFile, Outcome, OutputFile, Target, ToolError, file_line};
 use ubi_volume::write_all;
 
 /// The line of a file that can't be written.

@@ -6,17 +6,16 @@ ghost use Rattle.ubi_change.specs.Fitting.{AllWithin};
 ghost use Rattle.ubi_change.specs.Pages.{programmed};
 ghost use Rattle.ubi_scan.specs.Image.{IsWholeSize};
 ghost use Rattle.ubi_scan.specs.Source.{Narrows, blocks_in};
-ghost use Rattle.ubi_commands.specs.AfterRun.{WhereNotDone, after_run};
-ghost use Rattle.ubi_commands.specs.Answer.{Gives, says};
+ghost use Rattle.ubi_files.specs.AfterRun.{WhereNotDone, after_run};
+ghost use Rattle.ubi_files.specs.Answer.{Gives, says};
 ghost use Rattle.ubi_commands.specs.Plan.{IsCarryFault, cut_text, not_blank_line, plan_lines, step_line, step_words, steps_done};
 ghost use Rattle.ubi_commands.specs.inner.Planning.{AreCut, HasFile};
 ghost use Rattle.ubi_volume.specs.Wrote.{All, Wrote};
 
-use crate::lines::{put_number, put_word, refused};
-use crate::outcome::{DONE, Outcome, ToolError};
 use std::alloc::{AllocError, Global};
 use std::io::Write;
 use ubi_change::{ChangeRefusal, PlanError, Step, write_after};
+use ubi_files::{DONE, Outcome, ToolError, put_number, put_word, refused};
 use ubi_media::Geometry;
 use ubi_scan::{BlockSource, StreamError};
 

@@ -3,23 +3,23 @@
 ghost use Rattle.std.specs.Option.{ForSome};
 ghost use Rattle.std.specs.Prelude.{◌≡◌, ◌≢◌, ◌⊎◌, IfOk, None, OnErr, Some, true};
 ghost use Rattle.ubi_commands.specs.Change.{ChangesFrom, HasPlan};
-ghost use Rattle.ubi_commands.specs.Disk.{AllStay, Files, OthersStay, Receives, Stays};
-ghost use Rattle.ubi_commands.specs.Dump.{seen};
-ghost use Rattle.ubi_commands.specs.inner.Opened.{IsOpened, IsUnreadOf};
-ghost use Rattle.ubi_commands.specs.Program.{OfFile, OfImage, PlanStays, WithList, WritesPlan, avoided};
+ghost use Rattle.ubi_files.specs.Disk.{AllStay, Files, OthersStay, Receives, Stays};
+ghost use Rattle.ubi_files.specs.Dump.{seen};
+ghost use Rattle.ubi_files.specs.Opened.{IsOpened, IsUnreadOf};
+ghost use Rattle.ubi_files.specs.OverFile.{OfFile, OfImage};
+ghost use Rattle.ubi_commands.specs.Program.{PlanStays, WithList, WritesPlan, avoided};
 ghost use Rattle.ubi_commands.specs.Rename.{HasRename, RenamesFrom};
 ghost use Rattle.ubi_commands.specs.inner.Writes.{HasWork, writes};
 
-use crate::asked::{Change, Dump, Paths, Plan, Rename};
+use crate::asked::{Change, Paths, Plan, Rename};
 use crate::change::NewBytes;
-use crate::disk::Disk;
-use crate::image_file::load;
-use crate::open_image::{DumpSource, OpenImage, Seen, frame_of, open_beside};
-use crate::outcome::{DONE, Outcome, nothing};
 use crate::output_file::{Output, unwritten_line, write_bytes};
 use crate::writers::{Way, Writing, write_opened};
 use std::alloc::{AllocError, Global};
 use ubi_change::Avoided;
+use ubi_files::{
+    DONE, Disk, Dump, DumpSource, OpenImage, Outcome, Seen, frame_of, load, nothing, open_beside,
+};
 use ubi_scan::PlacedFile;
 
 /// What is said of a device whose bad eraseblocks nobody lists.

@@ -5,9 +5,9 @@ ghost use Rattle.std.specs.Prelude.{◌≡◌, ℕ, ◌<◌, IfOk, OnErr, OnOk, 
 ghost use Rattle.std.specs.Result.{result_unwrap_or};
 ghost use Rattle.ubi_commands.specs.Printed.{IsReported, printed_text, status_of};
 
-use crate::outcome::{FAILED, Outcome};
 use std::alloc::AllocError;
 use std::io::Write;
+use ubi_files::{FAILED, Outcome};
 use ubi_volume::write_all;
 
 /// That the text wasn't printed whole.

@@ -4,30 +4,30 @@ ghost use Rattle.std.specs.Bool.{Decides};
 ghost use Rattle.std.specs.Option.{ForSome};
 ghost use Rattle.std.specs.Prelude.{◌≡◌, IfErr, IfOk};
 ghost use Rattle.ubi_scan.specs.Source.{Narrows};
-ghost use Rattle.ubi_commands.specs.AfterRun.{IsNoWrite, after_run};
+ghost use Rattle.ubi_files.specs.AfterRun.{IsNoWrite, after_run};
 ghost use Rattle.ubi_commands.specs.inner.Ended.{IsToldOfSides, Works};
-ghost use Rattle.ubi_commands.specs.Answer.{Gives, says};
-ghost use Rattle.ubi_commands.specs.inner.Kept.{IsPartOf};
+ghost use Rattle.ubi_files.specs.Answer.{Gives, says};
+ghost use Rattle.ubi_files.specs.Kept.{IsPartOf};
 ghost use Rattle.ubi_commands.specs.Lines.{unlike_line};
-ghost use Rattle.ubi_commands.specs.Numbers.{sizes_of};
-ghost use Rattle.ubi_commands.specs.Program.{OfAsked, OfBoth, OfFile};
+ghost use Rattle.ubi_files.specs.Numbers.{sizes_of};
+ghost use Rattle.ubi_commands.specs.Program.{OfAsked, OfBoth};
+ghost use Rattle.ubi_files.specs.OverFile.{OfFile};
 ghost use Rattle.ubi_commands.specs.Same.{ComparesOf};
 ghost use Rattle.ubi_commands.specs.Reads.{reads};
 
-use crate::asked::{Asked, Dump};
+use crate::asked::Asked;
 use crate::check::run_check_from;
-use crate::disk::Disk;
 use crate::finding::{KnownDump, find_dump, open_known};
 use crate::geometry::run_geometry_from;
-use crate::image_file::{told, unread_line};
 use crate::lines::unlike_line;
 use crate::list::run_list_from;
-use crate::open_image::{OpenImage, frame_of};
-use crate::outcome::{FAILED, Outcome, SidesError, ToolError};
 use crate::same::run_same_from;
 use crate::show::run_show_from;
-use crate::view::FilePart;
 use std::alloc::{AllocError, Global};
+use ubi_files::{
+    Disk, Dump, FAILED, FilePart, OpenImage, Outcome, SidesError, ToolError, frame_of, told,
+    unread_line,
+};
 use ubi_media::Geometry;
 use ubi_scan::{BlockSource, MemorySource};
 

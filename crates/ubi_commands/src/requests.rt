@@ -4,27 +4,24 @@ ghost use Rattle.clap.specs.Simple.{subcommand_rows_of};
 ghost use Rattle.std.specs.Prelude.{◌≡◌, IfOk, OnErr, codes};
 ghost use Rattle.ubi_commands.specs.inner.CommandLine.{IsOneOf};
 ghost use Rattle.ubi_commands.specs.Commands.{IsAllElse, IsAnswerTo, IsRequest};
-ghost use Rattle.ubi_commands.specs.Disk.{AllStay};
+ghost use Rattle.ubi_files.specs.Disk.{AllStay};
 ghost use Rattle.ubi_commands.specs.inner.CommandLine.{IsAskedBy, words_in};
 
 use crate::asked::{
-    Asked, Change, Dump, Extract, NewImage, Paths, Rename, are_listed, asked_of, blank_of, dump_of,
+    Asked, Change, Extract, NewImage, Paths, Rename, are_listed, asked_of, blank_of, dump_of,
     gives_no_geometry, leb_change, new_image, number_of, numbers_of, part_of, paths_of, text_of,
     volume_extract, volume_rename,
 };
 use crate::build::build_file;
 use crate::compose::compose_file;
-use crate::disk::Disk;
 use crate::finding::KnownDump;
-use crate::numbers::Numbers;
-use crate::outcome::Outcome;
 use crate::planners::{change_file, rename_file};
 use crate::readers::{Reading, read_dump, read_file, same_files};
 use crate::unpack::unpack_file;
-use crate::view::FilePart;
 use crate::writers::{Writing, write_file};
 use clap::ArgMatches;
 use std::alloc::{AllocError, Global};
+use ubi_files::{Disk, Dump, FilePart, Numbers, Outcome};
 
 const ONE_VOLUME: &str = "error: either '--id <N>' or '--name <NAME>' names the volume, and not both
 

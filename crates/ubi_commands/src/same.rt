@@ -4,15 +4,15 @@ ghost use Rattle.std.specs.Prelude.{◌≡◌, IfErr, IfOk};
 ghost use Rattle.ubi_scan.specs.Image.{image_of};
 ghost use Rattle.ubi_scan.specs.Source.{Narrows};
 ghost use Rattle.ubi_compose.specs.Compared.{WhereBothHeld};
-ghost use Rattle.ubi_commands.specs.AfterRun.{after_left, after_right};
-ghost use Rattle.ubi_commands.specs.Answer.{Gives, says};
+ghost use Rattle.ubi_files.specs.AfterRun.{after_left, after_right};
+ghost use Rattle.ubi_files.specs.Answer.{Gives, says};
 ghost use Rattle.ubi_commands.specs.Lines.{comparison_line};
 ghost use Rattle.ubi_commands.specs.Same.{Compares, ComparesFrom, comparison_status};
 
 use crate::lines::{comparison_line, side_line};
-use crate::outcome::{DONE, FAILED, Outcome, SidesError};
 use std::alloc::{AllocError, Global};
 use ubi_compose::{SameFault, same_from};
+use ubi_files::{DONE, FAILED, Outcome, SidesError};
 use ubi_media::Geometry;
 use ubi_scan::{BlockSource, MemorySource, StreamError};
 

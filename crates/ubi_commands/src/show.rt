@@ -4,12 +4,12 @@ ghost use Rattle.std.specs.Prelude.{◌≡◌, ◌<◌, ◌≤◌, ◌+◌, ◌+
 ghost use Rattle.hex.specs.Hex.{encode_lower};
 ghost use Rattle.ubi_scan.specs.Image.{block, image_of};
 ghost use Rattle.ubi_scan.specs.Source.{Narrows, WhereHeld, blocks_in, blocks_of};
-ghost use Rattle.ubi_commands.specs.AfterRun.{IsNoWrite, after_run};
+ghost use Rattle.ubi_files.specs.AfterRun.{IsNoWrite, after_run};
 ghost use Rattle.ubi_commands.specs.Show.{AreHeaderLines, Shows, ShowsFrom, block_lines, ec_state, header_lines, vid_state};
 
-use crate::lines::{no_block_line, put_word, refusal_line};
-use crate::outcome::{DONE, FAILED, Outcome, ToolError, in_memory};
+use crate::lines::no_block_line;
 use std::alloc::{AllocError, Global};
+use ubi_files::{DONE, FAILED, Outcome, ToolError, in_memory, put_word, refusal_line};
 use ubi_media::{EcRead, Geometry, VidRead, read_ec, read_vid};
 use ubi_scan::{BlockSource, MemorySource, block_count, read_part};
 

@@ -3,19 +3,18 @@
 ghost use Rattle.std.specs.Io.KnownBytes.{Consumes};
 ghost use Rattle.std.specs.Prelude.{◌≡◌, ◌≢◌, ◌+◌, ◌≤◌, IfErr, IfOk, IfSome, None, OnErr, length, vec_len};
 ghost use Rattle.ubi_media.specs.Limits.{first_broken};
-ghost use Rattle.ubi_commands.specs.Disk.{IsTextOf};
-ghost use Rattle.ubi_commands.specs.Numbers.{sizes_of};
-ghost use Rattle.ubi_commands.specs.Program.{IsUnread, text_limit};
-ghost use Rattle.ubi_commands.specs.inner.FileAnswers.{Tells};
-ghost use Rattle.ubi_commands.specs.Read.{TakesAtMost};
+ghost use Rattle.ubi_files.specs.Disk.{IsTextOf};
+ghost use Rattle.ubi_files.specs.Numbers.{sizes_of};
+ghost use Rattle.ubi_files.specs.OverFile.{IsUnread};
+ghost use Rattle.ubi_commands.specs.Program.{text_limit};
+ghost use Rattle.ubi_files.specs.Told.{Tells};
+ghost use Rattle.ubi_files.specs.Read.{TakesAtMost};
 
-use crate::disk::{Disk, WholeFile};
-use crate::image_file::{Unread, allowed_geometry, unread_file};
-use crate::numbers::Numbers;
-use crate::outcome::ToolError;
-use crate::read::read_limited;
 use std::alloc::Global;
 use std::io::Read;
+use ubi_files::{
+    Disk, Numbers, ToolError, Unread, WholeFile, allowed_geometry, read_limited, unread_file,
+};
 use ubi_media::Geometry;
 
 /// A text, and the geometry that the words give the image.

@@ -9,27 +9,27 @@ ghost use Rattle.ubi_scan.specs.Source.{Narrows, WhereHeld};
 ghost use Rattle.ubi_volume.specs.Extract.{extent_in, extent_len};
 ghost use Rattle.ubi_volume.specs.Places.{ArePlaces, ArePlacesOf};
 ghost use Rattle.ubi_volume.specs.Reading.{read_volume};
-ghost use Rattle.ubi_commands.specs.AfterRun.{IsNoWrite, after_run};
-ghost use Rattle.ubi_commands.specs.inner.FileAnswers.{IsTold};
-ghost use Rattle.ubi_commands.specs.Answer.{Gives, says};
-ghost use Rattle.ubi_commands.specs.Disk.{AllStay, OthersStay, OutsideStay};
-ghost use Rattle.ubi_commands.specs.Lines.{file_line};
-ghost use Rattle.ubi_commands.specs.inner.Kept.{IsPartOf};
-ghost use Rattle.ubi_commands.specs.Program.{OfAsked, OfFile};
+ghost use Rattle.ubi_files.specs.AfterRun.{IsNoWrite, after_run};
+ghost use Rattle.ubi_files.specs.Told.{IsTold};
+ghost use Rattle.ubi_files.specs.Answer.{Gives, says};
+ghost use Rattle.ubi_files.specs.Disk.{AllStay, OthersStay, OutsideStay};
+ghost use Rattle.ubi_files.specs.Lines.{file_line};
+ghost use Rattle.ubi_files.specs.Kept.{IsPartOf};
+ghost use Rattle.ubi_commands.specs.Program.{OfAsked};
+ghost use Rattle.ubi_files.specs.OverFile.{OfFile};
 ghost use Rattle.ubi_commands.specs.Unpack.{AreUnpacked, IsUnpacked, Unpacks, UnpacksFrom, UnpacksOf, file_byte, file_path, unpacked_amount, unpacked_line, unpacked_lines, unpacked_status};
 ghost use Rattle.ubi_commands.specs.inner.Folder.{AreFilesOf, Ends, IsFileOf};
 
 use crate::asked::{Asked, Paths};
-use crate::disk::Disk;
 use crate::finding::{KnownDump, find_dump, open_known};
-use crate::image_file::unread_line;
-use crate::lines::{put_number, put_word, refusal_line};
 use crate::list::{put_amount, put_shown};
-use crate::open_image::{OpenImage, frame_of};
-use crate::outcome::{DONE, FAILED, Outcome, ToolError};
 use crate::output_file::unwritten_line;
 use itoa::Buffer;
 use std::alloc::{AllocError, Global};
+use ubi_files::{
+    DONE, Disk, FAILED, OpenImage, Outcome, ToolError, frame_of, put_number, put_word,
+    refusal_line, unread_line,
+};
 use ubi_media::{Geometry, VolumeRecord};
 use ubi_scan::{BlockSource, FileSource, MemorySource, StreamError};
 use ubi_volume::{Amount, Extent, Places, ReadError, attach_places, write_places};

@@ -5,37 +5,36 @@
 ghost use Rattle.std.specs.Option.{ForSome};
 ghost use Rattle.std.specs.Prelude.{◌≡◌, ◌≢◌, [], ℕ, Bool, Err, IfOk, List, MatchResult, Ok, OnErr, Option, Result, codes, false, is_some};
 ghost use Rattle.ubi_scan.specs.Source.{Narrows};
-ghost use Rattle.ubi_commands.specs.AfterRun.{WhereNotDone, after_run};
-ghost use Rattle.ubi_commands.specs.Answer.{Gives, says};
-ghost use Rattle.ubi_commands.specs.Lines.{file_line};
-ghost use Rattle.ubi_commands.specs.Disk.{AllStay, Files, OthersStay, fresh};
-ghost use Rattle.ubi_commands.specs.inner.Late.{contents_of};
-ghost use Rattle.ubi_commands.specs.Dump.{seen};
-ghost use Rattle.ubi_commands.specs.inner.Kept.{IsPartOf};
-ghost use Rattle.ubi_commands.specs.inner.Opened.{IsOpened, IsUnreadOf};
+ghost use Rattle.ubi_files.specs.AfterRun.{WhereNotDone, after_run};
+ghost use Rattle.ubi_files.specs.Answer.{Gives, says};
+ghost use Rattle.ubi_files.specs.Lines.{file_line};
+ghost use Rattle.ubi_files.specs.Disk.{AllStay, Files, OthersStay, fresh};
+ghost use Rattle.ubi_files.specs.Late.{contents_of};
+ghost use Rattle.ubi_files.specs.Dump.{seen};
+ghost use Rattle.ubi_files.specs.Kept.{IsPartOf};
+ghost use Rattle.ubi_files.specs.Opened.{IsOpened, IsUnreadOf};
 ghost use Rattle.ubi_commands.specs.inner.Ended.{IsEnded, Works};
-ghost use Rattle.ubi_commands.specs.Program.{OfAsked, OfFile, WritesInto};
+ghost use Rattle.ubi_commands.specs.Program.{OfAsked, WritesInto};
+ghost use Rattle.ubi_files.specs.OverFile.{OfFile};
 ghost use Rattle.ubi_commands.specs.inner.Writes.{HasWork, writes};
-ghost use Rattle.ubi_commands.specs.declared.asked.Dump.{Dump};
+ghost use Rattle.ubi_files.specs.declared.dump.Dump.{Dump};
 
 use crate::asked::{Asked, Paths};
 use crate::change::{NewBytes, run_change_from};
-use crate::disk::Disk;
 use crate::extract::run_extract_from;
 use crate::finding::{KnownDump, find_dump, open_known_beside};
-use crate::image_file::unread_line;
-use crate::late_file::{LateFile, Target};
 use crate::normalise::run_normalise;
-use crate::open_image::{DumpSource, OpenImage, Seen, frame_of};
-use crate::outcome::{DONE, Outcome, ToolError};
 use crate::output_file::{keep_file, unwritten_line};
-use crate::progress::ProgressWriter;
 use crate::rename::run_rename_from;
 use crate::volume_key::VolumeKey;
 use std::alloc::{AllocError, Global};
 use std::io::Write;
 use std::marker::Brand;
 use ubi_change::Avoided;
+use ubi_files::{
+    DONE, Disk, DumpSource, LateFile, OpenImage, Outcome, ProgressWriter, Seen, Target, ToolError,
+    frame_of, unread_line,
+};
 use ubi_media::Geometry;
 use ubi_scan::{BlockSource, MemorySource, PlacedFile};
 

@@ -1,6 +1,5 @@
 -- An eraseblock that was laid out is read back.
-use Rattle.ubi_compose.proofs.Prelude.{◌≡◌, ℕ, ◌+◌, ◌-◌, ◌^◌, ◌<◌, ◌≤◌, ◌++◌, true, false, length, List, refl, ap, sym, ◌∙◌, subst, arith, then_some, option_map_or, None, Option, Some, option_map, ap₂, same_Some, ec_bytes, ec_reading, blank, IsGeometry, Sizes, vid_bytes, vid_fault, vid_reading, VidFits, VidHeader, ec_read_back, fields_fit, vid_read_back, one_ec_reading, one_vid_reading, IsSound, IsMislaid, ec, leb, vid, foreign, foreign_if, good_in, has_members, is_good, leb_of, member, member_if, named_in, sqnum_in, seq_if, seq_of, Laid, laid_bytes, new_ec}
-use Rattle.std.proofs.Common.{not}
+use Rattle.ubi_compose.proofs.Prelude.{◌≡◌, ℕ, ◌+◌, ◌-◌, ◌^◌, ◌<◌, ◌≤◌, ◌++◌, true, false, length, List, refl, ap, sym, ◌∙◌, subst, arith, then_some, option_map_or, None, Option, Some, option_map, ap₂, same_Some, ec_bytes, ec_reading, blank, IsGeometry, Sizes, vid_bytes, vid_fault, vid_reading, VidFits, VidHeader, ec_read_back, fields_fit, vid_read_back, one_ec_reading, one_vid_reading, IsSound, IsMislaid, ec, leb, vid, foreign, foreign_if, good_in, has_members, is_good, leb_of, member, member_if, named_in, sqnum_in, seq_if, seq_of, Laid, laid_bytes, new_ec, not}
 use Rattle.ubi_media.specs.declared.ec.EcRead.TheVariants as ec_read
 use Rattle.ubi_media.specs.declared.vid.VidRead.TheVariants as vid_read
 use Rattle.ubi_scan.proofs.Parts as parts

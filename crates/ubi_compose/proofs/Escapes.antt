@@ -1,5 +1,6 @@
 -- Two hexadecimal digits, and the parts of a shown name in order.
-use Rattle.ubi_compose.proofs.Prelude.{◌≡◌, ℕ, ◌+◌, ◌*◌, ◌==◌, ◌&&◌, Bool, true, false, List, [], ◌∷◌, ◌++◌, length, refl, sym, ap, ◌∙◌, append_assoc, arith, length-append, Option, Some, None, Ok, Err, Result, MatchResult, flat_map, nat_le, not, slice_index, option_and_then, option_map, then_some, list_all, list_any, nat_tests, ◌>>=◌, decode_pairs, decode_sized, digit_or_error, hex_digit_value, FromHexError, escaped, is_escape, shown_byte, shown_bytes, shown_name, some_name}
+use Rattle.ubi_compose.proofs.Prelude.{◌≡◌, ℕ, ◌+◌, ◌*◌, ◌==◌, ◌&&◌, Bool, true, false, List, [], ◌∷◌, ◌++◌, length, refl, sym, ap, ◌∙◌, append_assoc, arith, length-append, Option, Some, None, Ok, Err, Result, MatchResult, flat_map, nat_le, slice_index, option_and_then, option_map, then_some, list_all, list_any, nat_tests, ◌>>=◌, decode_pairs, decode_sized, digit_or_error, hex_digit_value, FromHexError, escaped, is_escape, shown_byte, shown_bytes, shown_name, some_name}
+use Rattle.std.specs.Prelude.{not}
 
 pair_by : (h l : ℕ) (a b : Option ℕ)
     → MatchResult ((digit_or_error h 0 a >>= (λ x. digit_or_error l 1 b >>= (λ y. Ok (x * 16 + y)))) >>=

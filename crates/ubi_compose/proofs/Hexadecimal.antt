@@ -1,5 +1,6 @@
 -- Words of hexadecimal digits: how many bytes they write.
-use Rattle.ubi_compose.proofs.Prelude.{◌≡◌, ◌≤◌, ℕ, ◌+◌, ◌*◌, Bool, true, false, cond, ◌==◌, List, [], ◌∷◌, length, refl, arith, Option, Some, None, Ok, Err, Result, not, slice_index, option_and_then, option_map, result_ok, nat_tests, decode_of-ok, ◌>>=◌, decode_of, decode_pairs, digit_or_error, hex_digit_value, FromHexError, flags_of, hex_of, only_byte, shown_byte}
+use Rattle.ubi_compose.proofs.Prelude.{◌≡◌, ◌≤◌, ℕ, ◌+◌, ◌*◌, Bool, true, false, cond, ◌==◌, List, [], ◌∷◌, length, refl, arith, Option, Some, None, Ok, Err, Result, slice_index, option_and_then, option_map, result_ok, nat_tests, decode_of-ok, ◌>>=◌, decode_of, decode_pairs, digit_or_error, hex_digit_value, FromHexError, flags_of, hex_of, only_byte, shown_byte}
+use Rattle.std.specs.Prelude.{not}
 
 given_ok : (r : Result (List ℕ) FromHexError) (bytes : List ℕ) → result_ok r ≡ Some bytes → r ≡ Ok bytes
 given_ok (Ok other) bytes h = cc

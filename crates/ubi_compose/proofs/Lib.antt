@@ -12,8 +12,6 @@ pub mod BuiltVolumes
 pub mod ByNumber
 pub mod Changes
 pub mod Contents
-pub mod Cuts
-pub mod Decimals
 pub mod EntriesByNumber
 pub mod Escapes
 pub mod Fitting

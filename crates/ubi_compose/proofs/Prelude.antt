@@ -1,5 +1,5 @@
 -- The names that the proofs of this crate speak of, and where they come from.
-pub use Rattle.std.proofs.Common.{Bool, Bor, Decides, List, T, [], add-zero, ap, append-nil, append_assoc, arith, below_more, cond, drop, false, get_or, inl, inr, length, length-append, length-drop, length-take-le, lit<, map, refl, replicate, rules, set, slice_range, subst, suc, sym, take, take-append-drop, tests, true, vec_items, zero, zero-add, ℕ, ◌%◌, ◌&&◌, ◌*◌, ◌++◌, ◌+◌, ◌-◌, ◌/◌, ◌<◌, ◌==◌, ◌^◌, ◌||◌, ◌∙◌, ◌∷◌, ◌≡◌, ◌≢◌, ◌≤◌, ◌⊎◌}
+pub use Rattle.std.proofs.Common.{Bool, Bor, Decides, List, T, [], add-zero, ap, append-nil, append_assoc, arith, below_more, cond, drop, false, get_or, inl, inr, length, length-append, length-drop, length-take-le, lit<, map, not, refl, replicate, rules, set, slice_range, subst, suc, sym, take, take-append-drop, tests, true, vec_items, zero, zero-add, ℕ, ◌%◌, ◌&&◌, ◌*◌, ◌++◌, ◌+◌, ◌-◌, ◌/◌, ◌<◌, ◌==◌, ◌^◌, ◌||◌, ◌∙◌, ◌∷◌, ◌≡◌, ◌≢◌, ◌≤◌, ◌⊎◌}
 pub use Rattle.std.proofs.KnownBytes.{Appends-nil}
 pub use Rattle.std.proofs.Math.Nat.{mul-add-mod_self_right, mul-div_cancel}
 pub use Rattle.std.proofs.Math.Path.{ap₂}
@@ -12,12 +12,11 @@ pub use Rattle.std.proofs.lemmas.Iterator.{YieldsList-from_take}
 pub use Rattle.std.proofs.lemmas.Iterator.Consumers.{YieldsList-end, YieldsList-turn}
 pub use Rattle.std.proofs.lemmas.Iterator.Search.{any_from_yields_List}
 pub use Rattle.std.proofs.lemmas.Iterator.Splits.{YieldsList-from_slice_split}
-pub use Rattle.std.proofs.lemmas.List.{at_drop_more, drop-append-le, drop-drop, drop-take, drop_all, drop_more, get_or-append_right, get_or-map, get_or-replicate, get_or_at, length-map, length-replicate, length-take, length_push, map-append, map-id, map-set, replicate-append-replicate, set-get_or, set_at, take-append-le, take-replicate, take-take, take_all, take_at, take_more}
+pub use Rattle.std.proofs.lemmas.List.{drop-append-le, drop-drop, drop-take, drop_all, drop_more, get_or-append_right, get_or-map, get_or-replicate, get_or_at, length-map, length-replicate, length-take, length_push, map-append, map-id, map-set, replicate-append-replicate, set-get_or, set_at, take-append-le, take-replicate, take-take, take_all, take_at, take_more}
 pub use Rattle.std.proofs.lemmas.List.Concat.{concat_is, length-flat_map}
 pub use Rattle.std.proofs.lemmas.List.Elements.{All-from_recursion, All-get_or, filter-append, filter_map-append}
 pub use Rattle.std.proofs.lemmas.List.Folds.{find-append, flat_map-map, list_all-append, list_any-append}
 pub use Rattle.std.proofs.lemmas.List.FromFn.{length-map-range_with_len}
-pub use Rattle.std.proofs.lemmas.List.Splits.{slice_split-cons_no, slice_split_first}
 pub use Rattle.std.proofs.lemmas.List.Sums.{sum_by-cons, sum_by-take-le, sum_by_more}
 pub use Rattle.std.proofs.lemmas.Map.Lookups.{exact_unsigned}
 pub use Rattle.std.proofs.lemmas.Nat.{div-mul-add, mul-le}
@@ -36,10 +35,10 @@ unfoldable pub use Rattle.std.specs.Fmt.{digits}
 pub use Rattle.std.specs.Int.{div_ceil, ◌∣◌}
 pub use Rattle.std.specs.Io.KnownBytes.{Appends}
 pub use Rattle.std.specs.Iterator.Adapters.{take_source}
-pub use Rattle.std.specs.List.{AllByRecursion, concat, enumerate_from, list_all, list_any, onto_first, position, position_from, position_or_len, range_with_len, repeat, slice_split}
+pub use Rattle.std.specs.List.{AllByRecursion, concat, enumerate_from, list_all, list_any, position_from, range_with_len, repeat, slice_split}
 pub use Rattle.std.specs.Option.{ok_or, option_copied, option_map_or, option_or}
 pub use Rattle.std.specs.Ordering.{eq_by_cmp, is_lt, nat_cmp}
-pub use Rattle.std.specs.Prelude.{Contains, Err, IfOk, IfSome, IsSome, IsTrue, MatchResult, None, Ok, Option, Result, Some, codes, filter_map, find, flat_map, fold, is_none, is_some, min, nat_le, nat_lt, not, option_and_then, option_map, slice_get, slice_index, slice_set, sum_by, unwrap_or, ⊤, ◌↔◌}
+pub use Rattle.std.specs.Prelude.{Contains, Err, IfOk, IfSome, IsSome, IsTrue, MatchResult, None, Ok, Option, Result, Some, codes, filter_map, find, flat_map, fold, is_none, is_some, min, nat_le, nat_lt, option_and_then, option_map, slice_get, slice_index, slice_set, sum_by, unwrap_or, ⊤, ◌↔◌}
 pub use Rattle.std.specs.Result.{result_map_both, result_ok}
 pub use Rattle.std.specs.Simd.{first_chunks}
 pub use Rattle.std.specs.declared.cmp.Ordering.{Ordering}
@@ -140,6 +139,7 @@ pub use Rattle.ubi_volume.specs.declared.errors.ReadError.{ReadError}
 pub use Rattle.ubi_volume.specs.declared.places.Extent.{Extent}
 pub use Rattle.ubi_volume.specs.declared.places.PlaceContent.{PlaceContent}
 pub use Rattle.ubi_volume.specs.inner.Gathered.{AreRead, ContentIs, PieceIs, UsedIs}
+unfoldable pub use Rattle.ubi_words.specs.Words.{is_number, number_within}
 pub use Rattle.ubi_compose.specs.Building.{CanBuild, those}
 pub use Rattle.ubi_compose.specs.Built.{HaveMeaning, Parts, Reaches, built, content_of, item_of, items_of, lebs_of, most_blocks, pieces_of, text_of}
 pub use Rattle.ubi_compose.specs.BuiltLaws.{text_read}
@@ -156,8 +156,8 @@ pub use Rattle.ubi_compose.specs.Spec.{IsSpecError, cause_after, cause_at, first
 unfoldable pub use Rattle.ubi_compose.specs.Spec.{cause_of, content_cause, first_cause, later_cause, saying, sayings, volume_from, volumes_in}
 pub use Rattle.ubi_compose.specs.Streamed.{HasGot, IsNormaliseToError, IsNormalisedTo}
 pub use Rattle.ubi_compose.specs.TextLaws.{ComesTo}
-pub use Rattle.ubi_compose.specs.Words.{decimal_value, escaped, is_digit, is_escape, only_byte, shown_byte, some_name, with_digit}
-unfoldable pub use Rattle.ubi_compose.specs.Words.{flags_of, hex_of, is_number, kind_of, number_of, shown_bytes, shown_name}
+pub use Rattle.ubi_compose.specs.Words.{escaped, is_escape, only_byte, shown_byte, some_name}
+unfoldable pub use Rattle.ubi_compose.specs.Words.{flags_of, hex_of, kind_of, shown_bytes, shown_name}
 pub use Rattle.ubi_compose.specs.declared.errors.LineError.{LineError}
 pub use Rattle.ubi_compose.specs.declared.errors.PutError.{PutError}
 pub use Rattle.ubi_compose.specs.declared.errors.SameFault.{SameFault}

@@ -1,5 +1,6 @@
 -- What is known of lines without a cause.
-use Rattle.ubi_compose.proofs.Prelude.{◌≡◌, ℕ, ◌==◌, ◌&&◌, Bool, true, false, List, [], ◌∷◌, ◌++◌, refl, sym, ap, ◌∙◌, Option, Some, None, find, is_some, not, option_map, then_some, AllByRecursion, list_all, option_map_or, option_or, find-append, list_all-append, Sizes, rec_fault, RecFault, VolumeRecord, volume_of, content_cause, heading, later_cause, may_follow, of_volume, suits, SpecCause, Line}
+use Rattle.ubi_compose.proofs.Prelude.{◌≡◌, ℕ, ◌==◌, ◌&&◌, Bool, true, false, List, [], ◌∷◌, ◌++◌, refl, sym, ap, ◌∙◌, Option, Some, None, find, is_some, option_map, then_some, AllByRecursion, list_all, option_map_or, option_or, find-append, list_all-append, Sizes, rec_fault, RecFault, VolumeRecord, volume_of, content_cause, heading, later_cause, may_follow, of_volume, suits, SpecCause, Line}
+use Rattle.std.specs.Prelude.{not}
 use Rattle.ubi_compose.specs.Spec.{record_of}
 use Rattle.std.specs.Prelude.{cond}
 use Rattle.ubi_compose.specs.declared.errors.SpecCause.TheVariants as cause

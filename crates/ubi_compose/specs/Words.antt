@@ -13,28 +13,6 @@ use Rattle.ubi_media.specs.declared.vid.VolKind.TheVariants as kind
 abbrev pub is_between : ℕ → ℕ → ℕ → Bool
 is_between low high b = nat_le low b && nat_le b high
 
--- a decimal digit
-abbrev pub is_digit : ℕ → Bool
-is_digit b = is_between 48 57 b
-
--- one more decimal digit behind a number
-abbrev pub with_digit : ℕ → ℕ → ℕ
-with_digit n b = n * 10 + (b - 48)
-
--- the number that decimal digits write, the highest first
-abbrev pub decimal_value : List ℕ → ℕ
-decimal_value digits = fold with_digit 0 digits
-
--- `0`, or digits that don't begin with one; at most 4294967295
-unfoldable pub is_number : List ℕ → Bool
-is_number word =
-    nat_le 1 (length word) && list_all is_digit word && ((length word == 1) || not (slice_index word 0 == 48))
-    && nat_le (decimal_value word) 0xFFFFFFFF
-
--- the number that a word writes
-unfoldable pub number_of : List ℕ → Option ℕ
-number_of word = then_some (is_number word) (decimal_value word)
-
 -- one or more pairs of hexadecimal digits of either case
 unfoldable pub hex_of : List ℕ → Option (List ℕ)
 hex_of word = if length word == 0 then None else result_ok (decode_of word)

@@ -26,7 +26,6 @@ mod buffer;
 mod building;
 mod comparing;
 mod composing;
-mod cutting;
 mod drafts;
 mod errors;
 mod header;
@@ -52,7 +51,6 @@ mod words;
 pub use building::build_to;
 pub use comparing::{same, same_from};
 pub use composing::{compose, normalise};
-pub use cutting::cut;
 pub use errors::{
     BuildError, ComposeError, RecipeError, SameError, SameFault, SpecCause, SpecError,
 };
@@ -60,4 +58,3 @@ pub use parsing::parse_spec;
 pub use recipe::{Part, Recipe};
 pub use shown::shown_name;
 pub use streaming::normalise_to;
-pub use words::decimal_of;

@@ -8,10 +8,11 @@ ghost use Rattle.ubi_compose.specs.Words.{is_between};
 
 use crate::errors::{LineError, SpecCause};
 use crate::shown::shown_name;
-use crate::words::{flags_of, hex_of, kind_of, number_of};
+use crate::words::{flags_of, hex_of, kind_of};
 use std::alloc::{AllocError, Global};
 use ubi_media::VolumeRecord;
 use ubi_volume::Bytes;
+use ubi_words::number_of;
 
 /// The five forms of a line.
 #[derive(Clone, Copy)]

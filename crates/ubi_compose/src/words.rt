@@ -1,43 +1,12 @@
 //! The words of the composer's text.
 
-ghost use Rattle.std.specs.Bool.{then_some};
-ghost use Rattle.std.specs.List.{list_all};
-ghost use Rattle.std.specs.Prelude.{◌≡◌, ◌&&◌, IfOk, nat_le};
-ghost use Rattle.ubi_compose.specs.Words.{decimal_value, flags_of, hex_of, is_digit, kind_of, number_of, shown_byte};
+ghost use Rattle.std.specs.Prelude.{◌≡◌, IfOk};
+ghost use Rattle.ubi_compose.specs.Words.{flags_of, hex_of, kind_of, shown_byte};
 
 use hex::FromHexError;
 use std::alloc::{AllocError, Global};
 use ubi_media::VolKind;
 use ubi_volume::Bytes;
-
-/// The number that decimal digits write. None where another byte stands among them, or where it is above 4294967295.
-pub fn decimal_of(digits: &[u8]) -> Option<u32>
-    ensures { result ≡ then_some (list_all is_digit digits.now && nat_le (decimal_value digits.now) 0xFFFFFFFF) (decimal_value digits.now) }
-{
-    let mut value: u64 = 0;
-    for byte in digits {
-        if !byte.is_ascii_digit() {
-            return None;
-        }
-        value = value * 10 + u64::from(*byte - b'0');
-        if value > u64::from(u32::MAX) {
-            return None;
-        }
-    }
-    Some(value as u32)
-}
-
-/// The number that a word writes in decimal digits, without leading zeros. None where it isn't one, or is above
-/// 4294967295.
-#[tactic(auto, unfolding(crate::specs::Words::number_of, crate::specs::Words::is_number))]
-pub fn number_of(word: &[u8]) -> Option<u32>
-    ensures { result ≡ number_of word.now }
-{
-    if word.is_empty() || (word.len() > 1 && word[0] == b'0') {
-        return None;
-    }
-    decimal_of(word)
-}
 
 /// The bytes that a word writes in pairs of hexadecimal digits of either case. None where it doesn't, or has none.
 #[tactic(auto, unfolding(crate::specs::Words::hex_of))]

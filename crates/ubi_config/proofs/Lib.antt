@@ -1,7 +1,6 @@
 pub mod Apart
 pub mod ConfigVectors
 pub mod Counts
-pub mod Decimals
 pub mod Distinct
 pub mod Faults
 pub mod Fields

@@ -8,7 +8,8 @@ use Rattle.ubi_media.specs.Name.{is_name}
 use Rattle.ubi_media.specs.declared.vid.VolKind.{VolKind}
 use Rattle.ubi_media.specs.declared.vid.VolKind.TheVariants as kind
 use Rattle.ubi_config.specs.Values.{is_remark, key_of, value_of}
-use Rattle.ubi_config.specs.Words.{ends_with_byte, number_of, size_of, trimmed}
+use Rattle.ubi_config.specs.Words.{ends_with_byte, size_of, trimmed}
+use Rattle.ubi_words.specs.Words.{most_number, number_within}
 use Rattle.ubi_config.specs.declared.errors.ConfigCause.{ConfigCause}
 use Rattle.ubi_config.specs.declared.errors.ConfigCause.TheVariants as cause
 use Rattle.ubi_config.specs.declared.key.Key.{Key}
@@ -21,10 +22,6 @@ infixl 10 ◌>>=◌
 abbrev pub ◌>>=◌ : {A B : Type 0} → Result A ConfigCause → (A → Result B ConfigCause) → Result B ConfigCause
 Ok x >>= f = f x
 Err e >>= f = Err e
-
--- the largest number of a volume, and the largest alignment
-abbrev pub most_number : ℕ
-most_number = 0xFFFF_FFFF
 
 -- the kind of a volume that a value names
 unfoldable pub kind_of : List ℕ → Option VolKind
@@ -42,12 +39,12 @@ flag_of value =
 unfoldable pub setting : Key → List ℕ → Option Line
 setting key.Mode value = then_some (same_bytes value (codes "ubi")) line.Mode
 setting key.Image value = Some (line.Image value)
-setting key.Id value = option_map line.Id (number_of most_number value)
+setting key.Id value = option_map line.Id (number_within most_number value)
 setting key.Size value = option_map line.Size (size_of value)
 setting key.Kind value = option_map line.Kind (kind_of value)
 setting key.Name value = then_some (is_name value) (line.Name value)
 setting key.Flags value = flag_of value
-setting key.Alignment value = option_map line.Alignment (number_of most_number value)
+setting key.Alignment value = option_map line.Alignment (number_within most_number value)
 
 -- what a line says whose `=` stands at a place
 unfoldable pub setting_at : List ℕ → ℕ → Result Line ConfigCause

@@ -4,6 +4,7 @@ use Rattle.std.specs.Bool.{then_some}
 use Rattle.std.specs.Char.{is_ascii_digit}
 use Rattle.std.specs.List.{list_all, position_or_len, suffix_len}
 use Rattle.ubi_media.specs.Fields.{same_bytes}
+use Rattle.ubi_words.specs.Words.{number_within}
 
 -- a blank: a space, or a byte from 0x09 to 0x0D
 abbrev pub is_blank : ℕ → Bool
@@ -28,24 +29,6 @@ trimmed bytes = trimmed_end (trimmed_start bytes)
 -- whether bytes end with a byte
 abbrev pub ends_with_byte : ℕ → List ℕ → Bool
 ends_with_byte b bytes = nat_le 1 (length bytes) && (slice_index bytes (length bytes - 1) == b)
-
--- one more decimal digit behind a number
-abbrev pub with_digit : ℕ → ℕ → ℕ
-with_digit n b = n * 10 + (b - 48)
-
--- the number that decimal digits write, the highest first
-abbrev pub decimal_value : List ℕ → ℕ
-decimal_value digits = fold with_digit 0 digits
-
--- `0`, or decimal digits that don't begin with one; no more than the largest
-unfoldable pub is_number : ℕ → List ℕ → Bool
-is_number largest word =
-    nat_le 1 (length word) && ((length word == 1) || not (slice_index word 0 == 48))
-    && (list_all is_ascii_digit word && nat_le (decimal_value word) largest)
-
--- the number that a word writes
-unfoldable pub number_of : ℕ → List ℕ → Option ℕ
-number_of largest word = then_some (is_number largest word) (decimal_value word)
 
 -- the most bytes that a volume may have
 abbrev pub most_bytes : ℕ
@@ -79,4 +62,4 @@ unfoldable pub size_of : List ℕ → Option ℕ
 size_of word =
     let digits = position_or_len is_no_digit word in
     option_and_then (λ n. option_and_then (λ unit. size_in unit n) (unit_of (drop digits word)))
-    (number_of most_bytes (take digits word))
+    (number_within most_bytes (take digits word))

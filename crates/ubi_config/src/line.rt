@@ -5,15 +5,15 @@ ghost use Rattle.std.specs.Prelude.{◌≡◌, ◌==◌, ◌<◌, IfOk, MatchRes
 ghost use Rattle.ubi_config.specs.Above.{gives_id, gives_name, is_autoresize, is_heading, is_setting, is_titled, key_in, sets};
 ghost use Rattle.ubi_config.specs.inner.Reading.{IsRefused};
 ghost use Rattle.ubi_config.specs.Lines.{flag_of, heading_line, is_one_line, is_special, is_title, kind_of, line_of, line_said, setting, setting_at, setting_line, title_of};
-ghost use Rattle.ubi_config.specs.Words.{number_of};
 
 use crate::errors::{ConfigCause, LineError};
 use crate::key::{Key, is_same_word, key_of};
 use crate::text::Text;
 use crate::value::{is_remark, value_of};
-use crate::words::{ends_with_byte, number_of, size_of, trimmed};
+use crate::words::{ends_with_byte, size_of, trimmed};
 use std::alloc::{AllocError, Global};
 use ubi_media::{VolKind, VolName};
+use ubi_words::number_of;
 
 /// What a line says.
 #[derive(Drop)]
@@ -129,14 +129,6 @@ const LONGEST_LINE: usize = 1022;
 /// The bytes of the longest name of a section.
 const LONGEST_TITLE: usize = 128;
 
-/// The number that a value writes, up to 4294967295.
-fn number(value: &[u8]) -> Option<u32>
-    ensures { result ≡ number_of 0xFFFF_FFFF value.now }
-{
-    let number = number_of(u64::from(u32::MAX), value)?;
-    Some(number as u32)
-}
-
 /// The kind of a volume that a value names.
 #[tactic(auto, unfolding(crate::specs::Lines::kind_of))]
 fn kind_of(value: &[u8]) -> Option<VolKind>
@@ -174,12 +166,12 @@ fn setting(alloc: Global, key: Key, value: &[u8]) -> Result<Option<Line>, AllocE
         Key::Mode if value == b"ubi".as_slice() => Some(Line::Mode),
         Key::Mode => None,
         Key::Image => Some(Line::Image(Text::new(alloc, value)?)),
-        Key::Id => number(value).map(Line::Id),
+        Key::Id => number_of(value).map(Line::Id),
         Key::Size => size_of(value).map(Line::Size),
         Key::Kind => kind_of(value).map(Line::Kind),
         Key::Name => VolName::new(value).map(Line::Name),
         Key::Flags => flag_of(value),
-        Key::Alignment => number(value).map(Line::Alignment),
+        Key::Alignment => number_of(value).map(Line::Alignment),
     };
     Ok(said)
 }

@@ -1,10 +1,10 @@
 //! The words of a config: blanks, numbers, and sizes with a unit.
 
-ghost use Rattle.std.specs.Bool.{then_some};
-ghost use Rattle.std.specs.Char.{is_ascii_digit};
-ghost use Rattle.std.specs.List.{list_all, position_or_len, suffix_len};
-ghost use Rattle.std.specs.Prelude.{◌≡◌, ◌&&◌, ◌≤◌, IfSome, length, nat_le, position};
-ghost use Rattle.ubi_config.specs.Words.{decimal_value, ends_with_byte, is_blank, is_no_digit, is_no_gap, is_visible, number_of, size_in, size_of, trimmed, trimmed_end, trimmed_start, unit_named, unit_of};
+ghost use Rattle.std.specs.List.{position_or_len};
+ghost use Rattle.std.specs.Prelude.{◌≡◌, ◌≤◌, length, position};
+ghost use Rattle.ubi_config.specs.Words.{ends_with_byte, is_blank, is_no_digit, is_no_gap, is_visible, size_in, size_of, trimmed, trimmed_end, trimmed_start, unit_named, unit_of};
+
+use ubi_words::number_within;
 
 /// The most bytes that a volume may have.
 const MOST_BYTES: u64 = 0x7FFF_FFFF_FFFF_FFFF;
@@ -63,38 +63,6 @@ pub(crate) fn ends_with_byte(byte: u8, bytes: &[u8]) -> bool
     ensures { result ≡ ends_with_byte byte bytes.now }
 {
     !bytes.is_empty() && bytes[bytes.len() - 1] == byte
-}
-
-/// The number that decimal digits write. None where another byte stands among them, or where it is above the largest.
-fn decimal_of(largest: u64, digits: &[u8]) -> Option<u64>
-    ensures value { result ≡ then_some (list_all is_ascii_digit digits.now && nat_le (decimal_value digits.now) largest) (decimal_value digits.now) }
-    ensures within { IfSome result (λ n. n ≤ largest) }
-{
-    let mut value: u64 = 0;
-    for byte in digits {
-        if !byte.is_ascii_digit() {
-            return None;
-        }
-        let more = u128::from(value) * 10 + u128::from(*byte - b'0');
-        if more > u128::from(largest) {
-            return None;
-        }
-        value = more as u64;
-    }
-    Some(value)
-}
-
-/// The number that a word writes in decimal digits, without leading zeros. None where it isn't one, or is above the
-/// largest.
-#[tactic(auto, unfolding(crate::specs::Words::number_of, crate::specs::Words::is_number))]
-pub(crate) fn number_of(largest: u64, word: &[u8]) -> Option<u64>
-    ensures value { result ≡ number_of largest word.now }
-    ensures within { IfSome result (λ n. n ≤ largest) }
-{
-    if word.is_empty() || (word.len() > 1 && word[0] == b'0') {
-        return None;
-    }
-    decimal_of(largest, word)
 }
 
 /// Where the first byte stands that is neither a space nor a tab.
@@ -174,7 +142,7 @@ pub(crate) fn size_of(word: &[u8]) -> Option<u64>
     ensures { result ≡ size_of word.now }
 {
     let digits = digits_before(word);
-    let number = number_of(MOST_BYTES, &word[..digits])?;
+    let number = number_within(MOST_BYTES, &word[..digits])?;
     let unit = unit_of(&word[digits..])?;
     size_in(unit, number)
 }

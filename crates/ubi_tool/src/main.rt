@@ -12,7 +12,8 @@ use std::io::{ErrorKind, IsTerminal, Write};
 use std::process::ExitCode;
 use std::rt::Env;
 use std::{env, io};
-use ubi_commands::{Host, WRONG_WORDS, report, run_words};
+use ubi_commands::{report, run_words};
+use ubi_files::{Host, WRONG_WORDS};
 
 fn main(rt: HostRuntime) -> ExitCode {
     let mut output = io::writer(&rt);

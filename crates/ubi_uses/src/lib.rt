@@ -10,6 +10,7 @@ mod media;
 mod scan;
 mod table;
 mod volume;
+mod words;
 
 pub use build::image_of_volumes;
 pub use change::update;
@@ -20,3 +21,4 @@ pub use media::erased;
 pub use scan::holder;
 pub use table::record_of;
 pub use volume::read;
+pub use words::first_number;

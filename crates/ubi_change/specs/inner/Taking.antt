@@ -4,7 +4,8 @@ use Rattle.ubi_media.specs.Geometry.{Sizes}
 use Rattle.ubi_scan.specs.Source.{Agreed, Source, WhereHeld, blocks_in, blocks_of}
 use Rattle.ubi_volume.specs.Survey.{IsSurveyOf}
 use Rattle.ubi_volume.specs.declared.attached.BlockState.{BlockState}
-use Rattle.ubi_change.specs.Avoided.{AllBeside, Avoided, is_blank_one, is_listed, states_avoiding}
+use Rattle.ubi_change.specs.Avoided.{AllBeside, Avoided, is_blank_one, states_avoiding}
+use Rattle.ubi_scan.specs.Marks.{is_listed}
 use Rattle.ubi_change.specs.Takeable.{is_takeable, takeable}
 use Rattle.ubi_change.specs.inner.Sites.{FitsIn, site_at}
 use Rattle.ubi_change.specs.declared.ground.Ground.{Ground}

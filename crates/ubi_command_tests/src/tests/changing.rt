@@ -4,10 +4,11 @@ use std::alloc::Global;
 use std::test::Fail;
 use ubi_change::Avoided;
 use ubi_commands::{
-    NewBytes, Outcome, Reading, run_change, run_change_from, run_rename, run_rename_from, run_same,
+    NewBytes, Reading, run_change, run_change_from, run_rename, run_rename_from, run_same,
     run_same_from,
 };
 use ubi_compose::normalise_to;
+use ubi_files::Outcome;
 use ubi_probe::pebs::{
     A, B, BOOT_0, BOOT_1, C, ERASED, FIRST, FIRST_BOOT, FIRST_OF_5, FIRST_UPDATING, NEWER_BOOT_0,
     NEWER_BOOT_1, OLD, Peb, RIGHT, SECOND, SECOND_BOOT, SECOND_OF_6, SECOND_UPDATING, TORN,

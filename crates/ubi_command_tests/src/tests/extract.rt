@@ -5,7 +5,8 @@ use super::contents::{Contents, EMPTY};
 use std::alloc::Global;
 use std::io::ErrorKind;
 use std::test::Fail;
-use ubi_commands::{ToolError, VolumeKey, run_extract};
+use ubi_commands::{VolumeKey, run_extract};
+use ubi_files::ToolError;
 use ubi_probe::pebs::small;
 use ubi_probe::{Failure, ProbeWriter};
 

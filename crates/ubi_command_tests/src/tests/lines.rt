@@ -2,7 +2,8 @@
 
 use std::alloc::AllocError;
 use std::process::Abort;
-use ubi_commands::{blocks_line, geometry_line, refusal_line};
+use ubi_commands::blocks_line;
+use ubi_files::{geometry_line, refusal_line};
 use ubi_media::{EcFault, GeometryError, RecFault, Refusal, VidFault};
 
 /// The causes for which images are refused, with their lines.

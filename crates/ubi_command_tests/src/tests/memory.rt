@@ -14,9 +14,10 @@ use std::alloc::{AllocError, Global};
 use std::process::Abort;
 use std::test::Fail;
 use ubi_commands::{
-    Outcome, ToolError, VolumeKey, run_change, run_check, run_compose, run_extract, run_geometry,
-    run_list, run_normalise, run_rename, run_same, run_show,
+    VolumeKey, run_change, run_check, run_compose, run_extract, run_geometry, run_list,
+    run_normalise, run_rename, run_same, run_show,
 };
+use ubi_files::{Outcome, ToolError};
 use ubi_media::Geometry;
 use ubi_probe::pebs::{
     NORMAL_A, NORMAL_B, NORMAL_C, Peb, ROOT_FIRST, ROOT_SECOND, UNNAMED_FREE, image_of, small,

@@ -1,6 +1,6 @@
 //! Which files a run may open to write them.
 
-use ubi_commands::Outcome;
+use ubi_files::Outcome;
 
 /// The word behind an option, if it is there.
 fn value<'a>(line: &'a str, option: &str) -> Option<&'a str> {

@@ -5,7 +5,8 @@ use std::alloc::{AllocError, Global};
 use std::io;
 use std::process::Abort;
 use std::test::Fail;
-use ubi_commands::{Outcome, report};
+use ubi_commands::report;
+use ubi_files::Outcome;
 
 /// Asserts with which status a report ends where standard output takes so many bytes, and what is shown where.
 fn assert_reports(

@@ -7,7 +7,7 @@ use std::fmt::Display;
 use std::io;
 use std::io::Write;
 use std::test::Fail;
-use ubi_commands::{Host, ProgressWriter};
+use ubi_files::{Host, ProgressWriter};
 
 /// A writer that takes all bytes and keeps none, beside a terminal.
 #[derive(Drop)]

@@ -5,7 +5,8 @@ use super::contents::Contents;
 use std::alloc::Global;
 use std::process::Abort;
 use std::test::Fail;
-use ubi_commands::{SidesError, run_same_from};
+use ubi_commands::run_same_from;
+use ubi_files::SidesError;
 use ubi_probe::ProbeSource;
 use ubi_probe::pebs::small;
 

@@ -6,7 +6,7 @@ use std::fs;
 use std::io::ErrorKind;
 use std::process::Abort;
 use std::test::Fail;
-use ubi_commands::{ToolError, read_limited};
+use ubi_files::{ToolError, read_limited};
 
 /// Asserts that so many of 40,000 bytes are read up to a limit, however many are expected.
 fn assert_reads(

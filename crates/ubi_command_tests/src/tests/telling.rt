@@ -13,7 +13,7 @@ use std::fmt::Display;
 use std::io;
 use std::io::{ErrorKind, Write};
 use std::test::Fail;
-use ubi_commands::{Disk, OutputFile, SizedFile, ToolError, WholeFile};
+use ubi_files::{Disk, OutputFile, SizedFile, ToolError, WholeFile};
 use ubi_scan::PlacedFile;
 
 /// The path of its image.
@@ -64,7 +64,7 @@ impl PlacedFile for KnownFile<'_> {
 }
 
 impl<'a> Disk for Telling<'a> {
-    ghost use Rattle.ubi_commands.specs.Disk.{IsKept};
+    ghost use Rattle.ubi_files.specs.Disk.{IsKept};
     ghost use Rattle.ubi_commands.specs.inner.Telling.{opens_image, telling};
 
     type Placed = KnownFile<'a>;

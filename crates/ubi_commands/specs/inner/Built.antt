@@ -4,13 +4,14 @@ use Rattle.ubi_media.specs.Geometry.{Sizes}
 use Rattle.ubi_config.specs.declared.section.Section.{Section}
 use Rattle.ubi_compose.specs.declared.errors.BuildError.{BuildError}
 use Rattle.ubi_compose.specs.declared.errors.BuildError.TheVariants as build
-use Rattle.ubi_commands.specs.Answer.{Gives, says}
+use Rattle.ubi_files.specs.Answer.{Gives, says}
 use Rattle.ubi_commands.specs.Build.{IsUnreadLine, image_paths}
 use Rattle.ubi_commands.specs.inner.Gathering.{AreUnread}
 use Rattle.ubi_commands.specs.Compose.{room_line}
-use Rattle.ubi_commands.specs.Lines.{blocks_line, file_line}
+use Rattle.ubi_commands.specs.Lines.{blocks_line}
+use Rattle.ubi_files.specs.Lines.{file_line}
 use Rattle.ubi_commands.specs.declared.build.Answers.{Answers}
-use Rattle.ubi_commands.specs.declared.outcome.Outcome.{Outcome}
+use Rattle.ubi_files.specs.declared.outcome.Outcome.{Outcome}
 
 -- the lines of files that fail: of those with the bytes of volumes, which sections name, of the config, and of the output
 pub record AreAnswers (config out : List ℕ) (sections : List Section) (a : Answers) : Type 0 where

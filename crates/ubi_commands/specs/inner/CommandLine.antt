@@ -16,7 +16,6 @@ use Rattle.ubi_commands.specs.declared.command_line.Takes.TheVariants as takes
 use Rattle.ubi_commands.specs.declared.requests.Request.{Request}
 use Rattle.std.specs.Prelude.{None, Option, ℕ}
 use Rattle.std.specs.Prelude.{map}
-use Rattle.ubi_commands.specs.Tool.{command as takes}
 use Rattle.ubi_commands.specs.Commands.{commands}
 
 -- whether an argument has to be given

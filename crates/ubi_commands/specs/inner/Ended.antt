@@ -2,14 +2,14 @@
 use Rattle.std.specs.Prelude.{◌≡◌, ℕ, Bool, true, false, List, Result, Ok, Err, codes}
 use Rattle.ubi_scan.specs.Source.{Source, failed}
 use Rattle.ubi_volume.specs.declared.errors.ReadError.{ReadError}
-use Rattle.ubi_commands.specs.Answer.{Gives, says}
+use Rattle.ubi_files.specs.Answer.{Gives, says}
 use Rattle.ubi_commands.specs.Extract.{read_refusal}
-use Rattle.ubi_commands.specs.Lines.{file_line}
-use Rattle.ubi_commands.specs.declared.outcome.Outcome.{Outcome}
-use Rattle.ubi_commands.specs.declared.outcome.SidesError.{SidesError}
-use Rattle.ubi_commands.specs.declared.outcome.SidesError.TheVariants as side
-use Rattle.ubi_commands.specs.declared.outcome.ToolError.{ToolError}
-use Rattle.ubi_commands.specs.declared.outcome.ToolError.TheVariants as tool
+use Rattle.ubi_files.specs.Lines.{file_line}
+use Rattle.ubi_files.specs.declared.outcome.Outcome.{Outcome}
+use Rattle.ubi_files.specs.declared.outcome.SidesError.{SidesError}
+use Rattle.ubi_files.specs.declared.outcome.SidesError.TheVariants as side
+use Rattle.ubi_files.specs.declared.outcome.ToolError.{ToolError}
+use Rattle.ubi_files.specs.declared.outcome.ToolError.TheVariants as tool
 
 -- what is answered of a source: that of the work, after which no more reads have failed; or the line of the source, where
 -- one more read failed

@@ -6,8 +6,8 @@ use Rattle.ubi_scan.specs.Image.{Image, image_of}
 use Rattle.ubi_scan.specs.Source.{Agreed, Source, WhereHeld}
 use Rattle.ubi_volume.specs.Accepts.{Accepts}
 use Rattle.ubi_volume.specs.Meant.{Meant}
-use Rattle.ubi_commands.specs.declared.outcome.ToolError.{ToolError}
-use Rattle.ubi_commands.specs.declared.outcome.ToolError.TheVariants as tool
+use Rattle.ubi_files.specs.declared.outcome.ToolError.{ToolError}
+use Rattle.ubi_files.specs.declared.outcome.ToolError.TheVariants as tool
 use Rattle.ubi_commands.specs.declared.volume_key.VolumeKey.{VolumeKey}
 use Rattle.ubi_commands.specs.Extract.{IsExtractError, read_key}
 

@@ -1,9 +1,9 @@
 -- The files into which volumes are unpacked.
 use Rattle.std.specs.Prelude.{◌≡◌, ℕ, List, [], ◌∷◌, None, Option, Result, Some, codes, string_bytes}
-use Rattle.ubi_commands.specs.Answer.{Gives, says}
-use Rattle.ubi_commands.specs.Lines.{file_line}
+use Rattle.ubi_files.specs.Answer.{Gives, says}
+use Rattle.ubi_files.specs.Lines.{file_line}
 use Rattle.ubi_volume.specs.declared.errors.ReadError.{ReadError}
-use Rattle.ubi_commands.specs.Disk.{Files}
+use Rattle.ubi_files.specs.Disk.{Files}
 use Rattle.ubi_commands.specs.Unpack.{AreUnpacked, AreUnpackedUntil, Listed, file_path}
 use Rattle.ubi_commands.specs.declared.unpack.VolumeFile.{VolumeFile}
 

@@ -6,8 +6,8 @@ use Rattle.ubi_config.specs.Records.{record_in}
 use Rattle.ubi_config.specs.declared.section.Section.{Section}
 use Rattle.ubi_compose.specs.declared.recipe.Part.{Part}
 use Rattle.ubi_commands.specs.Build.{AreGathered, IsUnreadLine, Sized, image_path, len_of, part_at}
-use Rattle.ubi_commands.specs.Disk.{Files}
-use Rattle.ubi_commands.specs.declared.outcome.Outcome.{Outcome}
+use Rattle.ubi_files.specs.Disk.{Files}
+use Rattle.ubi_files.specs.declared.outcome.Outcome.{Outcome}
 use Rattle.std.specs.Prelude.{Contains}
 use Rattle.std.specs.List.{AllByRecursion}
 use Rattle.ubi_commands.specs.Build.{image_paths}

@@ -5,8 +5,8 @@ use Rattle.ubi_change.specs.Steps.{after}
 use Rattle.ubi_change.specs.declared.step.Step.{Step}
 use Rattle.ubi_scan.specs.Image.{Image, eraseblocks, image_of, in_image}
 use Rattle.ubi_scan.specs.Source.{Agreed, WhereHeld}
-use Rattle.ubi_commands.specs.Answer.{Gives}
-use Rattle.ubi_commands.specs.declared.outcome.Outcome.{Outcome}
+use Rattle.ubi_files.specs.Answer.{Gives}
+use Rattle.ubi_files.specs.declared.outcome.Outcome.{Outcome}
 use Rattle.ubi_commands.specs.Plan.{cut_bytes}
 
 -- an outcome, with these bytes as its file where the work was done

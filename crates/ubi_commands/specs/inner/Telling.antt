@@ -1,7 +1,7 @@
 -- What is known of a disk for tests.
 use Rattle.std.specs.Prelude.{◌&&◌, Bool, List, None, Option, codes, if◌then◌else◌, is_some, true, ℕ}
 use Rattle.std.specs.Str.{bytes_eq}
-use Rattle.ubi_commands.specs.Disk.{Files}
+use Rattle.ubi_files.specs.Disk.{Files}
 
 -- the path of its image
 abbrev pub image_path : List ℕ

@@ -6,7 +6,7 @@ use Rattle.ubi_commands.specs.Change.{ChangesFrom, HasPlan}
 use Rattle.ubi_commands.specs.Extract.{ExtractsOf, HasTextIn}
 use Rattle.ubi_commands.specs.Normalise.{HasMeaning, NormalisesOf}
 use Rattle.ubi_commands.specs.Rename.{HasRename, RenamesFrom}
-use Rattle.ubi_commands.specs.declared.outcome.Outcome.{Outcome}
+use Rattle.ubi_files.specs.declared.outcome.Outcome.{Outcome}
 use Rattle.ubi_commands.specs.declared.writers.Writing.{Writing}
 use Rattle.ubi_commands.specs.declared.writers.Writing.TheVariants as writing
 

@@ -1,4 +1,4 @@
-use Rattle.ubi_commands.proofs.Prelude.{◌∙◌, ap, take_all, app_of, app_of_fields, new_app, with_groups, command_row}
+use Rattle.ubi_commands.proofs.Prelude.{◌∙◌, ap, take_all, app_of_fields, new_app, with_groups, command_row}
 use Rattle.ubi_commands.proofs.CommandNames.{group_more}
 use Rattle.ubi_commands.proofs.command_line.command_of.Goals as goal
 

@@ -1,6 +1,5 @@
-use Rattle.ubi_commands.proofs.Prelude.{answered, no_source}
+use Rattle.ubi_commands.proofs.Prelude.{answered, no_source, Tells-weaker}
 use Rattle.ubi_commands.proofs.Found.{told_first}
-use Rattle.ubi_commands.proofs.Outcomes.{Tells-weaker}
 use Rattle.ubi_commands.proofs.finding.first_told.Goals as goal
 
 pub returns-in-Ok-clause-first : goal.returns-in-Ok-clause-first

@@ -1,10 +1,8 @@
-use Rattle.ubi_commands.proofs.Prelude.{◌∙◌, inl, inr, refl, subst, sym, IfOk-weaker, err_from_is_err_and, keeps_promise, greatest_dump, sizes_of, IsDump, IsToldFirst, TellsNothing, file, no_file, told, unreadable, whole, Dump}
+use Rattle.ubi_commands.proofs.Prelude.{◌∙◌, inl, inr, refl, subst, sym, IfOk-weaker, err_from_is_err_and, keeps_promise, greatest_dump, sizes_of, IsDump, IsToldFirst, TellsNothing, file, no_file, told, unreadable, whole, Dump, never_opened, Tells-weaker}
 use Rattle.ubi_commands.specs.declared.asked.Asked.TheVariants as asked
 use Rattle.ubi_commands.proofs.Ended.{at_places, both, read_at_places}
 use Rattle.ubi_commands.proofs.Found.{is_there, no_read, tells_less}
 use Rattle.ubi_commands.proofs.KeptPart.{kept_of_told}
-use Rattle.ubi_commands.proofs.OpensAtPlaces.{never_opened}
-use Rattle.ubi_commands.proofs.Outcomes.{Tells-weaker}
 use Rattle.ubi_commands.proofs.finding.seek_dump.Goals as goal
 
 pub returns-in_err-frame-clause-untold : goal.returns-in_err-frame-clause-untold

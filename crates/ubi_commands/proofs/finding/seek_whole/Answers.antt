@@ -1,6 +1,5 @@
-use Rattle.ubi_commands.proofs.Prelude.{◌∙◌, err_from_is_err_and}
+use Rattle.ubi_commands.proofs.Prelude.{◌∙◌, err_from_is_err_and, Tells-weaker}
 use Rattle.ubi_commands.proofs.Found.{first_in_memory, nothing_in_memory}
-use Rattle.ubi_commands.proofs.Outcomes.{Tells-weaker}
 use Rattle.ubi_commands.proofs.finding.seek_whole.Goals as goal
 
 pub returns-in_err-told-clause-nothing : goal.returns-in_err-told-clause-nothing

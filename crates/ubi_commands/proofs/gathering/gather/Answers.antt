@@ -1,6 +1,5 @@
-use Rattle.ubi_commands.proofs.Prelude.{◌≡◌, ◌≤◌, ◌∷◌, [], List, ap, arith, get_or, length, map, refl, subst, sym, vec_items, err_from_is_err_and, take_all, Section, all_append, Part, AreBesideOut, no_image, no_record, AreSoFar}
+use Rattle.ubi_commands.proofs.Prelude.{◌≡◌, ◌≤◌, ◌∷◌, [], List, ap, arith, get_or, length, map, refl, subst, sym, vec_items, err_from_is_err_and, take_all, Section, all_append, Part, AreBesideOut, no_image, no_record, AreSoFar, Tells-weaker}
 use Rattle.ubi_commands.proofs.GatheredParts.{has_second, next_apart, next_gathered, next_total, none_gathered, sized_found, some_found, stops_at, unread_file, unread_named}
-use Rattle.ubi_commands.proofs.Outcomes.{Tells-weaker}
 use Rattle.ubi_commands.proofs.gathering.gather.Goals as goal
 
 pub loop-section-init : goal.loop-section-init

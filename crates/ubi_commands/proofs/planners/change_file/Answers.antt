@@ -1,5 +1,5 @@
 use Rattle.ubi_commands.proofs.Prelude.{◌≡◌, drop, refl, take, option_map, IfOk-weaker, keeps_promise, masked, pages_of, avoided, image, no_file, no_list, unreadable, with_list}
-use Rattle.ubi_commands.specs.Program.{no_image}
+use Rattle.ubi_files.specs.OverFile.{no_image}
 use Rattle.ubi_commands.proofs.Ended.{OfFile-weaker, of_any}
 use Rattle.ubi_commands.proofs.Outcomes.{told}
 use Rattle.ubi_commands.proofs.planners.change_file.Goals as goal

@@ -1,5 +1,4 @@
-use Rattle.ubi_commands.proofs.Prelude.{err_from_is_err_and, cannot_read}
-use Rattle.ubi_commands.proofs.Outcomes.{Tells-weaker}
+use Rattle.ubi_commands.proofs.Prelude.{err_from_is_err_and, cannot_read, Tells-weaker}
 use Rattle.ubi_commands.proofs.spec_file.load_spec.Goals as goal
 
 pub returns-in-Err-clause-unread : goal.returns-in-Err-clause-unread

@@ -1,9 +1,0 @@
-use Rattle.ubi_commands.proofs.Prelude.{◌∙◌, ap}
-use Rattle.ubi_commands.proofs.KeptPart.{as_far, as_read_some, raw}
-use Rattle.ubi_commands.proofs.whole_dump.part_read.Goals as goal
-
-pub returns-in-Some : goal.returns-in-Some
-returns-in-Some c =
-    let frame = c.args.frame.now in
-    ap (as_far frame.dump) (c.at_most.ensures (raw frame.dump) (rw frame.sizes at c.raw_len-most.ensures))
-    ∙ as_read_some frame.dump c.in-Some.length c.in-Some.is

@@ -1,0 +1,16 @@
+pub mod AfterRun
+pub mod Answer
+pub mod BadBlocks
+pub mod Disk
+pub mod Dump
+pub mod Kept
+pub mod Late
+pub mod Lines
+pub mod Numbers
+pub mod Opened
+pub mod OverFile
+pub mod Read
+pub mod Row
+pub mod Told
+pub mod Views
+pub mod inner

@@ -1,0 +1,50 @@
+//! Files by their paths: how a dump is opened and seen, how an output is kept, and what is printed where either fails.
+//!
+//! A [`Disk`] reaches files by their paths; [`Host`] is the system's own. A [`Dump`] says how the bytes of a file are read: of
+//! a part of it the pages, with 0xFF in the place of bad eraseblocks. It is opened once its [`Frame`] is known, by
+//! [`open_dump`], and read at places where it can be. A [`LateFile`] is an output that is opened at the first write.
+#![tactic(auto)]
+
+mod bad_blocks;
+mod disk;
+mod dump;
+mod file_row;
+mod folder;
+mod host;
+mod image_file;
+mod image_source;
+mod late_file;
+mod lines;
+mod masked;
+mod numbers;
+mod open_image;
+mod outcome;
+mod pages;
+mod part;
+mod progress;
+mod read;
+mod view;
+mod whole_dump;
+
+pub use bad_blocks::is_block_list;
+pub use disk::{Disk, OutputFile, WholeFile};
+pub use dump::Dump;
+pub use file_row::{FileRow, SizedFile};
+pub use host::{Host, HostFile};
+pub use image_file::{ImageFile, Unread, allowed_geometry, load, told, unread_file, unread_line};
+pub use late_file::{LateFile, Target};
+pub use lines::{
+    file_line, geometry_line, misfit_line, put_number, put_word, refusal_line, refused,
+};
+pub use masked::Masked;
+pub use numbers::{GREATEST, Numbers, geometry_of};
+pub use open_image::{
+    DumpSource, Frame, OpenImage, PlacedImage, Seen, frame_of, open_beside, open_dump,
+};
+pub use outcome::{DONE, FAILED, Outcome, SidesError, ToolError, WRONG_WORDS, in_memory, nothing};
+pub use pages::Pages;
+pub use part::Part;
+pub use progress::ProgressWriter;
+pub use read::read_limited;
+pub use view::{FilePart, Misfit, WHOLE_FILE};
+pub use whole_dump::see_kept;

@@ -1,0 +1,24 @@
+//! Words of a text: where bytes are cut, and the numbers that decimal digits write.
+//!
+//! The config, the composer's text and the words of a command line are read with them.
+//!
+//! A caller, proved from the contracts alone (`crates/ubi_uses`):
+//!
+//! ```
+//! use ubi_words::{cut, number_of};
+//!
+//! /// The number that stands before the first comma of a line.
+//! pub fn first_number(line: &[u8]) -> Option<u32>
+//!     ensures { (first : List ℕ) (rest : List (List ℕ)) → slice_split (λ b. b == 44) line.now ≡ first ∷ rest → result ≡ number_within most_number first }
+//! {
+//!     let (first, _) = cut(line, b',');
+//!     number_of(first)
+//! }
+//! ```
+#![tactic(auto)]
+
+mod cutting;
+mod decimal;
+
+pub use cutting::cut;
+pub use decimal::{decimal_of, decimal_within, number_of, number_within};
