@@ -651,8 +651,8 @@ class Runner:
         self.expect(words, f"bytes {len(text)}\n", 0, text)
 
     def look_unpacked(self, path, meaning):
-        """Compares what is unpacked of an image into a new folder: the files before the first whose name is too long, or all."""
-        folder, lines, files, lost = os.path.join(self.folder, "volumes"), [], {}, None
+        """Compares what is unpacked of an image into a new folder."""
+        folder, lines, files = os.path.join(self.folder, "volumes"), [], {}
         for number, record in sorted(meaning.records.items()):
             name = rules.shown(record.name)
             file = f"{number}-" + name.replace("/", "\\x2f")
@@ -662,12 +662,9 @@ class Runner:
                 lines.append(f"volume {number} {str(refused).split()[1].lower()} name={name}\n")
                 continue
             lines.append(f"volume {number} bytes={len(text)} name={name}\n")
-            if len(file) > 255:
-                lost = lost or file
-            if not lost:
-                files[file] = text
-        status = int(bool(lost) or any("bytes=" not in line.split(" name=")[0] for line in lines))
-        self.expect(["unpack", path, "--out", folder], f"cannot write {folder}/{lost}\n" if lost else "".join(lines), status)
+            files[file if len(file) <= 255 else str(number)] = text
+        status = int(any("bytes=" not in line.split(" name=")[0] for line in lines))
+        self.expect(["unpack", path, "--out", folder], "".join(lines), status)
         if files:
             self.expect(["unpack", path, "--out", folder], f"cannot write {folder}\n", 1)
         came = taken(folder)

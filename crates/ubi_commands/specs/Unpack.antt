@@ -1,5 +1,5 @@
 -- What is unpacked of an image: what each of its volumes reads, into a file of its own.
-use Rattle.std.specs.Prelude.{◌≡◌, ℕ, ◌==◌, if◌then◌else◌, List, [], ◌∷◌, ◌++◌, Option, Some, Result, Ok, Err, codes, decimal, is_ok, slice_get, take}
+use Rattle.std.specs.Prelude.{◌≡◌, ℕ, ◌==◌, if◌then◌else◌, List, [], ◌∷◌, ◌++◌, Option, Some, Result, Ok, Err, codes, decimal, is_ok, length, nat_le, slice_get, take}
 use Rattle.std.specs.FinMap.{entries}
 use Rattle.std.specs.Io.KnownBytes.{Appends}
 use Rattle.std.specs.List.{flat_map, list_all}
@@ -31,9 +31,13 @@ Listed = ℕ × VolumeRecord
 abbrev pub file_byte : ℕ → List ℕ
 file_byte b = if b == 0x2F then codes "\\x2f" else shown_byte b
 
--- the name of a volume's file: the number of the volume, a hyphen, and the volume's name
-abbrev pub file_name : Listed → List ℕ
-file_name e = decimal e.0 ++ codes "-" ++ flat_map file_byte e.1.name
+-- the number of a volume, a hyphen, and the volume's name
+abbrev pub number_and_name : Listed → List ℕ
+number_and_name e = decimal e.0 ++ codes "-" ++ flat_map file_byte e.1.name
+
+-- the name of a volume's file: its number and its name; or the number alone, where that is longer than the name of a file can be
+unfoldable pub file_name : Listed → List ℕ
+file_name e = if nat_le (length (number_and_name e)) 255 then number_and_name e else decimal e.0
 
 -- the path of that file in a folder
 abbrev pub file_path : List ℕ → Listed → List ℕ

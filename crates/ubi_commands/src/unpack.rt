@@ -17,7 +17,7 @@ ghost use Rattle.ubi_files.specs.Lines.{file_line};
 ghost use Rattle.ubi_files.specs.Kept.{IsPartOf};
 ghost use Rattle.ubi_commands.specs.Program.{OfAsked};
 ghost use Rattle.ubi_files.specs.OverFile.{OfFile};
-ghost use Rattle.ubi_commands.specs.Unpack.{AreUnpacked, IsUnpacked, Unpacks, UnpacksFrom, UnpacksOf, file_byte, file_path, unpacked_amount, unpacked_line, unpacked_lines, unpacked_status};
+ghost use Rattle.ubi_commands.specs.Unpack.{AreUnpacked, IsUnpacked, Unpacks, UnpacksFrom, UnpacksOf, file_byte, file_name, file_path, number_and_name, unpacked_amount, unpacked_line, unpacked_lines, unpacked_status};
 ghost use Rattle.ubi_commands.specs.inner.Folder.{AreFilesOf, Ends, IsFileOf};
 
 use crate::asked::{Asked, Paths};
@@ -33,6 +33,9 @@ use ubi_files::{
 use ubi_media::{Geometry, VolumeRecord};
 use ubi_scan::{BlockSource, FileSource, MemorySource, StreamError};
 use ubi_volume::{Amount, Extent, Places, ReadError, attach_places, write_places};
+
+/// How many bytes the name of a file has at most, on most systems.
+const LONGEST_FILE_NAME: usize = 255;
 
 /// The file of a volume.
 #[derive(Drop)]
@@ -52,41 +55,63 @@ struct Folder<'a> {
     files: Vec<VolumeFile>,
 }
 
-/// Adds a byte of a volume's name to the path of its file.
-fn put_file_byte(alloc: Global, path: &mut String, byte: u8) -> Result<(), AllocError>
-    ensures { OnOk result (string_bytes path.new ≡ string_bytes path.old ++ file_byte byte) }
+/// Adds a byte of a volume's name to that of its file.
+fn put_file_byte(alloc: Global, file: &mut String, byte: u8) -> Result<(), AllocError>
+    ensures { OnOk result (string_bytes file.new ≡ string_bytes file.old ++ file_byte byte) }
 {
     if byte == b'/' {
-        return path.push_str("\\x2f");
+        return file.push_str("\\x2f");
     }
     if byte >= 0x21 && byte <= 0x7E && byte != b'\\' {
-        return path.push(char::from(byte));
+        return file.push(char::from(byte));
     }
-    path.push_str("\\x")?;
+    file.push_str("\\x")?;
     let digits = hex::encode(alloc, [byte])?;
-    path.push_str(digits.as_str())
+    file.push_str(digits.as_str())
 }
 
-/// Adds a volume's name to the path of its file.
-fn put_file_name(alloc: Global, path: &mut String, name: &[u8]) -> Result<(), AllocError>
-    ensures { OnOk result (string_bytes path.new ≡ string_bytes path.old ++ flat_map file_byte name.now) }
+/// Adds a volume's name to that of its file.
+fn put_file_name(alloc: Global, file: &mut String, name: &[u8]) -> Result<(), AllocError>
+    ensures { OnOk result (string_bytes file.new ≡ string_bytes file.old ++ flat_map file_byte name.now) }
 {
     for byte in name {
-        put_file_byte(alloc, path, *byte)?;
+        put_file_byte(alloc, file, *byte)?;
     }
     Ok(())
+}
+
+/// The number of a volume, a hyphen, and the volume's name.
+fn number_and_name(alloc: Global, listed: &(u32, VolumeRecord)) -> Result<String, AllocError>
+    ensures { IfOk result (λ file. string_bytes file ≡ number_and_name listed.now) }
+{
+    let mut buffer = Buffer::new();
+    let mut file = String::from_str(alloc, buffer.format(listed.0))?;
+    file.push_str("-")?;
+    put_file_name(alloc, &mut file, listed.1.name.as_bytes())?;
+    Ok(file)
+}
+
+/// The name of a volume's file: its number and its name, or the number alone where that is too long for a file.
+#[tactic(auto, unfolding(crate::specs::Unpack::file_name))]
+fn file_name(alloc: Global, listed: &(u32, VolumeRecord)) -> Result<String, AllocError>
+    ensures { IfOk result (λ file. string_bytes file ≡ file_name listed.now) }
+{
+    let file = number_and_name(alloc, listed)?;
+    if file.len() <= LONGEST_FILE_NAME {
+        return Ok(file);
+    }
+    let mut buffer = Buffer::new();
+    String::from_str(alloc, buffer.format(listed.0))
 }
 
 /// The path of a volume's file in a folder.
 fn file_path(alloc: Global, dir: &str, listed: &(u32, VolumeRecord)) -> Result<String, AllocError>
     ensures { IfOk result (λ path. string_bytes path ≡ file_path dir.now listed.now) }
 {
-    let mut buffer = Buffer::new();
+    let file = file_name(alloc, listed)?;
     let mut path = String::from_str(alloc, dir)?;
     path.push_str("/")?;
-    path.push_str(buffer.format(listed.0))?;
-    path.push_str("-")?;
-    put_file_name(alloc, &mut path, listed.1.name.as_bytes())?;
+    path.push_str(file.as_str())?;
     Ok(path)
 }
 

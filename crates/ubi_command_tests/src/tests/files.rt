@@ -141,6 +141,15 @@ const PATH_NAMES: Contents = Contents::Runs(&[(
     1,
 )]);
 
+/// A volume whose file has a name of 255 bytes, and one whose file would have a longer one.
+const LONG_NAMES: Contents = Contents::Runs(&[
+    (b"volume 0 static 1 1 00 ", 1),
+    (b"\\x80", 63),
+    (b"a\nbytes 0 63\nvolume 1 static 1 1 00 ", 1),
+    (b"\\x80", 63),
+    (b"ab\nbytes 1 64\n", 1),
+]);
+
 /// Folders that are made, that are there, and that can't be made.
 static UNPACKED: Session = Session {
     sizes: SMALL_SIZES,
@@ -149,6 +158,7 @@ static UNPACKED: Session = Session {
         ("unpack_marked.img", Contents::Updating),
         ("unpack_none.img", Contents::EmptyBoot),
         ("unpack_paths.txt", PATH_NAMES),
+        ("unpack_long.txt", LONG_NAMES),
         ("unpack_boot.img", Contents::DamagedBoot),
         ("unpack_odd.img", Contents::Odd),
     ],
@@ -191,6 +201,16 @@ static UNPACKED: Session = Session {
             0,
         ),
         (
+            "compose unpack_long.txt --out unpack_long.img",
+            "blocks 4\n",
+            0,
+        ),
+        (
+            "unpack unpack_long.img --out unpack_long",
+            "volume 0 bytes=1 name=\\x80\\x80\\x80\\x80\\x80\\x80\\x80\\x80\\x80\\x80\\x80\\x80\\x80\\x80\\x80\\x80\\x80\\x80\\x80\\x80\\x80\\x80\\x80\\x80\\x80\\x80\\x80\\x80\\x80\\x80\\x80\\x80\\x80\\x80\\x80\\x80\\x80\\x80\\x80\\x80\\x80\\x80\\x80\\x80\\x80\\x80\\x80\\x80\\x80\\x80\\x80\\x80\\x80\\x80\\x80\\x80\\x80\\x80\\x80\\x80\\x80\\x80\\x80a\nvolume 1 bytes=1 name=\\x80\\x80\\x80\\x80\\x80\\x80\\x80\\x80\\x80\\x80\\x80\\x80\\x80\\x80\\x80\\x80\\x80\\x80\\x80\\x80\\x80\\x80\\x80\\x80\\x80\\x80\\x80\\x80\\x80\\x80\\x80\\x80\\x80\\x80\\x80\\x80\\x80\\x80\\x80\\x80\\x80\\x80\\x80\\x80\\x80\\x80\\x80\\x80\\x80\\x80\\x80\\x80\\x80\\x80\\x80\\x80\\x80\\x80\\x80\\x80\\x80\\x80\\x80ab\n",
+            0,
+        ),
+        (
             "unpack unpack_in.img --out unpack_in.img",
             "cannot write unpack_in.img\n",
             1,
@@ -222,6 +242,11 @@ static UNPACKED: Session = Session {
             "unpack_paths/1-a\\x20\\x5cb",
             Contents::Runs(&[(b"\xFF", 384)]),
         ),
+        (
+            "unpack_long/0-\\x80\\x80\\x80\\x80\\x80\\x80\\x80\\x80\\x80\\x80\\x80\\x80\\x80\\x80\\x80\\x80\\x80\\x80\\x80\\x80\\x80\\x80\\x80\\x80\\x80\\x80\\x80\\x80\\x80\\x80\\x80\\x80\\x80\\x80\\x80\\x80\\x80\\x80\\x80\\x80\\x80\\x80\\x80\\x80\\x80\\x80\\x80\\x80\\x80\\x80\\x80\\x80\\x80\\x80\\x80\\x80\\x80\\x80\\x80\\x80\\x80\\x80\\x80a",
+            Contents::Runs(&[(b"c", 1)]),
+        ),
+        ("unpack_long/1", Contents::Runs(&[(b"d", 1)])),
         ("unpack_in.img", Contents::Root),
     ],
     absent: "unpack_refused",
