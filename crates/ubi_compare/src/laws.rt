@@ -1,0 +1,8 @@
+//! Laws of the definitions that the contracts cite, each as the contract of a function that does nothing.
+
+ghost use Rattle.ubi_compare.specs.Laws.{NothingDiffers};
+
+/// No difference is told of two meanings of one geometry exactly if they are the same.
+pub fn nothing_differs()
+    ensures { NothingDiffers }
+{}
