@@ -14,6 +14,15 @@ pub none_unless : (same : Bool) (d : Difference) → same ≡ true → unless sa
 none_unless true d is = refl
 none_unless false d is = absurd (false≢true is)
 
+-- what is chosen by a test
+pub chosen : {A : Type 0} (test : Bool) (x y : A) → test ≡ true → (if test then x else y) ≡ x
+chosen true x y is = refl
+chosen false x y is = absurd (false≢true is)
+
+pub not_chosen : {A : Type 0} (test : Bool) (x y : A) → test ≡ false → (if test then x else y) ≡ y
+not_chosen true x y is = absurd (false≢true (sym is))
+not_chosen false x y is = refl
+
 pub both_none : {A : Type 0} (xs ys : List A) → xs ++ ys ≡ [] → (xs ≡ []) × (ys ≡ [])
 both_none [] ys none = (refl, none)
 both_none (x ∷ xs) ys none = absurd (cc)

@@ -24,22 +24,13 @@ use Rattle.ubi_volume.specs.declared.content.Content.{Content}
 use Rattle.ubi_volume.specs.declared.content.Content.TheVariants as content
 use Rattle.ubi_volume.specs.declared.content.Volume.{Volume}
 use Rattle.ubi_volume.specs.declared.errors.ReadError.{ReadError}
-use Rattle.ubi_compare.proofs.Apart.{both_none, map_none, none_both, none_pass, none_unless, pass_none, ranges_none, unless_none}
+use Rattle.ubi_compare.proofs.Apart.{both_none, chosen, map_none, none_both, none_pass, none_unless, pass_none, ranges_none, unless_none}
+use Rattle.ubi_compare.proofs.Fields.{IsOneRecord, number_itself, one_record, record_itself, text_itself}
 use Rattle.ubi_compare.specs.Differences.{condition_of, content_differences, leb_differences, lebs_apart, length_differences, ranges_after, read_apart, record_differences, same_condition, same_kind, unless, volume_differences}
 use Rattle.ubi_compare.specs.declared.difference.Condition.{Condition}
 use Rattle.ubi_compare.specs.declared.difference.Condition.TheVariants as condition
 use Rattle.ubi_compare.specs.declared.difference.Difference.{Difference}
 use Rattle.ubi_compare.specs.declared.difference.Difference.TheVariants as difference
-
-kind_is : (a b : VolKind) → same_kind a b ≡ true → a ≡ b
-kind_is kind.Dynamic kind.Dynamic same = refl
-kind_is kind.Static kind.Static same = refl
-kind_is kind.Dynamic kind.Static same = absurd (false≢true same)
-kind_is kind.Static kind.Dynamic same = absurd (false≢true same)
-
-kind_itself : (a : VolKind) → same_kind a a ≡ true
-kind_itself kind.Dynamic = refl
-kind_itself kind.Static = refl
 
 condition_itself : (a : Condition) → same_condition a a ≡ true
 condition_itself condition.Updating = refl
@@ -50,70 +41,9 @@ not_false : (b : Bool) → not b ≡ false → b ≡ true
 not_false true is = refl
 not_false false is = absurd (false≢true (sym is))
 
-text_itself : (t : List ℕ) → same_bytes t t ≡ true
-text_itself t = (bytes_Decides t t).1 refl
-
-number_itself : (n : ℕ) → (n == n) ≡ true
-number_itself n = (unsigned_Decides n n).1 refl
-
--- the same record, but for the marker
-pub record IsOneRecord (r q : VolumeRecord) : Type 0 where
-  pub kind : r.kind ≡ q.kind
-  pub reserved : r.reserved ≡ q.reserved
-  pub alignment : r.alignment ≡ q.alignment
-  pub flags : r.flags ≡ q.flags
-  pub name : r.name ≡ q.name
-
-module _ (id : ℕ) (r q : VolumeRecord) where
-  abbrev kinds : List Difference
-  kinds = unless (same_kind r.kind q.kind) (difference.Kind id r.kind q.kind)
-
-  abbrev reserves : List Difference
-  reserves = unless (r.reserved == q.reserved) (difference.Reserved id r.reserved q.reserved)
-
-  abbrev alignments : List Difference
-  alignments = unless (r.alignment == q.alignment) (difference.Alignment id r.alignment q.alignment)
-
-  abbrev flags : List Difference
-  flags = unless (r.flags == q.flags) (difference.Flags id r.flags q.flags)
-
-  abbrev names : List Difference
-  names = unless (same_bytes r.name q.name) (difference.Name id r.name q.name)
-
-  pub one_record : record_differences id r q ≡ [] → IsOneRecord r q
-  one_record none =
-      let a = both_none (kinds ++ reserves ++ alignments ++ flags) names none in
-      let b = both_none (kinds ++ reserves ++ alignments) flags a.0 in
-      let c = both_none (kinds ++ reserves) alignments b.0 in
-      let d = both_none kinds reserves c.0 in
-      record {
-        kind = kind_is r.kind q.kind (unless_none _ _ d.0);
-        reserved = (unsigned_Decides r.reserved q.reserved).0 (unless_none _ _ d.1);
-        alignment = (unsigned_Decides r.alignment q.alignment).0 (unless_none _ _ c.1);
-        flags = (unsigned_Decides r.flags q.flags).0 (unless_none _ _ b.1);
-        name = (bytes_Decides r.name q.name).0 (unless_none _ _ a.1);
-      }
-
-pub record_itself : (id : ℕ) (r : VolumeRecord) → record_differences id r r ≡ []
-record_itself id r =
-    none_both (kinds id r r ++ reserves id r r ++ alignments id r r ++ flags id r r) (names id r r)
-    (none_both (kinds id r r ++ reserves id r r ++ alignments id r r) (flags id r r)
-    (none_both (kinds id r r ++ reserves id r r) (alignments id r r)
-    (none_both (kinds id r r) (reserves id r r)
-    (none_unless _ (difference.Kind id r.kind r.kind) (kind_itself r.kind))
-    (none_unless _ (difference.Reserved id r.reserved r.reserved) (number_itself r.reserved)))
-    (none_unless _ (difference.Alignment id r.alignment r.alignment) (number_itself r.alignment)))
-    (none_unless _ (difference.Flags id r.flags r.flags) (number_itself r.flags)))
-    (none_unless _ (difference.Name id r.name r.name) (text_itself r.name))
-
 -- what a volume uses of a LEB goes by its alignment
 pub one_usable : (s : Sizes) (r q : VolumeRecord) → r.alignment ≡ q.alignment → usable s r ≡ usable s q
 one_usable s r q same = ap (λ a. leb_size s - leb_size s % a) same
-
--- what is chosen where a test is true
-chosen : {A : Type 0} (test : Bool) (x y : A) → test ≡ true → (if test then x else y) ≡ x
-chosen true x y is = refl
-chosen false x y is = absurd (false≢true is)
 
 -- where no LEB is told, none is read apart
 pub none_apart : (s : Sizes) (id : ℕ) (v w : Volume) → v.entry.alignment ≡ w.entry.alignment

@@ -2,6 +2,9 @@
 #![tactic(auto)]
 
 mod difference;
+mod found;
 pub mod laws;
+mod ranges;
+mod records;
 
 pub use difference::{Condition, Difference, Side};

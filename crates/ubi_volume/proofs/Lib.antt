@@ -24,6 +24,7 @@ pub mod Mismatches
 pub mod Moved
 pub mod Narrow
 pub mod Narrowed
+pub mod OfSurvey
 pub mod One
 pub mod OneAttached
 pub mod OneCause

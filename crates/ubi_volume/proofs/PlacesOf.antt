@@ -52,7 +52,7 @@ found_too w id (x ∷ es) (y ∷ cs) r h e =
           (next.0, ap (λ b. cond b (Some y.1) (find nat_cmp id cs)) t.0 ∙ next.1, next.2)
     ]
 
-find_case : (s : Sizes) (id : ℕ) (vs : List (ℕ × Volume)) (v : Volume) → find nat_cmp id vs ≡ Some v
+pub find_case : (s : Sizes) (id : ℕ) (vs : List (ℕ × Volume)) (v : Volume) → find nat_cmp id vs ≡ Some v
     → find nat_cmp id (map (case_in s) vs) ≡ Some (case_of s v.entry v.content)
 find_case s id [] v e = absurd (no_some v e)
 find_case s id (w ∷ vs) v e = elim (told nat_cmp nat_cmp_total exact_unsigned id w.0) [

@@ -1,5 +1,6 @@
 -- What is known of an image without what its volumes read.
-use Rattle.std.specs.Prelude.{◌≡◌, ◌≤◌, List, length, refl}
+use Rattle.std.specs.Prelude.{◌≡◌, ◌≤◌, ℕ, List, Some, length, refl}
+use Rattle.std.specs.FinMap.{get}
 use Rattle.std.specs.Coded.{Coded, code_by, coded×, coded_list}
 use Rattle.ubi_media.specs.Geometry.{Sizes}
 use Rattle.ubi_scan.specs.Coded.{found_code}
@@ -11,7 +12,10 @@ use Rattle.ubi_table.specs.Coded.{records_code}
 use Rattle.ubi_table.specs.Records.{Records}
 use Rattle.ubi_volume.specs.Attached.{IsAttached, Whole}
 use Rattle.ubi_volume.specs.Meant.{Meant, records_of}
+use Rattle.ubi_volume.specs.Places.{case_of}
 use Rattle.ubi_volume.specs.declared.attached.BlockState.{BlockState}
+use Rattle.ubi_volume.specs.declared.content.Volume.{Volume}
+use Rattle.ubi_volume.specs.declared.places.PlaceContent.{PlaceContent}
 use Rattle.ubi_volume.specs.contracts.attached.BlockState as state_type
 
 -- the records of the table, what the scan found, and the state of each eraseblock
@@ -45,3 +49,8 @@ pub record IsSurveyOf (s : Sizes) (k : Source) (agrees : Agreed) (v : Seen) : Ty
 -- what attaching a source gives is that of the image, whatever the source may hold
 abbrev pub IsAttachedOf : Sizes → Agreed → Whole → Type 0
 IsAttachedOf s agrees a = WhereHeld agrees (λ bytes. IsAttached (image_of s bytes) a)
+
+-- the case and size of what a volume of the image reads, by the meaning that was surveyed
+abbrev pub TellsCase : Image → Seen → ℕ → PlaceContent → Type 0
+TellsCase image v id case =
+    (h : IsSurvey image v) (w : Volume) → get h.meaning.volumes id ≡ Some w → case ≡ case_of image.sizes w.entry w.content

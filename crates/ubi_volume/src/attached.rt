@@ -16,10 +16,11 @@ ghost use Rattle.ubi_volume.specs.Survey.{IsAttachedOf};
 ghost use Rattle.ubi_volume.specs.inner.Gathered.{IsContentOf};
 
 use crate::block::is_kept;
+use crate::cases::cases_from;
 use crate::content::{Bytes, Content, Lebs, Volume};
 use crate::extract::write_places;
 use crate::meaning::Meaning;
-use crate::places::{Extent, PlaceContent, Places, cases_from};
+use crate::places::{Extent, PlaceContent, Places};
 use crate::surveyed::{Checked, Surveyed, checked_from, states_of};
 use std::alloc::{AllocError, Global};
 use std::marker::Model;

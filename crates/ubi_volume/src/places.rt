@@ -1,27 +1,23 @@
 //! An image that is attached without its contents: where each volume reads from, and how much.
 
 ghost use Rattle.std.specs.FinMap as finite;
-ghost use Rattle.std.specs.Prelude.{◌≡◌, ◌==◌, IfErr, IfOk, IsSome, Some, find, option_map, ◌<◌, ◌↔◌, IsTrue, None, false, length, ◌≤◌};
-ghost use Rattle.ubi_media.specs.Check.{check};
+ghost use Rattle.std.specs.Prelude.{◌≡◌, ◌==◌, IfErr, IfOk, IsSome, Some, find, option_map, None, ◌≤◌};
 ghost use Rattle.ubi_media.specs.Geometry.{leb_size};
 ghost use Rattle.ubi_media.specs.Record.{rec_fault};
-ghost use Rattle.ubi_media.specs.declared.vid.VolKind.TheVariants.{Static};
 ghost use Rattle.ubi_scan.specs.Image.{Image};
-ghost use Rattle.ubi_scan.specs.Source.{Narrows, WhereHeld, blocks_in, blocks_of};
-ghost use Rattle.ubi_scan.specs.Stream.{IsReadFault, IsScanOf, NamesBlock, after};
+ghost use Rattle.ubi_scan.specs.Source.{Narrows};
+ghost use Rattle.ubi_scan.specs.Stream.{NamesBlock, after};
 ghost use Rattle.ubi_volume.specs.Extract.{extent_in, extent_len, extent_of, share_len};
-ghost use Rattle.ubi_volume.specs.Places.{ArePlacesError, ArePlacesOf, IsNextPlace, CaseFits, IsReadFailure, ArePlaces};
+ghost use Rattle.ubi_volume.specs.Places.{ArePlacesError, ArePlacesOf, IsNextPlace, ArePlaces};
 ghost use Rattle.ubi_volume.specs.Reading.{volume_len};
-ghost use Rattle.ubi_volume.specs.inner.Cases.{AreCases, AreNumbered, CaseIs, PieceSizeIs};
-ghost use Rattle.ubi_volume.specs.inner.Gathered.{UsedIs};
-ghost use Rattle.ubi_volume.specs.inner.Surveying.{AreChecked};
 
+use crate::cases::cases_from;
 use crate::errors::ReadError;
 use crate::surveyed::{Checked, checked_from, is_within};
-use std::alloc::{AllocError, Global};
+use std::alloc::Global;
 use std::marker::Model;
-use ubi_media::{Geometry, VidHeader, VolKind, VolumeRecord, crc};
-use ubi_scan::{BlockSource, Scan, StreamError, read_leb, read_member};
+use ubi_media::{Geometry, VolumeRecord};
+use ubi_scan::{BlockSource, Scan, StreamError};
 use ubi_table::Table;
 
 /// What a volume reads, without its bytes.
@@ -152,181 +148,6 @@ pub fn attach_places<S: BlockSource>(
     })
 }
 
-/// How many logical eraseblocks the first winner of a volume says that the volume uses. 0 where it has none. The buffer
-/// has the size of an eraseblock, here and below.
-fn used_ebs<S: BlockSource>(
-    geometry: &Geometry,
-    source: &mut S,
-    scan: &Scan,
-    id: u32,
-    buffer: &mut [u8],
-) -> Result<u32, StreamError>
-    requires scan { IsScanOf geometry.now (S.known source.old) (S.agrees source.old) scan.now }
-    requires room { length buffer.old ≡ geometry.now.peb_size }
-    ensures known { S.known source.new ≡ after (S.known source.old) result }
-    ensures narrows { Narrows (S.agrees source.old) (S.agrees source.new) }
-    ensures used { IfOk result (λ used. WhereHeld (S.agrees source.new) (λ bytes. UsedIs geometry.now (blocks_of geometry.now bytes) id used)) }
-    ensures failed { IfErr result (IsReadFault (blocks_in geometry.now (S.known source.old))) }
-    ensures named { IfErr result (NamesBlock geometry.now (S.failed_at source.new)) }
-{
-    match scan.next_winner(id, 0) {
-        Some((_, p)) => match read_member(source, geometry, p, buffer)? {
-            Some(header) => Ok(header.used_ebs),
-            None => Ok(0),
-        },
-        None => Ok(0),
-    }
-}
-
-/// Whether a header says that its volume uses so many logical eraseblocks, and that its data are these.
-fn holds_piece(header: &VidHeader, used: u32, text: &[u8]) -> bool
-    ensures { IsTrue result ↔ ((header.now.used_ebs ≡ used) × (check text.now ≡ header.now.data_crc)) }
-{
-    header.used_ebs == used && crc(text) == header.data_crc
-}
-
-/// The size in bytes of the piece that the winner of a logical eraseblock holds of a text of `used` of them. None where
-/// there is no winner, where it says that the volume uses another number of them, or where its data have another check.
-fn piece_size<S: BlockSource>(
-    geometry: &Geometry,
-    source: &mut S,
-    scan: &Scan,
-    id: u32,
-    used: u32,
-    lnum: u32,
-    buffer: &mut [u8],
-) -> Result<Option<u32>, StreamError>
-    requires scan { IsScanOf geometry.now (S.known source.old) (S.agrees source.old) scan.now }
-    requires room { length buffer.old ≡ geometry.now.peb_size }
-    ensures known { S.known source.new ≡ after (S.known source.old) result }
-    ensures narrows { Narrows (S.agrees source.old) (S.agrees source.new) }
-    ensures won { IfOk result (λ size. IsSome size → IsSome (finite.get scan.now.winners (id, lnum))) }
-    ensures piece { IfOk result (λ size. WhereHeld (S.agrees source.new) (λ bytes. PieceSizeIs geometry.now (blocks_of geometry.now bytes) id used lnum size)) }
-    ensures failed { IfErr result (IsReadFault (blocks_in geometry.now (S.known source.old))) }
-    ensures named { IfErr result (NamesBlock geometry.now (S.failed_at source.new)) }
-{
-    let Some(p) = scan.winner(id, lnum) else {
-        return Ok(None);
-    };
-    let Some(header) = read_member(source, geometry, p, buffer)? else {
-        return Ok(None);
-    };
-    let size = header.data_size.min(geometry.leb_size());
-    prove!(geometry.data_offset() <= geometry.peb_size());
-    let text = &mut buffer[..size as usize];
-    read_leb(source, geometry, p, text)?;
-    if holds_piece(&header, used, text) {
-        Ok(Some(size))
-    } else {
-        Ok(None)
-    }
-}
-
-/// What a static volume without update marker reads: nothing where it has no winner, its text where its winners hold
-/// all of it, and else it is damaged.
-fn static_case<S: BlockSource>(
-    geometry: &Geometry,
-    source: &mut S,
-    scan: &Scan,
-    table: &Table,
-    id: u32,
-    entry: &VolumeRecord,
-    buffer: &mut [u8],
-) -> Result<PlaceContent, StreamError>
-    requires checked { AreChecked geometry.now (S.known source.old) (S.agrees source.old) scan.now table.now }
-    requires recorded { finite.get table.now.of id ≡ Some entry.now }
-    requires sound { rec_fault geometry.now entry.now ≡ None }
-    requires unmarked { entry.now.marker ≡ false }
-    requires kind { entry.now.kind ≡ Static }
-    requires room { length buffer.old ≡ geometry.now.peb_size }
-    ensures known { S.known source.new ≡ after (S.known source.old) result }
-    ensures narrows { Narrows (S.agrees source.old) (S.agrees source.new) }
-    ensures case { IfOk result (λ case. WhereHeld (S.agrees source.new) (λ bytes. CaseIs geometry.now (blocks_of geometry.now bytes) id entry.now case)) }
-    ensures fits { IfOk result (CaseFits scan.now.winners id entry.now) }
-    ensures failed { IfErr result (IsReadFault (blocks_in geometry.now (S.known source.old))) }
-    ensures named { IfErr result (NamesBlock geometry.now (S.failed_at source.new)) }
-{
-    let used = used_ebs(geometry, source, scan, id, buffer)?;
-    if used > entry.reserved {
-        return Ok(PlaceContent::Damaged);
-    }
-    if scan.next_winner(id, used).is_some() {
-        return Ok(PlaceContent::Damaged);
-    }
-    let mut bytes = 0;
-    for lnum in 0..used {
-        match piece_size(geometry, source, scan, id, used, lnum, buffer)? {
-            Some(size) => bytes += u64::from(size),
-            None => return Ok(PlaceContent::Damaged),
-        }
-    }
-    Ok(PlaceContent::Static { lebs: used, bytes })
-}
-
-/// What a volume of the table reads.
-fn case_of<S: BlockSource>(
-    geometry: &Geometry,
-    source: &mut S,
-    scan: &Scan,
-    table: &Table,
-    id: u32,
-    entry: &VolumeRecord,
-    buffer: &mut [u8],
-) -> Result<PlaceContent, StreamError>
-    requires checked { AreChecked geometry.now (S.known source.old) (S.agrees source.old) scan.now table.now }
-    requires recorded { finite.get table.now.of id ≡ Some entry.now }
-    requires sound { rec_fault geometry.now entry.now ≡ None }
-    requires room { length buffer.old ≡ geometry.now.peb_size }
-    ensures known { S.known source.new ≡ after (S.known source.old) result }
-    ensures narrows { Narrows (S.agrees source.old) (S.agrees source.new) }
-    ensures case { IfOk result (λ case. WhereHeld (S.agrees source.new) (λ bytes. CaseIs geometry.now (blocks_of geometry.now bytes) id entry.now case)) }
-    ensures fits { IfOk result (CaseFits scan.now.winners id entry.now) }
-    ensures failed { IfErr result (IsReadFault (blocks_in geometry.now (S.known source.old))) }
-    ensures named { IfErr result (NamesBlock geometry.now (S.failed_at source.new)) }
-{
-    if entry.marker {
-        return Ok(PlaceContent::Updating);
-    }
-    match entry.kind {
-        VolKind::Dynamic => Ok(PlaceContent::Dynamic),
-        VolKind::Static => static_case(geometry, source, scan, table, id, entry, buffer),
-    }
-}
-
-/// What each volume of the table reads.
-///
-/// # Errors
-///
-/// Read where a read failed. Memory where it ran out.
-pub fn cases_from<S: BlockSource>(
-    alloc: Global,
-    geometry: &Geometry,
-    source: &mut S,
-    scan: &Scan,
-    table: &Table,
-    buffer: &mut [u8],
-) -> Result<Vec<(u32, PlaceContent)>, StreamError>
-    requires checked { AreChecked geometry.now (S.known source.old) (S.agrees source.old) scan.now table.now }
-    requires room { length buffer.old ≡ geometry.now.peb_size }
-    ensures known { S.known source.new ≡ after (S.known source.old) result }
-    ensures narrows { Narrows (S.agrees source.old) (S.agrees source.new) }
-    ensures numbered { IfOk result (λ cases. AreNumbered scan.now.winners (finite.entries table.now.of) cases.items) }
-    ensures cases { IfOk result (λ cases. WhereHeld (S.agrees source.new) (λ bytes. AreCases geometry.now (blocks_of geometry.now bytes) (finite.entries table.now.of) cases.items)) }
-    ensures failed { IfErr result (IsReadFailure (blocks_in geometry.now (S.known source.old))) }
-    ensures named { IfErr result (NamesBlock geometry.now (S.failed_at source.new)) }
-{
-    let mut cases = Vec::new(alloc);
-    for listed in table.entries() {
-        let (id, entry) = *listed;
-        let case = case_of(geometry, source, scan, table, id, &entry, buffer)?;
-        match cases.push((id, case)) {
-            Ok(()) => {}
-            Err(full) => return Err(AllocError::from(full).into()),
-        }
-    }
-    Ok(cases)
-}
-
 /// The bytes that a volume reads, in the order of its logical eraseblocks: as many in each as there is room for, and in
 /// the last what is left.
 #[derive(Debug, Clone, Copy)]
@@ -345,7 +166,7 @@ impl Extent {
     /// # Errors
     ///
     /// `Updating` or `Damaged`: it can't be read.
-    fn of(
+    pub fn of(
         geometry: &Geometry,
         entry: &VolumeRecord,
         content: PlaceContent,

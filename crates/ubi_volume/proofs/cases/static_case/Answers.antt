@@ -3,21 +3,21 @@ use Rattle.ubi_volume.proofs.CaseSizes.{damaged_case, no_piece, size_more, size_
 use Rattle.ubi_volume.proofs.Either.{are_lebs}
 use Rattle.ubi_volume.proofs.Static.{damaged_behind, damaged_large, damaged_piece}
 use Rattle.ubi_volume.proofs.Winners.{found_wins, next_none, next_some, none_found}
-use Rattle.ubi_volume.proofs.places.static_case.Goals as goal
+use Rattle.ubi_volume.proofs.cases.static_case.Goals as goal
 
 pub returns-then-used-entry-clause-case : goal.returns-then-used-entry-clause-case
 returns-then-used-entry-clause-case g c = λ bytes holds.
     let s = c.args.geometry.now in
     let bs = blocks_of s bytes in
     damaged_case s bs c.args.id c.args.entry.now c.requires.unmarked c.requires.kind
-    (damaged_large s bs (c.requires.checked.scan.held bytes (c.in_ok-used.ensures.narrows bytes holds)).clean c.args.id c.in_ok-used.used
+    (damaged_large s bs (c.requires.scan.held bytes (c.in_ok-used.ensures.narrows bytes holds)).clean c.args.id c.in_ok-used.used
     (c.in_ok-used.ensures.used bytes holds) c.args.entry.now c.if-used-entry.true)
 
 pub returns-then-is_some-clause-case : goal.returns-then-is_some-clause-case
 returns-then-is_some-clause-case g c = λ bytes holds.
     let s = c.args.geometry.now in
     let bs = blocks_of s bytes in
-    let scan = c.requires.checked.scan.held bytes (c.in_ok-used.ensures.narrows bytes holds) in
+    let scan = c.requires.scan.held bytes (c.in_ok-used.ensures.narrows bytes holds) in
     let next = next_some c.args.scan.now c.args.id c.in_ok-used.used c.next_winner.result
     (sym c.is_some.ensures ∙ c.if-is_some.true) c.next_winner.ensures in
     damaged_case s bs c.args.id c.args.entry.now c.requires.unmarked c.requires.kind
@@ -43,7 +43,7 @@ returns-in-None-clause-case g c = λ bytes holds.
     let none = subst (PieceSizeIs s bs c.args.id c.in_ok-used.used c.loop-lnum.lnum) c.in-None.is
     (c.in_ok-size.ensures.piece bytes holds) in
     damaged_case s bs c.args.id c.args.entry.now c.requires.unmarked c.requires.kind
-    (damaged_piece s bs (c.requires.checked.scan.held bytes (c.loop-lnum.invariant.narrows bytes before)).clean c.args.id
+    (damaged_piece s bs (c.requires.scan.held bytes (c.loop-lnum.invariant.narrows bytes before)).clean c.args.id
     c.in_ok-used.used (c.loop-lnum.invariant.used bytes before) c.args.entry.now c.loop-lnum.lnum c.loop-lnum-test.true
     (no_piece s bs c.args.id c.in_ok-used.used c.loop-lnum.lnum none))
 
@@ -71,12 +71,12 @@ returns-clause-case g c = λ bytes holds.
     let s = c.args.geometry.now in
     let bs = blocks_of s bytes in
     let first = c.loop-lnum.invariant.narrows bytes holds in
-    let scan = c.requires.checked.scan.held bytes first in
+    let scan = c.requires.scan.held bytes first in
     let last : c.loop-lnum.lnum ≡ c.in_ok-used.used = omega arith in
     let none = next_none c.args.scan.now c.args.id c.in_ok-used.used c.next_winner.result
     (sym c.is_some.ensures ∙ c.if-is_some.false) c.next_winner.ensures in
     static_case s bs c.args.id c.args.entry.now scan.clean (are_lebs (image_of s bytes)) c.args.table.now
-    (c.requires.checked.alike bytes first) c.requires.recorded c.requires.unmarked c.requires.kind
+    (c.requires.alike bytes first) c.requires.recorded c.requires.unmarked c.requires.kind
     (usable_some s c.args.entry.now c.requires.sound) c.in_ok-used.used c.loop-lnum.bytes
     (subst (λ n. SizeIsRead s bs c.args.id c.in_ok-used.used n c.loop-lnum.bytes) last
     (c.loop-lnum.invariant.read bytes holds)) c.if-used-entry.false

@@ -2,14 +2,17 @@ use Rattle.ubi_volume.proofs.Prelude.{◌≡◌, ◌+◌, ◌∙◌, [], ◌∷�
 use Rattle.ubi_volume.proofs.Gathered.{listed_item}
 use Rattle.ubi_volume.proofs.Narrowed.{checked_narrowed}
 use Rattle.ubi_volume.proofs.PlacesOf.{cases_more, numbered_more}
-use Rattle.ubi_volume.proofs.places.cases_from.Goals as goal
+use Rattle.ubi_volume.proofs.cases.cases_from.Goals as goal
 
-pub case_of-requires-clause-checked : goal.case_of-requires-clause-checked
-case_of-requires-clause-checked g c =
+pub case_of-requires-clause-scan : goal.case_of-requires-clause-scan
+case_of-requires-clause-scan g c =
     let s = c.args.geometry.now in
     let agrees = g.S.BlockSource.agrees c.loop-listed.source in
-    subst (λ (k : Source). AreChecked s k agrees c.args.scan.now c.args.table.now) (sym c.loop-listed.invariant.source)
-    (checked_narrowed s _ _ agrees c.args.scan.now c.args.table.now c.loop-listed.invariant.narrows c.requires.checked)
+    (subst (λ (k : Source). AreChecked s k agrees c.args.scan.now c.args.table.now) (sym c.loop-listed.invariant.source)
+    (checked_narrowed s _ _ agrees c.args.scan.now c.args.table.now c.loop-listed.invariant.narrows c.requires.checked)).scan
+
+pub case_of-requires-clause-alike : goal.case_of-requires-clause-alike
+case_of-requires-clause-alike g c = λ bytes holds. c.requires.checked.alike bytes (c.loop-listed.invariant.narrows bytes holds)
 
 pub case_of-requires-clause-recorded : goal.case_of-requires-clause-recorded
 case_of-requires-clause-recorded g c = listed_item c.args.table.now c.entries-listed-items.result.now

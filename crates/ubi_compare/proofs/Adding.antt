@@ -1,0 +1,49 @@
+-- What is found tells more and more differences.
+use Rattle.std.proofs.Common.{◌≡◌, ◌≢◌, Bool, true, false, List, [], ◌∷◌, ◌++◌, append-nil, append_assoc, refl, ap, sym, ◌∙◌, subst, ◌↔◌}
+use Rattle.ubi_compare.proofs.Apart.{both_none, none_both}
+use Rattle.ubi_compare.specs.declared.difference.Difference.{Difference}
+use Rattle.ubi_compare.specs.declared.found.Found.{Found}
+use Rattle.ubi_compare.specs.inner.Found.{Adds, Tells}
+
+-- some were told, and more are behind them
+tells_more : (brief : Bool) (old new more ds : List Difference) → new ≡ old ++ more → Tells brief old ds
+    → Tells brief new (ds ++ more)
+tells_more false old new more ds is told = is ∙ ap (λ xs. xs ++ more) told
+tells_more true old new more ds is told = (
+  λ none. (let parts = both_none old more (sym is ∙ none) in none_both ds more (told.0 parts.0) parts.1),
+  λ none. (let parts = both_none ds more none in is ∙ none_both old more (told.1 parts.0) parts.1),
+)
+
+pub adds_list : (old new : Found) (more : List Difference) → new.is_brief ≡ old.is_brief
+    → new.list.items ≡ old.list.items ++ more → Adds old new more
+adds_list old new more brief is = record {
+  brief = brief;
+  tells = λ ds told. tells_more old.is_brief old.list.items new.list.items more ds is told;
+}
+
+pub adds_none : (f : Found) → Adds f f []
+adds_none f = adds_list f f [] refl (sym (append-nil f.list.items))
+
+pub adds_more : (f g h : Found) (xs ys : List Difference) → Adds f g xs → Adds g h ys → Adds f h (xs ++ ys)
+adds_more f g h xs ys a b = record {
+  brief = b.brief ∙ a.brief;
+  tells = λ ds told.
+      subst (Tells f.is_brief h.list.items) (append_assoc ds xs ys)
+      (subst (λ (k : Bool). Tells k h.list.items (ds ++ xs ++ ys)) a.brief
+      (b.tells (ds ++ xs) (subst (λ (k : Bool). Tells k g.list.items (ds ++ xs)) (sym a.brief) (a.tells ds told))));
+}
+
+-- what is settled in brief stays so
+tells_settled : (brief : Bool) (found more ds : List Difference) → brief ≡ true → found ≢ [] → Tells brief found ds
+    → Tells brief found (ds ++ more)
+tells_settled false found more ds is some told = absurd (cc)
+tells_settled true found more ds is some told = (
+  λ none. absurd (some none),
+  λ none. told.1 (both_none ds more none).0,
+)
+
+pub adds_settled : (f : Found) (more : List Difference) → f.is_brief ≡ true → f.list.items ≢ [] → Adds f f more
+adds_settled f more brief some = record {
+  brief = refl;
+  tells = λ ds told. tells_settled f.is_brief f.list.items more ds brief some told;
+}

@@ -1,0 +1,3 @@
+-- Definitions that only private functions' contracts and proofs cite.
+pub mod Found
+pub mod Ranges
