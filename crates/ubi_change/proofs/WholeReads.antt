@@ -1,17 +1,6 @@
 -- What is read of an eraseblock, in the bytes that a source may hold.
 use Rattle.ubi_change.proofs.Prelude.{◌≡◌, ℕ, ◌+◌, ◌-◌, ◌/◌, ◌<◌, List, length, drop, sym, ◌∙◌, subst, arith, length-drop, slice_range, div-mul-le_self, take_all, Sizes, block, Agreed, IsSource, Narrows, Source, blocks_in, blocks_of, length-of_chunk, scan_narrowed, IsSurveyOf, Seen, part_is}
 
--- what is known of all that a source may hold is known of what is left of it
-pub survey_narrowed : (s : Sizes) (k : Source) (old new : Agreed) (v : Seen) → Narrows old new → IsSurveyOf s k old v
-    → IsSurveyOf s k new v
-survey_narrowed s k old new v narrows h = record {
-  scan = scan_narrowed s k old new v.scan narrows h.scan;
-  sizes = h.sizes;
-  mean = h.mean;
-  count = h.count;
-  held = λ bytes agrees. h.held bytes (narrows bytes agrees);
-}
-
 module _ (s : Sizes) (k : Source) (agrees : Agreed) (is : IsSource k agrees) (bytes : List ℕ) (holds : agrees bytes) (p : ℕ)
     (inside : p < blocks_in s k) where
   -- an eraseblock is whole

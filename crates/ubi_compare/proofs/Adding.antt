@@ -47,3 +47,22 @@ adds_settled f more brief some = record {
   brief = refl;
   tells = λ ds told. tells_settled f.is_brief f.list.items more ds brief some told;
 }
+
+-- in brief one difference is as good as some
+tells_one : (brief : Bool) (new ds more : List Difference) (d : Difference) → brief ≡ true → more ≢ []
+    → Tells brief new (ds ++ d ∷ []) → Tells brief new (ds ++ more)
+tells_one false new ds more d is some told = absurd (cc)
+tells_one true new ds more d is some told = (
+  λ none. absurd (one_told (both_none ds (d ∷ []) (told.0 none)).1),
+  λ none. absurd (some (both_none ds more none).1),
+)
+  where
+    one_told : d ∷ [] ≡ [] → ⊥
+    one_told none = cc
+
+pub adds_brief : (old new : Found) (more : List Difference) (d : Difference) → old.is_brief ≡ true → more ≢ []
+    → Adds old new (d ∷ []) → Adds old new more
+adds_brief old new more d is some one = record {
+  brief = one.brief;
+  tells = λ ds told. tells_one old.is_brief new.list.items ds more d is some (one.tells ds told);
+}

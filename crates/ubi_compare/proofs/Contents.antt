@@ -46,7 +46,7 @@ pub one_usable : (s : Sizes) (r q : VolumeRecord) → r.alignment ≡ q.alignmen
 one_usable s r q same = ap (λ a. leb_size s - leb_size s % a) same
 
 -- where no LEB is told, none is read apart
-pub none_apart : (s : Sizes) (id : ℕ) (v w : Volume) → v.entry.alignment ≡ w.entry.alignment
+pub none_apart : (s : Sizes) (id : ℕ) (v w : Volume) → usable s v.entry ≡ usable s w.entry
     → leb_differences s id v w ≡ [] → (lnum : ℕ) → lnum < v.entry.reserved
     → read_apart (leb_read s v.entry lnum v.content) (leb_read s w.entry lnum w.content) ≡ false
 none_apart s id v w same none lnum inside =
@@ -54,7 +54,7 @@ none_apart s id v w same none lnum inside =
     let all = ranges_after None (lebs_apart s v w) in
     let listed : map told all ≡ [] =
     sym (chosen (usable s v.entry == usable s w.entry) (map told all) []
-    ((unsigned_Decides (usable s v.entry) (usable s w.entry)).1 (one_usable s v.entry w.entry same))) ∙ none in
+    ((unsigned_Decides (usable s v.entry) (usable s w.entry)).1 same)) ∙ none in
     none_pass (λ lnum. read_apart (leb_read s v.entry lnum v.content) (leb_read s w.entry lnum w.content))
     0 v.entry.reserved (ranges_none (lebs_apart s v w) (map_none told all listed)) lnum (omega arith) (omega arith)
 
@@ -75,17 +75,17 @@ one_text size some t u long same =
     sym (shares_all size some t) ∙ shares_so_far size t u (pieces size (length t)) same
     ∙ ap (λ n. take (pieces size n * size) u) long ∙ shares_all size some u
 
-below : (k n : ℕ) → k < n → nat_lt k n ≡ true
+pub below : (k n : ℕ) → k < n → nat_lt k n ≡ true
 below k n inside = lt-ltb k n inside
 
 -- a LEB of a static volume
-static_leb : (s : Sizes) (r : VolumeRecord) (lnum : ℕ) (t : List ℕ) → lnum < pieces (usable s r) (length t)
+pub static_leb : (s : Sizes) (r : VolumeRecord) (lnum : ℕ) (t : List ℕ) → lnum < pieces (usable s r) (length t)
     → leb_read s r lnum (content.Static t) ≡ Ok (share (usable s r) t lnum)
 static_leb s r lnum t inside =
     chosen (nat_lt lnum (pieces (usable s r) (length t))) (Ok (share (usable s r) t lnum)) _ (below lnum _ inside)
 
 -- a LEB of a dynamic volume
-dynamic_leb : (s : Sizes) (r : VolumeRecord) (lnum : ℕ) (l : FinMap nat_cmp (List ℕ)) → lnum < r.reserved
+pub dynamic_leb : (s : Sizes) (r : VolumeRecord) (lnum : ℕ) (l : FinMap nat_cmp (List ℕ)) → lnum < r.reserved
     → leb_read s r lnum (content.Dynamic l) ≡ Ok (leb_text (usable s r) (finite.get l lnum))
 dynamic_leb s r lnum l inside =
     chosen (nat_lt lnum r.reserved) (Ok (leb_text (usable s r) (finite.get l lnum))) _ (below lnum _ inside)
@@ -115,7 +115,7 @@ module _ (s : Sizes) (id : ℕ) (r q : VolumeRecord) (is : IsOneRecord r q) (som
       (share (usable s r) u k) (static_leb s r k t inside)
       (static_leb s q k u (subst (λ n. k < n) (ap (pieces (usable s r)) long ∙ ap (λ z. pieces z (length u)) size_is) inside)
       ∙ ap (λ z. Ok (share z u k)) (sym size_is))
-      (none_apart s id (with r (content.Static t)) (with q (content.Static u)) is.alignment none k (omega arith)))
+      (none_apart s id (with r (content.Static t)) (with q (content.Static u)) size_is none k (omega arith)))
 
   dynamic_same : (l m : FinMap nat_cmp (List ℕ)) → Fits s r (content.Dynamic l) → Fits s q (content.Dynamic m)
       → KeepsNoBlank s r (content.Dynamic l) → KeepsNoBlank s q (content.Dynamic m)
@@ -128,7 +128,7 @@ module _ (s : Sizes) (id : ℕ) (r q : VolumeRecord) (is : IsOneRecord r q) (som
             (leb_text (usable s r) (finite.get l n)) (leb_text (usable s r) (finite.get m n)) (dynamic_leb s r n l inside)
             (dynamic_leb s q n m (subst (λ k. n < k) is.reserved inside)
             ∙ ap (λ z. Ok (leb_text z (finite.get m n))) (sym size_is))
-            (none_apart s id (with r (content.Dynamic l)) (with q (content.Dynamic m)) is.alignment none n inside))
+            (none_apart s id (with r (content.Dynamic l)) (with q (content.Dynamic m)) size_is none n inside))
         | inr beyond ↦ outside r.reserved n (usable s r) (finite.get l n) beyond (fits.2 n)
             ∙ sym (outside q.reserved n (usable s q) (finite.get m n) (subst (λ k. k ≤ n) is.reserved beyond) (fits_too.2 n))
       ])

@@ -6,10 +6,7 @@ use Rattle.ubi_compare.specs.Differences.{ranges_after}
 use Rattle.ubi_compare.specs.declared.difference.Difference.{Difference}
 use Rattle.ubi_compare.specs.declared.difference.Difference.TheVariants as difference
 use Rattle.ubi_compare.specs.declared.ranges.Ranges.{Ranges}
-use Rattle.ubi_compare.specs.inner.Ranges.{told_with}
-
-abbrev told_of : ℕ → List (ℕ × ℕ) → List Difference
-told_of id = map (λ (e : ℕ × ℕ). difference.Lebs id e.0 e.1)
+use Rattle.ubi_compare.specs.inner.Ranges.{told_of, told_with}
 
 -- a LEB that follows the last joins it
 pub joined : (old new : Ranges) (lnum first last : ℕ) → old.begun ≡ Some (first, last) → (lnum == last + 1) ≡ true

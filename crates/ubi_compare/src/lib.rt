@@ -2,9 +2,15 @@
 #![tactic(auto)]
 
 mod difference;
+mod errors;
 mod found;
 pub mod laws;
+mod lebs;
 mod ranges;
 mod records;
+mod shares;
+mod sides;
+mod volumes;
 
 pub use difference::{Condition, Difference, Side};
+pub use errors::{CompareError, CompareFault};

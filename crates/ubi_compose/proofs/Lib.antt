@@ -37,17 +37,14 @@ pub mod Puts
 pub mod ReadBytes
 pub mod ReadSoFar
 pub mod Received
-pub mod Refusals
 pub mod Rising
 pub mod Room
-pub mod SamePlaces
 pub mod Sound
 pub mod Spares
 pub mod SpecVectors
 pub mod StoredImage
 pub mod StoredNext
 pub mod StoredPieces
-pub mod StoredVolumes
 pub mod StandIns
 pub mod Table
 pub mod Taken

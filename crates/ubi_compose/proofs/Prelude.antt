@@ -1,18 +1,18 @@
 -- The names that the proofs of this crate speak of, and where they come from.
-pub use Rattle.std.proofs.Common.{Bool, Bor, Decides, List, T, [], add-zero, ap, append-nil, append_assoc, arith, below_more, cond, drop, false, get_or, inl, inr, length, length-append, length-drop, length-take-le, lit<, map, not, refl, replicate, rules, set, slice_range, subst, suc, sym, take, take-append-drop, tests, true, vec_items, zero, zero-add, ℕ, ◌%◌, ◌&&◌, ◌*◌, ◌++◌, ◌+◌, ◌-◌, ◌/◌, ◌<◌, ◌==◌, ◌^◌, ◌||◌, ◌∙◌, ◌∷◌, ◌≡◌, ◌≢◌, ◌≤◌, ◌⊎◌}
+pub use Rattle.std.proofs.Common.{Bool, Bor, List, T, [], add-zero, ap, append-nil, append_assoc, arith, cond, drop, false, get_or, inl, inr, length, length-append, length-drop, length-take-le, lit<, map, not, refl, replicate, rules, set, slice_range, subst, suc, sym, take, take-append-drop, tests, true, vec_items, zero, zero-add, ℕ, ◌%◌, ◌&&◌, ◌*◌, ◌++◌, ◌+◌, ◌-◌, ◌/◌, ◌<◌, ◌==◌, ◌^◌, ◌||◌, ◌∙◌, ◌∷◌, ◌≡◌, ◌≢◌, ◌≤◌, ◌⊎◌}
 pub use Rattle.std.proofs.KnownBytes.{Appends-nil}
 pub use Rattle.std.proofs.Math.Nat.{mul-add-mod_self_right, mul-div_cancel}
 pub use Rattle.std.proofs.Math.Path.{ap₂}
 pub use Rattle.std.proofs.Math.Seq.{drop-append-add, drop-append_seam, take-append-add, take-append_seam}
-pub use Rattle.std.proofs.lemmas.Bool.{and_parts, cases_eq, cases_lt, cases_order, eqb-true, false≢true}
-pub use Rattle.std.proofs.lemmas.Bool.Decides.{Decides-and, Decides-like, nat_tests}
+pub use Rattle.std.proofs.lemmas.Bool.{and_parts, cases_eq, cases_order, eqb-true}
+pub use Rattle.std.proofs.lemmas.Bool.Decides.{nat_tests}
 pub use Rattle.std.proofs.lemmas.Cmp.{ranked}
 pub use Rattle.std.proofs.lemmas.Grind.{common_steps, div_ceil_times, flat_map-append}
 pub use Rattle.std.proofs.lemmas.Iterator.{YieldsList-from_take}
 pub use Rattle.std.proofs.lemmas.Iterator.Consumers.{YieldsList-end, YieldsList-turn}
 pub use Rattle.std.proofs.lemmas.Iterator.Search.{any_from_yields_List}
 pub use Rattle.std.proofs.lemmas.Iterator.Splits.{YieldsList-from_slice_split}
-pub use Rattle.std.proofs.lemmas.List.{drop-append-le, drop-drop, drop-take, drop_all, drop_more, get_or-append_right, get_or-map, get_or-replicate, get_or_at, length-map, length-replicate, length-take, length_push, map-append, map-id, map-set, replicate-append-replicate, set-get_or, set_at, take-append-le, take-replicate, take-take, take_all, take_at, take_more}
+pub use Rattle.std.proofs.lemmas.List.{drop-append-le, drop-drop, drop-take, drop_all, drop_more, get_or-append_right, get_or-replicate, get_or_at, length-map, length-replicate, length-take, length_push, map-append, map-id, map-set, replicate-append-replicate, set-get_or, set_at, take-append-le, take-replicate, take-take, take_all, take_at, take_more}
 pub use Rattle.std.proofs.lemmas.List.Concat.{concat_is, length-flat_map}
 pub use Rattle.std.proofs.lemmas.List.Elements.{All-from_recursion, All-get_or, filter-append, filter_map-append}
 pub use Rattle.std.proofs.lemmas.List.Folds.{find-append, flat_map-map, list_all-append, list_any-append}
@@ -22,14 +22,12 @@ pub use Rattle.std.proofs.lemmas.Map.Lookups.{exact_unsigned}
 pub use Rattle.std.proofs.lemmas.Nat.{div-mul-add, mul-le}
 pub use Rattle.std.proofs.lemmas.Nat.Gcd.{dvd_of_mod-eq-zero}
 pub use Rattle.std.proofs.lemmas.Option.{get_or_from_slice_get, none-some, same_Some, slice_get-get_or, slice_get-map, slice_get_cases, slice_get_read, slice_get_within}
-pub use Rattle.std.proofs.lemmas.Result.{IfErr-weaker, IfOk-weaker, err_from_is_err_and, on_ok_weaker}
+pub use Rattle.std.proofs.lemmas.Result.{err_from_is_err_and, on_ok_weaker}
 pub use Rattle.std.proofs.lemmas.Simd.{map-map}
-pub use Rattle.std.proofs.lemmas.Slice.Eq.{slice_eq-Decides}
 pub use Rattle.std.specs.BTreeMap.{BTreeMap, IsOrdered, is_at}
 pub use Rattle.std.specs.Bool.{then_some}
-pub use Rattle.std.specs.Cmp.{nat_cmp_total, unsigned_Decides}
-pub use Rattle.std.specs.Cmp.Lexicographic.{pointwise}
-pub use Rattle.std.specs.FinMap.{FinMap, from_entries, from_entries_push, is_sorted, nat_cmp-IsAntisymmetric, put, same_entries_map}
+pub use Rattle.std.specs.Cmp.{nat_cmp_total}
+pub use Rattle.std.specs.FinMap.{FinMap, from_entries, from_entries_push, is_sorted, nat_cmp-IsAntisymmetric, put}
 pub use Rattle.std.specs.FinMap.Entries.{below_all, by_order}
 unfoldable pub use Rattle.std.specs.Fmt.{digits}
 pub use Rattle.std.specs.Int.{div_ceil, ◌∣◌}
@@ -38,7 +36,7 @@ pub use Rattle.std.specs.Iterator.Adapters.{take_source}
 pub use Rattle.std.specs.List.{AllByRecursion, concat, enumerate_from, list_all, list_any, position_from, range_with_len, repeat, slice_split}
 pub use Rattle.std.specs.Option.{ok_or, option_copied, option_map_or, option_or}
 pub use Rattle.std.specs.Ordering.{eq_by_cmp, is_lt, nat_cmp}
-pub use Rattle.std.specs.Prelude.{Contains, Err, IfOk, IfSome, IsSome, IsTrue, MatchResult, None, Ok, Option, Result, Some, codes, filter_map, find, flat_map, fold, is_none, is_some, min, nat_le, nat_lt, option_and_then, option_map, slice_get, slice_index, slice_set, sum_by, unwrap_or, ⊤, ◌↔◌}
+pub use Rattle.std.specs.Prelude.{Contains, Err, IfOk, IfSome, IsSome, MatchResult, None, Ok, Option, Result, Some, codes, filter_map, find, flat_map, fold, is_none, is_some, min, nat_le, nat_lt, option_and_then, option_map, slice_get, slice_index, slice_set, sum_by, unwrap_or, ⊤, ◌↔◌}
 pub use Rattle.std.specs.Result.{result_map_both, result_ok}
 pub use Rattle.std.specs.Simd.{first_chunks}
 pub use Rattle.std.specs.declared.cmp.Ordering.{Ordering}
@@ -81,21 +79,16 @@ pub use Rattle.ubi_scan.proofs.Decided.{Wins-unique}
 pub use Rattle.ubi_scan.proofs.Entries.{first_entry, sorted_entries}
 pub use Rattle.ubi_scan.proofs.Filled.{behind, drop_blank, filled-by, filled-is, filled-none, length-blank, length-filled}
 pub use Rattle.ubi_scan.proofs.Finite.{find_at}
-pub use Rattle.ubi_scan.proofs.InMemory.{still}
 pub use Rattle.ubi_scan.proofs.Keys.{apart_test, at_itself, same_test, told}
-pub use Rattle.ubi_scan.proofs.Narrowed.{source_narrowed}
 pub use Rattle.ubi_scan.proofs.Parts.{blank_vid}
-pub use Rattle.ubi_scan.proofs.Revalued.{entries_revalued}
 pub use Rattle.ubi_scan.proofs.Seq.{seq_is}
 pub use Rattle.ubi_scan.proofs.Truths.{both_left, both_right}
 pub use Rattle.ubi_scan.specs.Clean.{IsSound}
 pub use Rattle.ubi_scan.specs.Faults.{IsMislaid, NoFault}
-pub use Rattle.ubi_scan.specs.Image.{Image, IsLengthFault, IsWhole, IsWholeSize, block, ec, eraseblocks, image_of, leb, vid, vid_area}
+pub use Rattle.ubi_scan.specs.Image.{Image, IsWhole, block, ec, eraseblocks, image_of, leb, vid, vid_area}
 pub use Rattle.ubi_scan.specs.Members.{IsMember, Leb, NoMember, Wins, foreign, foreign_if, good_in, has_members, is_good, layout, leb_of, member, member_if, named_in, sqnum_at, sqnum_in}
 pub use Rattle.ubi_scan.specs.Numbers.{image_seq, seq_if, seq_of}
-pub use Rattle.ubi_scan.specs.Source.{Agreed, IsSource, Narrows, Source, WhereHeld, blocks_in, holds, memory, memory_sized}
-pub use Rattle.ubi_scan.specs.Stream.{IsReadFault}
-pub use Rattle.ubi_scan.specs.declared.errors.StreamError.{StreamError}
+pub use Rattle.ubi_scan.specs.Source.{Agreed, Narrows, Source, blocks_in}
 pub use Rattle.ubi_scan.specs.inner.Held.{anything, sound}
 pub use Rattle.ubi_table.proofs.Held.{table_written}
 pub use Rattle.ubi_table.proofs.NoRecords.{no_entries}
@@ -107,43 +100,38 @@ pub use Rattle.ubi_volume.proofs.Arranged.{fits_without_blank, keeps_no_blank}
 pub use Rattle.ubi_volume.proofs.Blanks.{blank_text, other_text}
 pub use Rattle.ubi_volume.proofs.ContentAt.{case_fits}
 pub use Rattle.ubi_volume.proofs.Either.{are_lebs}
-pub use Rattle.ubi_volume.proofs.Equal.{record_Decides}
-pub use Rattle.ubi_volume.proofs.Extracted.{extent_at, front_of, leb_is, piece_is, same_Ok, same_range, static_is, static_whole}
+pub use Rattle.ubi_volume.proofs.Extracted.{front_of, same_range, static_whole}
 pub use Rattle.ubi_volume.proofs.FirstCause.{one_first}
-pub use Rattle.ubi_volume.proofs.Gathered.{listed_item, record_at}
 pub use Rattle.ubi_volume.proofs.LesserPage.{greater_breaks, lesser_page}
 pub use Rattle.ubi_volume.proofs.Listed.{listed_volume}
 pub use Rattle.ubi_volume.proofs.MeantRecords.{meant_by, records_are, records_fit, volume_is}
 pub use Rattle.ubi_volume.proofs.Narrowed.{places_narrowed, wrote_narrowed, wrote_where}
-pub use Rattle.ubi_volume.proofs.One.{Accepts-unique, kept_alike, outside}
+pub use Rattle.ubi_volume.proofs.One.{Accepts-unique}
 pub use Rattle.ubi_volume.proofs.Pieces.{length-share, piece_begins, pieces_few, pieces_suffice, share_full, share_more, share_most, share_none, share_some, shares_all}
 pub use Rattle.ubi_volume.proofs.Received.{Splits, error_behind, error_front, wrote_as, wrote_cut, wrote_more, wrote_text}
 pub use Rattle.ubi_volume.proofs.Recorded.{record_of}
 pub use Rattle.ubi_volume.proofs.Shares.{header_at, share_at}
 pub use Rattle.ubi_volume.proofs.Static.{damaged_piece, piece_checked, piece_unchecked, read_more, read_none, static_reads}
-pub use Rattle.ubi_volume.proofs.VolumeAt.{HasCase, case_is, content_has, content_is, found_or_none, found_wins, in_table, reads_of, table}
+pub use Rattle.ubi_volume.proofs.VolumeAt.{found_or_none, found_wins, in_table, reads_of, table}
 pub use Rattle.ubi_volume.proofs.WithoutBlank.{get_without_blank, is_kept}
 pub use Rattle.ubi_volume.specs.Accepts.{Accepts, AcceptsBlocks, IsWithin, NoMismatch, Refuses}
-pub use Rattle.ubi_volume.specs.Extract.{extent_in, extent_of, leb_bytes, share_len}
+pub use Rattle.ubi_volume.specs.Extract.{share_len}
 pub use Rattle.ubi_volume.specs.Made.{IsBefore, IsFirst, IsItem, Items, NoCause, Stands, item_without_blank, lebs_without_blank, rank, without_blank}
 pub use Rattle.ubi_volume.specs.Means.{AreWhole, LebReads, SlotMeans, StaticReads, VolumeReads, piece}
 pub use Rattle.ubi_volume.specs.Meant.{Fits, HasDistinctNames, IsMeaning, IsVolume, KeepsNoBlank, Meant, VolumeMap, pieces, records_of, share}
 pub use Rattle.ubi_volume.specs.PageLaws.{image_with_page, meaning_with_page}
-pub use Rattle.ubi_volume.specs.Places.{ArePlaces, ArePlacesError, ArePlacesOf, AreWithin, CaseFits, IsCountedPlace, IsNextPlace, Placed, case_of}
+pub use Rattle.ubi_volume.specs.Places.{ArePlaces, ArePlacesOf, AreWithin, CaseFits, IsCountedPlace, IsNextPlace, Placed, case_of}
 pub use Rattle.ubi_volume.specs.Reading.{leb_text, lebs_text, read_volume, volume_read}
 pub use Rattle.ubi_volume.specs.Wrote.{All, First, NotAll, Wrote}
 pub use Rattle.ubi_volume.specs.declared.content.Content.{Content}
 pub use Rattle.ubi_volume.specs.declared.content.Volume.{Volume}
 pub use Rattle.ubi_volume.specs.declared.errors.MeaningCause.{MeaningCause}
-pub use Rattle.ubi_volume.specs.declared.errors.ReadError.{ReadError}
-pub use Rattle.ubi_volume.specs.declared.places.Extent.{Extent}
 pub use Rattle.ubi_volume.specs.declared.places.PlaceContent.{PlaceContent}
-pub use Rattle.ubi_volume.specs.inner.Gathered.{AreRead, ContentIs, PieceIs, UsedIs}
+pub use Rattle.ubi_volume.specs.inner.Gathered.{AreRead, PieceIs, UsedIs}
 unfoldable pub use Rattle.ubi_words.specs.Words.{is_number, number_within}
 pub use Rattle.ubi_compose.specs.Building.{CanBuild, those}
 pub use Rattle.ubi_compose.specs.Built.{HaveMeaning, Parts, Reaches, built, content_of, item_of, items_of, lebs_of, most_blocks, pieces_of, text_of}
 pub use Rattle.ubi_compose.specs.BuiltLaws.{text_read}
-pub use Rattle.ubi_compose.specs.Compared.{IsSameFault, WhereBothHeld}
 pub use Rattle.ubi_compose.specs.Composed.{HasRoom, composed, spare}
 pub use Rattle.ubi_compose.specs.ErrorTexts.{spec_error_text}
 pub use Rattle.ubi_compose.specs.Laws.{MeanTheSame, Normalising}
@@ -160,7 +148,6 @@ pub use Rattle.ubi_compose.specs.Words.{escaped, is_escape, only_byte, shown_byt
 unfoldable pub use Rattle.ubi_compose.specs.Words.{flags_of, hex_of, kind_of, shown_bytes, shown_name}
 pub use Rattle.ubi_compose.specs.declared.errors.LineError.{LineError}
 pub use Rattle.ubi_compose.specs.declared.errors.PutError.{PutError}
-pub use Rattle.ubi_compose.specs.declared.errors.SameFault.{SameFault}
 pub use Rattle.ubi_compose.specs.declared.errors.SpecCause.{SpecCause}
 pub use Rattle.ubi_compose.specs.declared.line.Form.{Form}
 pub use Rattle.ubi_compose.specs.declared.line.Line.{Line}
@@ -169,7 +156,6 @@ pub use Rattle.ubi_compose.specs.declared.piece.Origin.{Origin}
 pub use Rattle.ubi_compose.specs.declared.piece.Piece.{Piece}
 pub use Rattle.ubi_compose.specs.declared.recipe.Part.{Part}
 pub use Rattle.ubi_compose.specs.inner.Building.{HasParts, built_piece, built_pieces, empty_of, is_long, part_at, part_header, piece_of_kind, stand_in, stand_in_item, table_of}
-pub use Rattle.ubi_compose.specs.inner.Comparing.{AreSameLebs, IsSameLeb, IsSidesError, OfMeanings, TellsVolume}
 pub use Rattle.ubi_compose.specs.inner.Drafts.{AreDrafts, AreFaultless, IsRefused, changed, changed_at, error_at, opened, place_of, read, taken, with_line}
 pub use Rattle.ubi_compose.specs.inner.Pieces.{HasPut, IsFirstFrom, IsInBuffer, IsNext, IsReadIn, IsReadOf, IsReadable, LiesIn, NoRead, Pieces, checked_header, first_lebs, first_volumes, given_check, image_bytes, is_left_out, known_put, leb_written, piece_bytes, piece_text, spares_bytes, table_block, tables_bytes, volume_bytes}
 pub use Rattle.ubi_compose.specs.inner.Stored.{dynamic_piece, static_piece, stored_count, stored_piece, stored_pieces}

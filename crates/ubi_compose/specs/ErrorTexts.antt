@@ -1,7 +1,6 @@
--- What is printed of an image that isn't composed or built, images that aren't compared, and a text that isn't read.
+-- What is printed of an image that isn't composed or built, and a text that isn't read.
 use Rattle.std.specs.Prelude.{ℕ, List, ◌++◌, codes, decimal}
-use Rattle.ubi_media.specs.ErrorTexts.{rec_fault_name, refusal_text}
-use Rattle.ubi_scan.specs.ErrorTexts.{stream_error_text}
+use Rattle.ubi_media.specs.ErrorTexts.{rec_fault_name}
 use Rattle.ubi_volume.specs.ErrorTexts.{meaning_cause_text}
 use Rattle.ubi_compose.specs.declared.errors.BuildError.{BuildError}
 use Rattle.ubi_compose.specs.declared.errors.BuildError.TheVariants as build
@@ -9,10 +8,6 @@ use Rattle.ubi_compose.specs.declared.errors.ComposeError.{ComposeError}
 use Rattle.ubi_compose.specs.declared.errors.ComposeError.TheVariants as compose
 use Rattle.ubi_compose.specs.declared.errors.RecipeError.{RecipeError}
 use Rattle.ubi_compose.specs.declared.errors.RecipeError.TheVariants as recipe
-use Rattle.ubi_compose.specs.declared.errors.SameError.{SameError}
-use Rattle.ubi_compose.specs.declared.errors.SameError.TheVariants as same
-use Rattle.ubi_compose.specs.declared.errors.SameFault.{SameFault}
-use Rattle.ubi_compose.specs.declared.errors.SameFault.TheVariants as fault
 use Rattle.ubi_compose.specs.declared.errors.SpecCause.{SpecCause}
 use Rattle.ubi_compose.specs.declared.errors.SpecCause.TheVariants as cause
 use Rattle.ubi_compose.specs.declared.errors.SpecError.{SpecError}
@@ -35,18 +30,6 @@ build_error_text (build.Beyond id) = codes "C2 Beyond volume=" ++ decimal id
 build_error_text build.Memory = codes "out of memory"
 build_error_text (build.Read id n) = codes "a read failed volume=" ++ decimal id ++ codes " written=" ++ decimal n
 build_error_text (build.Write n) = codes "a write failed written=" ++ decimal n
-
--- the text of why two images aren't compared: which of them is at fault, and how
-abbrev pub same_error_text : SameError → List ℕ
-same_error_text (same.Left c) = codes "left " ++ refusal_text c
-same_error_text (same.Right c) = codes "right " ++ refusal_text c
-same_error_text same.Memory = codes "out of memory"
-
--- the text of why two sources aren't compared
-abbrev pub same_fault_text : SameFault → List ℕ
-same_fault_text (fault.Left e) = codes "left " ++ stream_error_text e
-same_fault_text (fault.Right e) = codes "right " ++ stream_error_text e
-same_fault_text fault.Memory = codes "out of memory"
 
 -- the name of what is wrong with a line of a text
 abbrev pub spec_cause_name : SpecCause → List ℕ

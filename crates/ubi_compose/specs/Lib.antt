@@ -11,6 +11,5 @@ pub mod NormalLaws
 pub mod PageLaws
 pub mod BuiltLaws
 pub mod Streamed
-pub mod Compared
 pub mod ErrorTexts
 pub mod inner

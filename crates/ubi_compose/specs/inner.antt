@@ -1,6 +1,5 @@
 -- Definitions that only private functions' contracts and proofs cite.
 pub mod Building
-pub mod Comparing
 pub mod Drafts
 pub mod Pieces
 pub mod Stored

@@ -24,7 +24,6 @@
 
 mod buffer;
 mod building;
-mod comparing;
 mod composing;
 mod drafts;
 mod errors;
@@ -32,7 +31,6 @@ mod header;
 pub mod laws;
 mod laying;
 mod line;
-mod matching;
 mod parsing;
 mod piece;
 mod pieces;
@@ -49,11 +47,8 @@ mod volume;
 mod words;
 
 pub use building::build_to;
-pub use comparing::{same, same_from};
 pub use composing::{compose, normalise};
-pub use errors::{
-    BuildError, ComposeError, RecipeError, SameError, SameFault, SpecCause, SpecError,
-};
+pub use errors::{BuildError, ComposeError, RecipeError, SpecCause, SpecError};
 pub use parsing::parse_spec;
 pub use recipe::{Part, Recipe};
 pub use shown::shown_name;

@@ -1,0 +1,18 @@
+use Rattle.std.proofs.Common.{◌≡◌}
+use Rattle.ubi_scan.specs.Source.{Narrows}
+use Rattle.ubi_compare.specs.Compared.{WhereBothHeld}
+use Rattle.ubi_compare.specs.inner.Ranges.{HaveFound}
+use Rattle.ubi_compare.specs.inner.Sides.{OfMeanings, OfVolumes}
+use Rattle.ubi_compare.proofs.lebs.compare_lebs.Given as goal
+
+abbrev pub invariant-loop-lnum : goal.invariant-loop-lnum
+invariant-loop-lnum g l = record {
+  left : g.L.BlockSource.known l.left ≡ g.L.BlockSource.known l.fn.left;
+  right : g.R.BlockSource.known l.right ≡ g.R.BlockSource.known l.fn.right;
+  left_narrows : Narrows (g.L.BlockSource.agrees l.fn.left) (g.L.BlockSource.agrees l.left);
+  right_narrows : Narrows (g.R.BlockSource.agrees l.fn.right) (g.R.BlockSource.agrees l.right);
+  found : l.found ≡ l.fn.found;
+  have : WhereBothHeld (g.L.BlockSource.agrees l.left) (g.R.BlockSource.agrees l.right)
+      (λ x y. OfMeanings l.geometry l.here.survey.now l.there.survey.now x y
+      (λ m n. OfVolumes l.id m n (λ v w. HaveFound l.geometry l.id v w l.ranges l.lnum)));
+}
