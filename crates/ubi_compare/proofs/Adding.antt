@@ -1,5 +1,5 @@
 -- What is found tells more and more differences.
-use Rattle.std.proofs.Common.{◌≡◌, ◌≢◌, Bool, true, false, List, [], ◌∷◌, ◌++◌, append-nil, append_assoc, refl, ap, sym, ◌∙◌, subst, ◌↔◌}
+use Rattle.std.proofs.Common.{◌≡◌, ◌≢◌, Bool, true, false, List, [], ◌∷◌, ◌++◌, append-nil, append_assoc, refl, ap, sym, ◌∙◌, subst}
 use Rattle.ubi_compare.proofs.Apart.{both_none, none_both}
 use Rattle.ubi_compare.specs.declared.difference.Difference.{Difference}
 use Rattle.ubi_compare.specs.declared.found.Found.{Found}
@@ -66,3 +66,14 @@ adds_brief old new more d is some one = record {
   brief = one.brief;
   tells = λ ds told. tells_one old.is_brief new.list.items ds more d is some (one.tells ds told);
 }
+
+-- what is found from the beginning is all
+none_tells : (brief : Bool) → Tells brief [] []
+none_tells true = (λ none. refl, λ none. refl)
+none_tells false = refl
+
+pub all_found : (f g : Found) (brief : Bool) (ds : List Difference) → f.list.items ≡ [] → f.is_brief ≡ brief → Adds f g ds
+    → Tells brief g.list.items ds
+all_found f g brief ds none is adds =
+    subst (λ (b : Bool). Tells b g.list.items ds) is
+    (adds.tells [] (subst (λ (found : List Difference). Tells f.is_brief found []) (sym none) (none_tells f.is_brief)))

@@ -1,8 +1,9 @@
 -- Lists of differences that are empty.
-use Rattle.std.proofs.Common.{◌≡◌, ℕ, zero, suc, ◌+◌, ◌<◌, ◌≤◌, Bool, true, false, cond, inl, inr, List, [], ◌∷◌, ◌++◌, map, refl, ap, sym, ◌∙◌, subst, arith, ◌==◌}
+use Rattle.std.proofs.Common.{◌≡◌, ℕ, zero, suc, ◌+◌, ◌<◌, ◌≤◌, Bool, true, false, cond, inl, inr, List, [], ◌∷◌, ◌++◌, length, map, refl, ap, sym, ◌∙◌, subst, arith, ◌==◌}
 use Rattle.std.proofs.lemmas.Bool.{false≢true, cases_lt}
+use Rattle.std.specs.Cmp.{unsigned_Decides}
 use Rattle.std.specs.List.{range_with_len}
-use Rattle.std.specs.Prelude.{filter, flat_map, None, Option, Some, if◌then◌else◌}
+use Rattle.std.specs.Prelude.{filter, flat_map, None, Some, if◌then◌else◌}
 use Rattle.ubi_compare.specs.Differences.{ranges_after, unless}
 use Rattle.ubi_compare.specs.declared.difference.Difference.{Difference}
 
@@ -89,3 +90,11 @@ begun r (n ∷ ns) none =
 pub ranges_none : (ns : List ℕ) → ranges_after None ns ≡ [] → ns ≡ []
 ranges_none [] none = refl
 ranges_none (n ∷ ns) none = absurd (begun (n, n) ns none)
+
+-- whether a list is empty
+pub is_none : {A : Type 0} (xs : List A) → (length xs == 0) ≡ true → xs ≡ []
+is_none [] none = refl
+is_none (x ∷ xs) none = let none : length (x ∷ xs) ≡ 0 = (unsigned_Decides (length (x ∷ xs)) 0).0 none in absurd (omega arith)
+
+pub is_empty : {A : Type 0} (xs : List A) → xs ≡ [] → (length xs == 0) ≡ true
+is_empty xs none = ap (λ ys. length ys == 0) none ∙ (unsigned_Decides 0 0).1 refl

@@ -1,19 +1,16 @@
 -- Two volumes of which no difference is told.
-use Rattle.std.proofs.Common.{◌≡◌, ◌≢◌, ℕ, zero, suc, ◌+◌, ◌*◌, ◌-◌, ◌%◌, ◌<◌, ◌≤◌, Bool, true, false, not, inl, inr, List, [], ◌∷◌, ◌++◌, length, map, take, refl, ap, sym, ◌∙◌, subst, arith, ◌==◌}
+use Rattle.std.proofs.Common.{◌≡◌, ◌≢◌, ℕ, zero, suc, ◌+◌, ◌*◌, ◌-◌, ◌%◌, ◌<◌, ◌≤◌, Bool, true, false, not, inl, inr, List, [], ◌++◌, length, map, take, refl, ap, sym, ◌∙◌, subst, arith, ◌==◌}
 use Rattle.std.proofs.lemmas.Bool.{false≢true, cases_lt, lt-ltb}
-use Rattle.std.proofs.lemmas.List.{take_all}
 use Rattle.std.specs.Cmp.{nat_cmp_total, unsigned_Decides}
 use Rattle.std.specs.FinMap as finite
 use Rattle.std.specs.FinMap.{FinMap, nat_cmp-IsAntisymmetric}
-use Rattle.std.specs.List.{range_with_len}
 use Rattle.std.specs.Ordering.{nat_cmp}
-use Rattle.std.specs.Prelude.{IfSome, None, Ok, Err, Option, Result, Some, if◌then◌else◌, nat_lt, ◌↔◌}
+use Rattle.std.specs.Prelude.{IfSome, None, Ok, Err, Option, Result, Some, nat_lt}
 use Rattle.ubi_media.proofs.Records.{usable_some}
-use Rattle.ubi_media.specs.Fields.{blank, same_bytes}
+use Rattle.ubi_media.specs.Fields.{blank}
 use Rattle.ubi_media.specs.Geometry.{Sizes, leb_size}
-use Rattle.ubi_media.specs.Record.{data_pad, usable}
+use Rattle.ubi_media.specs.Record.{usable}
 use Rattle.ubi_media.specs.declared.record.VolumeRecord.{VolumeRecord}
-use Rattle.ubi_media.specs.declared.vid.VolKind.{VolKind}
 use Rattle.ubi_media.specs.declared.vid.VolKind.TheVariants as kind
 use Rattle.ubi_volume.proofs.Equal.{bytes_Decides}
 use Rattle.ubi_volume.proofs.One.{kept_alike, outside}
@@ -26,10 +23,9 @@ use Rattle.ubi_volume.specs.declared.content.Volume.{Volume}
 use Rattle.ubi_volume.specs.declared.errors.ReadError.{ReadError}
 use Rattle.ubi_compare.proofs.Apart.{both_none, chosen, map_none, none_both, none_pass, none_unless, pass_none, ranges_none, unless_none}
 use Rattle.ubi_compare.proofs.Fields.{IsOneRecord, number_itself, one_record, record_itself, text_itself}
-use Rattle.ubi_compare.specs.Differences.{condition_of, content_differences, leb_differences, lebs_apart, length_differences, ranges_after, read_apart, record_differences, same_condition, same_kind, unless, volume_differences}
+use Rattle.ubi_compare.specs.Differences.{condition_of, content_differences, leb_differences, lebs_apart, length_differences, ranges_after, read_apart, record_differences, same_condition, unless, volume_differences}
 use Rattle.ubi_compare.specs.declared.difference.Condition.{Condition}
 use Rattle.ubi_compare.specs.declared.difference.Condition.TheVariants as condition
-use Rattle.ubi_compare.specs.declared.difference.Difference.{Difference}
 use Rattle.ubi_compare.specs.declared.difference.Difference.TheVariants as difference
 
 condition_itself : (a : Condition) → same_condition a a ≡ true

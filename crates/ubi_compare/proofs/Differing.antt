@@ -1,15 +1,18 @@
 -- In what two volumes differ, by their cases.
-use Rattle.std.proofs.Common.{◌≡◌, ◌≢◌, ℕ, ◌+◌, ◌*◌, ◌<◌, Bool, true, false, List, [], ◌++◌, length, map, refl, ap, ap₂, sym, ◌∙◌, subst, arith, ◌==◌}
+use Rattle.std.proofs.Common.{◌≡◌, ◌≢◌, ℕ, ◌+◌, Bool, true, false, List, [], ◌∷◌, ◌++◌, refl, ap, ap₂, sym, ◌∙◌, subst, arith, append-nil, append_assoc, ◌==◌}
 use Rattle.std.specs.Cmp.{unsigned_Decides}
+use Rattle.std.proofs.lemmas.Grind.{flat_map-append}
 use Rattle.std.specs.FinMap as finite
-use Rattle.std.specs.Prelude.{Err, None, Ok, Option, Result, Some, if◌then◌else◌}
-use Rattle.ubi_media.specs.Geometry.{Sizes}
+use Rattle.std.specs.List.{range_with_len}
+use Rattle.std.specs.Prelude.{Err, None, Ok, Some, flat_map, if◌then◌else◌}
+use Rattle.ubi_media.specs.Geometry.{Sizes, slots}
 use Rattle.ubi_media.specs.Record.{usable}
 use Rattle.ubi_media.specs.declared.record.VolumeRecord.{VolumeRecord}
 use Rattle.ubi_scan.specs.Image.{image_of}
 use Rattle.ubi_volume.proofs.Extracted.{same_Ok}
-use Rattle.ubi_volume.proofs.OfSurvey.{has_entry, no_volume}
+use Rattle.ubi_volume.proofs.OfSurvey.{entry_of, has_entry, no_volume, places_of}
 use Rattle.ubi_volume.specs.Extract.{extent_of}
+use Rattle.ubi_volume.specs.Meant.{Meant}
 use Rattle.ubi_volume.specs.Places.{case_of}
 use Rattle.ubi_volume.specs.Reading.{leb_read}
 use Rattle.ubi_volume.specs.Survey.{IsSurvey, Seen}
@@ -22,15 +25,16 @@ use Rattle.ubi_volume.specs.declared.places.PlaceContent.{PlaceContent}
 use Rattle.ubi_volume.specs.declared.places.PlaceContent.TheVariants as place
 use Rattle.ubi_compare.proofs.Adding.{adds_more}
 use Rattle.ubi_compare.proofs.Apart.{not_chosen, pass_none}
-use Rattle.ubi_compare.proofs.ReadApart.{apart_from}
-use Rattle.ubi_compare.specs.Differences.{condition_of, content_differences, leb_differences, lebs_apart, length_differences, ranges_after, read_apart, same_condition, unless}
+use Rattle.ubi_compare.proofs.ReadApart.{apart_from, range_more}
+use Rattle.ubi_compare.specs.Differences.{condition_of, content_differences, differences, leb_differences, lebs_apart, length_differences, ranges_after, read_apart, record_differences, same_condition, unless, volume_differences}
 use Rattle.ubi_compare.specs.declared.difference.Condition.{Condition}
 use Rattle.ubi_compare.specs.declared.difference.Difference.{Difference}
 use Rattle.ubi_compare.specs.declared.difference.Difference.TheVariants as difference
+use Rattle.ubi_compare.specs.declared.difference.Side.TheVariants as side
 use Rattle.ubi_compare.specs.declared.found.Found.{Found}
 use Rattle.ubi_compare.specs.inner.Found.{Adds}
 use Rattle.ubi_compare.specs.inner.Ranges.{told_of}
-use Rattle.ubi_compare.specs.inner.Sides.{case_condition, case_lengths}
+use Rattle.ubi_compare.specs.inner.Sides.{case_condition, case_lengths, first_differences}
 
 condition_is : (s : Sizes) (r : VolumeRecord) (c : Content) → case_condition (case_of s r c) ≡ condition_of c
 condition_is s r content.Updating = refl
@@ -124,3 +128,92 @@ module _ (s : Sizes) (id : ℕ) (v w : Volume) where
         by_test true is = absurd (apart (size_of s r a one first ∙ ap (usable s) (sym here)
             ∙ (unsigned_Decides (usable s v.entry) (usable s w.entry)).0 is ∙ ap (usable s) there
             ∙ sym (size_of s q b other second)))
+
+-- the fields of the records, and what the volumes read
+pub both_told : (s : Sizes) (p q : Seen) (x y : List ℕ) (h : IsSurvey (image_of s x) p) (k : IsSurvey (image_of s y) q)
+    (id : ℕ) (r o : VolumeRecord) → finite.get p.records.of id ≡ Some r → finite.get q.records.of id ≡ Some o
+    → (v w : Volume) → finite.get h.meaning.volumes id ≡ Some v → finite.get k.meaning.volumes id ≡ Some w
+    → (f e n : Found) → Adds f e (record_differences id r o) → Adds e n (content_differences s id v w)
+    → Adds f n (volume_differences s id (Some v) (Some w))
+both_told s p q x y h k id r o here there v w at bt f e n records contents =
+    adds_more f e n (record_differences id v.entry w.entry) (content_differences s id v w)
+    (subst (λ (ds : List Difference). Adds f e ds)
+    (ap₂ (record_differences id) (sym (entry_of s x p h id r here v at)) (sym (entry_of s y q k id o there w bt))) records)
+    contents
+
+-- the first n and the next
+told_more : {A : Type 0} (of : ℕ → List A) (n : ℕ)
+    → flat_map of (range_with_len 0 n) ++ of (0 + n) ≡ flat_map of (range_with_len 0 (n + 1))
+told_more of n =
+    ap (λ xs. flat_map of (range_with_len 0 n) ++ xs) (sym (append-nil (of (0 + n))))
+    ∙ sym (flat_map-append of (range_with_len 0 n) (range_with_len (0 + n) 1)) ∙ ap (flat_map of) (sym (range_more 0 n 1))
+
+-- what stands in a slot, by the records of the tables
+module _ (s : Sizes) (p q : Seen) (x y : List ℕ) (h : IsSurvey (image_of s x) p) (k : IsSurvey (image_of s y) q) (id : ℕ) where
+  abbrev told : List Difference
+  told = volume_differences s id (finite.get h.meaning.volumes id) (finite.get k.meaning.volumes id)
+
+  pub neither : finite.get p.records.of id ≡ None → finite.get q.records.of id ≡ None → told ≡ []
+  neither here there = ap₂ (volume_differences s id) (no_volume s x p h id here) (no_volume s y q k id there)
+
+  pub left_only : (r : VolumeRecord) → finite.get p.records.of id ≡ Some r → finite.get q.records.of id ≡ None
+      → told ≡ difference.Only id side.Left ∷ []
+  left_only r here there =
+      ap₂ (volume_differences s id) (has_entry s x p h id r here).1 (no_volume s y q k id there)
+
+  pub right_only : (r : VolumeRecord) → finite.get p.records.of id ≡ None → finite.get q.records.of id ≡ Some r
+      → told ≡ difference.Only id side.Right ∷ []
+  right_only r here there =
+      ap₂ (volume_differences s id) (no_volume s x p h id here) (has_entry s y q k id r there).1
+
+  pub in_both : (r o : VolumeRecord) → finite.get p.records.of id ≡ Some r → finite.get q.records.of id ≡ Some o
+      → (f n : Found)
+      → ((v w : Volume) → finite.get h.meaning.volumes id ≡ Some v → finite.get k.meaning.volumes id ≡ Some w
+      → Adds f n (volume_differences s id (Some v) (Some w)))
+      → Adds f n told
+  in_both r o here there f n each =
+      let v = has_entry s x p h id r here in
+      let w = has_entry s y q k id o there in
+      subst (λ (ds : List Difference). Adds f n ds) (sym (ap₂ (volume_differences s id) v.1 w.1)) (each v.0 w.0 v.1 w.1)
+
+-- slot by slot
+module _ (s : Sizes) (p q : Seen) (x y : List ℕ) (h : IsSurvey (image_of s x) p) (k : IsSurvey (image_of s y) q) where
+  abbrev m : Meant
+  m = h.meaning
+
+  abbrev n : Meant
+  n = k.meaning
+
+  here : m.sizes ≡ s
+  here = h.attached.accepted.accepted.means.sizes
+
+  abbrev numbers : Bool → ℕ → ℕ → List Difference
+  numbers same a b = unless same (difference.ImageSeq a b)
+
+  pub no_slots : (f e : Found) → Adds f e (numbers (p.scan.image_seq == q.scan.image_seq) p.scan.image_seq q.scan.image_seq)
+      → Adds f e (first_differences 0 m n)
+  no_slots f e adds =
+      let one : p.scan.image_seq ≡ m.image_seq = (places_of s x p h).image_seq in
+      let other : q.scan.image_seq ≡ n.image_seq = (places_of s y q k).image_seq in
+      subst (λ (ds : List Difference). Adds f e ds)
+      (ap₂ (λ (a b : ℕ). numbers (a == b) a b) one other
+      ∙ sym (append-nil (numbers (m.image_seq == n.image_seq) m.image_seq n.image_seq))) adds
+
+  pub next_slot : (id : ℕ) (f e g : Found) → Adds f e (first_differences id m n)
+      → Adds e g (volume_differences s id (finite.get m.volumes id) (finite.get n.volumes id))
+      → Adds f g (first_differences (id + 1) m n)
+  next_slot id f e g before adds =
+      let of : ℕ → List Difference = λ i. volume_differences m.sizes i (finite.get m.volumes i) (finite.get n.volumes i) in
+      let seq = numbers (m.image_seq == n.image_seq) m.image_seq n.image_seq in
+      let own : Adds e g (of id) = subst (λ (z : Sizes). Adds e g (volume_differences z id (finite.get m.volumes id)
+      (finite.get n.volumes id))) (sym here) adds in
+      let at : 0 + id ≡ id = omega arith in
+      subst (λ (ds : List Difference). Adds f g ds)
+      (append_assoc seq (flat_map of (range_with_len 0 id)) (of id)
+      ∙ ap (λ (ds : List Difference). seq ++ ds)
+      (ap (λ (i : ℕ). flat_map of (range_with_len 0 id) ++ of i) (sym at) ∙ told_more of id))
+      (adds_more f e g (first_differences id m n) (of id) before own)
+
+  pub all_slots : (id : ℕ) → id ≡ slots s → (f e : Found) → Adds f e (first_differences id m n) → Adds f e (differences m n)
+  all_slots id all f e adds =
+      subst (λ (i : ℕ). Adds f e (first_differences i m n)) (all ∙ ap slots (sym here)) adds

@@ -6,3 +6,5 @@ pub mod Fields
 pub mod NothingDiffers
 pub mod Ranged
 pub mod ReadApart
+pub mod Refusals
+pub mod Tables

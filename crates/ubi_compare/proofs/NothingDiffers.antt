@@ -1,10 +1,10 @@
 -- No difference is told of two meanings exactly if they are the same.
-use Rattle.std.proofs.Common.{◌≡◌, ℕ, ◌+◌, ◌<◌, ◌≤◌, inl, inr, [], ◌++◌, refl, ap, sym, ◌∙◌, subst, arith, ◌==◌}
+use Rattle.std.proofs.Common.{◌≡◌, ℕ, ◌≤◌, inl, inr, [], refl, sym, ◌∙◌, subst, arith, ◌==◌}
 use Rattle.std.proofs.lemmas.Bool.{cases_lt}
 use Rattle.std.specs.Cmp.{nat_cmp_total, unsigned_Decides}
 use Rattle.std.specs.FinMap as finite
 use Rattle.std.specs.FinMap.{nat_cmp-IsAntisymmetric}
-use Rattle.std.specs.Prelude.{IfSome, None, Option, Some, ◌↔◌}
+use Rattle.std.specs.Prelude.{IfSome, None, Option, Some}
 use Rattle.ubi_media.specs.Geometry.{Sizes, slots}
 use Rattle.ubi_volume.specs.Meant.{IsMeaning, IsVolume, Meant}
 use Rattle.ubi_volume.specs.declared.content.Volume.{Volume}

@@ -1,6 +1,6 @@
 -- Ranges of LEBs that are found one after the other.
-use Rattle.std.proofs.Common.{◌≡◌, ℕ, ◌+◌, ◌==◌, true, false, List, [], ◌∷◌, ◌++◌, append_assoc, append-nil, map, refl, ap, sym, ◌∙◌}
-use Rattle.std.specs.Prelude.{None, Option, Some}
+use Rattle.std.proofs.Common.{◌≡◌, ℕ, ◌+◌, ◌==◌, true, false, List, [], ◌∷◌, ◌++◌, append_assoc, append-nil, ap, sym, ◌∙◌}
+use Rattle.std.specs.Prelude.{None, Some}
 use Rattle.ubi_compare.proofs.Apart.{chosen, not_chosen}
 use Rattle.ubi_compare.specs.Differences.{ranges_after}
 use Rattle.ubi_compare.specs.declared.difference.Difference.{Difference}

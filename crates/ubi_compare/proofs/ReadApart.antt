@@ -1,13 +1,11 @@
 -- The LEBs of a volume that are read differently, by their places.
-use Rattle.std.proofs.Common.{◌≡◌, ◌≢◌, ℕ, zero, suc, ◌+◌, ◌*◌, ◌-◌, ◌<◌, ◌≤◌, Bool, true, false, cond, not, inl, inr, List, [], ◌∷◌, ◌++◌, append-nil, append_assoc, length, map, refl, ap, ap₂, sym, ◌∙◌, subst, arith, ◌==◌}
+use Rattle.std.proofs.Common.{◌≡◌, ◌≢◌, ℕ, zero, suc, ◌+◌, ◌*◌, ◌-◌, ◌<◌, ◌≤◌, Bool, true, false, cond, not, inl, inr, List, [], ◌∷◌, ◌++◌, append-nil, append_assoc, length, refl, ap, ap₂, sym, ◌∙◌, subst, arith, ◌==◌}
 use Rattle.std.proofs.lemmas.Bool.{false≢true, cases_lt, le-ltb}
 use Rattle.std.proofs.lemmas.List.Elements.{filter-append}
 use Rattle.std.specs.Cmp.{unsigned_Decides}
 use Rattle.std.specs.FinMap as finite
-use Rattle.std.specs.FinMap.{FinMap}
 use Rattle.std.specs.List.{range_with_len}
-use Rattle.std.specs.Ordering.{nat_cmp}
-use Rattle.std.specs.Prelude.{Err, IsTrue, None, Ok, Option, Result, Some, filter, if◌then◌else◌, min, nat_lt, ◌↔◌}
+use Rattle.std.specs.Prelude.{Err, IsTrue, None, Ok, Result, Some, filter, min, nat_lt, ◌↔◌}
 use Rattle.ubi_media.specs.Fields.{same_bytes}
 use Rattle.ubi_media.specs.Geometry.{Sizes}
 use Rattle.ubi_media.specs.Record.{rec_fault, usable}
@@ -107,7 +105,7 @@ side_lebs s k agrees id side is e reads x holds h v at =
     are_lebs s side.survey.now x h id side.entry.now is.recorded is.sound v at side.case (is.case x holds h v at) e reads
 
 -- the first n and the next
-range_more : (a n m : ℕ) → range_with_len a (n + m) ≡ range_with_len a n ++ range_with_len (a + n) m
+pub range_more : (a n m : ℕ) → range_with_len a (n + m) ≡ range_with_len a n ++ range_with_len (a + n) m
 range_more a zero m = ap₂ range_with_len (omega arith) (omega arith)
 range_more a (suc n) m =
     let e : a + 1 + n ≡ a + suc n = omega arith in

@@ -1,6 +1,7 @@
 //! Comparing what two images mean: whether it is the same, and in what it differs.
 #![tactic(auto)]
 
+mod comparing;
 mod difference;
 mod errors;
 mod found;
@@ -12,5 +13,6 @@ mod shares;
 mod sides;
 mod volumes;
 
+pub use comparing::{diff_from, same, same_from};
 pub use difference::{Condition, Difference, Side};
 pub use errors::{CompareError, CompareFault};

@@ -203,11 +203,12 @@ pub fn compare_surveyed<L: BlockSource, R: BlockSource>(
     ensures failed { IfErr result (IsSidesError (blocks_in geometry.now (L.known left.old)) (blocks_in geometry.now (R.known right.old))) }
     ensures named { IfErr result (NamesSide geometry.now (L.failed_at left.new) (R.failed_at right.new)) }
 {
+    let (one, other) = (here.image_seq(), there.image_seq());
     found.add_unless(
-        here.image_seq() == there.image_seq(),
+        one == other,
         Difference::ImageSeq {
-            left: here.image_seq(),
-            right: there.image_seq(),
+            left: one,
+            right: other,
         },
     )?;
     let mut buffers = Vec::from_elem(alloc, 0u8, 2 * geometry.peb_size() as usize)?;

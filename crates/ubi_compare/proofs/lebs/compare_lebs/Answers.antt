@@ -1,4 +1,4 @@
-use Rattle.std.proofs.Common.{◌≡◌, ◌+◌, ◌<◌, ◌∙◌, ℕ, List, [], ◌∷◌, not, ap, refl, sym, subst, arith}
+use Rattle.std.proofs.Common.{◌≡◌, ◌+◌, ◌<◌, ◌∙◌, List, [], ◌∷◌, not, ap, refl, sym, subst, arith}
 use Rattle.std.specs.Prelude.{min}
 use Rattle.ubi_compare.proofs.Adding.{adds_brief}
 use Rattle.ubi_compare.proofs.ReadApart.{all_told, apart_by, none_found, one_apart, one_same, side_lebs, some_told, texts}

@@ -1,4 +1,4 @@
-use Rattle.std.proofs.Common.{◌≡◌, ◌∙◌, List, ◌++◌, ap, sym, subst}
+use Rattle.std.proofs.Common.{◌∙◌, List, ◌++◌, sym, subst}
 use Rattle.std.proofs.lemmas.Result.{on_ok_weaker}
 use Rattle.ubi_volume.proofs.OfSurvey.{entry_of}
 use Rattle.ubi_compare.proofs.Adding.{adds_more, adds_none, adds_settled}
