@@ -7,6 +7,7 @@ mod changing;
 mod check;
 mod compose;
 mod contents;
+mod diff;
 mod extract;
 mod failing;
 mod fake;

@@ -2,7 +2,6 @@ pub mod BuildReads
 pub mod BuiltInto
 pub mod CommandNames
 pub mod CommandWords
-pub mod Comparing
 pub mod Composed
 pub mod Cut
 pub mod DetectedLines

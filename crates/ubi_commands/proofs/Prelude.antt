@@ -70,17 +70,17 @@ pub use Rattle.ubi_change.specs.RenamePlanned.{IsPlannedRename, IsRenameError}
 pub use Rattle.ubi_change.specs.Renamed.{renamed}
 pub use Rattle.ubi_change.specs.Steps.{after, after_text, step_done}
 pub use Rattle.ubi_change.specs.declared.step.Step.{Step}
+pub use Rattle.ubi_compare.proofs.Refusals.{refuses}
 pub use Rattle.ubi_compose.proofs.BuiltReads.{built_reads}
 pub use Rattle.ubi_compose.proofs.BuiltRoom.{built_accepted}
 pub use Rattle.ubi_compose.proofs.Form.{count-composed, count-normal_bytes, normalising}
 pub use Rattle.ubi_compose.proofs.LesserPage.{normal_kept}
 pub use Rattle.ubi_compose.proofs.Lists.{all_append, all_from}
-pub use Rattle.ubi_compose.proofs.Refusals.{refuses}
 pub use Rattle.ubi_compose.proofs.StoredVolumes.{count, volume_at}
 pub use Rattle.ubi_compose.specs.Building.{CanBuild, IsBuildError, WhereNotBegun, image_built, known_after}
 pub use Rattle.ubi_compose.specs.Built.{HaveMeaning, Parts, Reaches, text_of}
 pub use Rattle.ubi_compose.specs.BuiltLaws.{text_read}
-pub use Rattle.ubi_compose.specs.Composed.{HasRoom, IsComparison, composed}
+pub use Rattle.ubi_compose.specs.Composed.{HasRoom, composed}
 pub use Rattle.ubi_compose.specs.Normal.{IsNormalised, normal_blocks}
 pub use Rattle.ubi_compose.specs.Spec.{volumes_of}
 pub use Rattle.ubi_compose.specs.Streamed.{HasGot, IsStreamed}
@@ -174,12 +174,13 @@ unfoldable pub use Rattle.ubi_commands.specs.Check.{printed_states}
 pub use Rattle.ubi_commands.specs.CommandLine.{AsksAsked, AsksBlank, AsksChange, AsksDump, AsksExtract, AsksKey, AsksNewImage, AsksNumbers, AsksPart, AsksPaths, AsksPlan, AsksRename, HasBelow, HasNumber, HasText, MayHaveBelow, MayHaveLong, MayHaveNumber, MayHaveText, gives, gives_no_geometry}
 pub use Rattle.ubi_commands.specs.Commands.{Asks, IsAllElse, IsAnswer, IsAnswerTo, IsRequest, Takes, command_name, reading_command, wrong_words}
 unfoldable pub use Rattle.ubi_commands.specs.Commands.{tool}
+pub use Rattle.ubi_commands.specs.Comparisons.{compared, compared_from, left_refused, left_refused_from, right_refused, right_refused_from}
 pub use Rattle.ubi_commands.specs.Compose.{Composes, ComposesInto, ComposesOf, crowded, described, fits, meaning_line, spec_line, unmade, unread}
 pub use Rattle.ubi_commands.specs.Extract.{Extracts, HasTextIn, IsExtractError, ReadsVolume, accepted, read, read_key, refused_from, unread_from, wrote}
 pub use Rattle.ubi_commands.specs.Geometry.{Detects, detected, detected_from, options_lines, undetected, undetected_from}
 unfoldable pub use Rattle.ubi_commands.specs.Geometry.{options, sizes_options}
 pub use Rattle.ubi_commands.specs.Key.{number_in}
-pub use Rattle.ubi_commands.specs.Lines.{blocks_line, bytes_line, comparison_line, no_block_line, undetected_line}
+pub use Rattle.ubi_commands.specs.Lines.{blocks_line, bytes_line, no_block_line, undetected_line}
 unfoldable pub use Rattle.ubi_commands.specs.Lines.{layout_words}
 pub use Rattle.ubi_commands.specs.List.{Lists, list_lines, listed, record_line, shown, unlisted, volume_line}
 unfoldable pub use Rattle.ubi_commands.specs.List.{room_words, sizes_line}
@@ -189,7 +190,7 @@ pub use Rattle.ubi_commands.specs.Plan.{CutAccepts, IsCarryFault, cut_bytes, cut
 pub use Rattle.ubi_commands.specs.Program.{IsDump, IsToldFirst, OfText, TellsNothing, WritesInto, WritesPlan, alike, avoided, given, no_left, no_list, no_pages, no_right, no_text, of_dump, planned, text_limit, told, told_dump, unlike, untold, with_list, written}
 pub use Rattle.ubi_commands.specs.Reads.{reads}
 pub use Rattle.ubi_commands.specs.Rename.{CutIsNamed, HasRename, IsRenameFault, Renames, RenamesFrom, nameless_from}
-pub use Rattle.ubi_commands.specs.Same.{Compares, ComparesOf, compared, comparison_status, different, left_refused, left_refused_from, right_refused, right_refused_from, same}
+pub use Rattle.ubi_commands.specs.Same.{ComparesOf}
 pub use Rattle.ubi_commands.specs.Show.{Shows, block_lines, no_block, no_block_from, no_size, shown_from}
 pub use Rattle.ubi_commands.specs.Tool.{HasOneVolume, Mean, finds, plans, reads_dump}
 pub use Rattle.ubi_commands.specs.Unpack.{AreUnpacked, AreUnpackedUntil, IsUnpacked, Listed, Unpacks, UnpacksOf, file_byte, file_path, no_folder, unpacked, unpacked_line, unpacked_lines, unpacked_status}

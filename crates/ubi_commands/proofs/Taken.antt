@@ -5,6 +5,7 @@ use Rattle.clap.specs.Simple.{built}
 use Rattle.ubi_commands.specs.declared.asked.Asked.TheVariants as way
 use Rattle.ubi_commands.specs.declared.readers.Reading.TheVariants as reading
 use Rattle.ubi_commands.specs.declared.requests.Request.TheVariants as request
+use Rattle.ubi_commands.specs.declared.comparison.Comparison.TheVariants as comparison
 use Rattle.ubi_commands.proofs.GivenKey.{key_asked}
 use Rattle.ubi_commands.proofs.GivenWords.{found_row, long_in, needs, number_asked, number_in, number_in_row, text_asked}
 use Rattle.ubi_commands.proofs.Uses.{is_number, takes_one}
@@ -233,7 +234,15 @@ module _ (s : Shape) (rows : List Row) (given : AreGiven s rows) where
       let n = asked_dump (codes "same") refl refl mean in
       let i = text (codes "IMAGE") image in
       let o = text (codes "OTHER") other in
-      (request.Same n.0 i.0 o.0, refl, (n.1, i.1, o.1))
+      (request.Compare comparison.Same n.0 i.0 o.0, refl, (n.1, i.1, o.1))
+
+  diff_asked : Mean (Some (codes "diff", rows)) → Needs s (codes "IMAGE") → Needs s (codes "OTHER")
+      → IsAsked (codes "diff") rows
+  diff_asked mean image other =
+      let n = asked_dump (codes "diff") refl refl mean in
+      let i = text (codes "IMAGE") image in
+      let o = text (codes "OTHER") other in
+      (request.Compare comparison.Diff n.0 i.0 o.0, refl, (n.1, i.1, o.1))
 
   change_asked : Mean (Some (codes "change", rows)) → Needs s (codes "peb") → Needs s (codes "page") → Needs s (codes "IMAGE") → Needs s (codes "id")
       → Needs s (codes "lnum") → Needs s (codes "from") → Needs s (codes "out") → IsAsked (codes "change") rows
@@ -320,9 +329,10 @@ each_asks =
     (also (asks_it _ refl refl refl (λ rows given mean. build_asked _ rows given refl refl refl refl))
     (also (asks_it _ refl refl refl (λ rows given mean. normalise_asked _ rows given mean refl refl))
     (also (asks_it _ refl refl refl (λ rows given mean. same_asked _ rows given mean refl refl))
+    (also (asks_it _ refl refl refl (λ rows given mean. diff_asked _ rows given mean refl refl))
     (also (asks_it _ refl refl refl (λ rows given mean. change_asked _ rows given mean refl refl refl refl refl refl refl))
     (also (asks_it _ refl refl refl (λ rows given mean. rename_asked _ rows given mean refl refl refl refl refl refl))
-    (also (help_asks _ refl refl) none))))))))))))
+    (also (help_asks _ refl refl) none)))))))))))))
 
 tool_met : (words : List Text) → fault_of tool words ≡ [] → IsMet (built tool) (argument_words tool words)
 unfolding tool

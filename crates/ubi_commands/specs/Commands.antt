@@ -7,6 +7,7 @@ use Rattle.ubi_files.specs.Answer.{Gives, says}
 use Rattle.ubi_commands.specs.Build.{Builds}
 use Rattle.ubi_commands.specs.Change.{ChangesFrom, HasPlan}
 use Rattle.ubi_commands.specs.CommandLine.{AsksAsked, AsksChange, AsksDump, AsksExtract, AsksNewImage, AsksNumbers, AsksPart, AsksPaths, AsksRename, HasNumber, HasText}
+use Rattle.ubi_commands.specs.Comparisons.{ComparesOf}
 use Rattle.ubi_commands.specs.Compose.{ComposesInto}
 use Rattle.ubi_files.specs.Disk.{AllStay, Files, OthersStay, OutsideStay, Stays}
 use Rattle.ubi_files.specs.Dump.{greatest_dump}
@@ -17,10 +18,11 @@ use Rattle.ubi_commands.specs.Program.{OfAsked, OfBoth, OfText, PlanStays, WithL
 use Rattle.ubi_files.specs.OverFile.{OfFile, OfImage}
 use Rattle.ubi_commands.specs.Reads.{reads}
 use Rattle.ubi_commands.specs.Rename.{HasRename, RenamesFrom}
-use Rattle.ubi_commands.specs.Same.{ComparesOf}
 use Rattle.ubi_commands.specs.Tool.{Mean, command as takes, image_part, needed, number, on_image, option, output, plan_options, volume}
 use Rattle.ubi_commands.specs.Unpack.{UnpacksOf}
 use Rattle.ubi_files.specs.declared.outcome.Outcome.{Outcome}
+use Rattle.ubi_commands.specs.declared.comparison.Comparison.{Comparison}
+use Rattle.ubi_commands.specs.declared.comparison.Comparison.TheVariants as comparison
 use Rattle.ubi_commands.specs.declared.readers.Reading.{Reading}
 use Rattle.ubi_commands.specs.declared.readers.Reading.TheVariants as reading
 use Rattle.ubi_commands.specs.declared.requests.Request.{Request}
@@ -70,6 +72,10 @@ normalise = on_image false (codes "normalise") (output ∷ [])
 abbrev pub same : Shape
 same = on_image false (codes "same") (needed (record (new_rule (codes "OTHER")) { value_names = 1 }) ∷ [])
 
+-- `diff`, likewise
+abbrev pub diff : Shape
+diff = on_image false (codes "diff") (needed (record (new_rule (codes "OTHER")) { value_names = 1 }) ∷ [])
+
 -- `change`, over an image, with the file to write, the volume, the LEB and the file of its bytes
 abbrev pub change : Shape
 change =
@@ -82,7 +88,7 @@ rename = on_image true (codes "rename") (output ∷ volume ∷ needed (option (c
 
 -- all of them, in the order of the help
 abbrev pub commands : List Shape
-commands = geometry ∷ list ∷ check ∷ show ∷ extract ∷ unpack ∷ compose ∷ build ∷ normalise ∷ same ∷ change ∷ rename ∷ []
+commands = geometry ∷ list ∷ check ∷ show ∷ extract ∷ unpack ∷ compose ∷ build ∷ normalise ∷ same ∷ diff ∷ change ∷ rename ∷ []
 
 -- the program: it has a version, and a command has to be named
 unfoldable pub tool : App
@@ -97,6 +103,11 @@ reading_command (reading.Geometry part) = geometry
 reading_command reading.List = list
 reading_command reading.Check = check
 reading_command (reading.Show block) = show
+
+-- the command that compares two images so
+abbrev pub comparing_command : Comparison → Shape
+comparing_command comparison.Same = same
+comparing_command comparison.Diff = diff
 
 -- what its words say beside the dump and the image. A geometry is asked for by a request of its own
 abbrev pub AsksReading : List Row → Reading → Type 0
@@ -160,10 +171,10 @@ said (request.Normalise dump paths) = record {
       (λ s k agrees. WritesInto paths.out.now d e (NormalisesOf s k agrees) (HasMeaning s agrees));
   leaves = λ d e. OthersStay d e paths.out.now;
 }
-said (request.Same dump left right) = record {
-  command = same;
+said (request.Compare how dump left right) = record {
+  command = comparing_command how;
   asks = λ words. AsksAsked words dump × HasText words (codes "IMAGE") left × HasText words (codes "OTHER") right;
-  answers = λ d e. OfBoth d dump left.now right.now ComparesOf;
+  answers = λ d e. OfBoth d dump left.now right.now (ComparesOf how);
   leaves = AllStay;
 }
 said (request.Change dump change_it) =

@@ -4,6 +4,7 @@ pub mod Change
 pub mod Check
 pub mod CommandLine
 pub mod Commands
+pub mod Comparisons
 pub mod Compose
 pub mod Extract
 pub mod Geometry
@@ -19,7 +20,6 @@ pub mod Printed
 pub mod Program
 pub mod Reads
 pub mod Rename
-pub mod Same
 pub mod Show
 pub mod Tool
 pub mod Unpack

@@ -40,7 +40,7 @@ struct CommandRow {
 }
 
 /// The commands, in the order of the help.
-static COMMANDS: [CommandRow; 12] = [
+static COMMANDS: [CommandRow; 13] = [
     CommandRow {
         name: "geometry",
         about: "Prints the geometry that the headers of a dump give and where the image lies, as options of the other commands",
@@ -89,6 +89,11 @@ static COMMANDS: [CommandRow; 12] = [
     CommandRow {
         name: "same",
         about: "Says whether two images have the same contents",
+        arguments: &[FOUND, IMAGE_PART, IMAGE_PAGES, &[OTHER]],
+    },
+    CommandRow {
+        name: "diff",
+        about: "Prints in what the contents of two images differ",
         arguments: &[FOUND, IMAGE_PART, IMAGE_PAGES, &[OTHER]],
     },
     CommandRow {

@@ -72,11 +72,11 @@ pub fn side_line(alloc: Global, side: &str, cause: Refusal) -> Result<Vec<u8>, A
     Ok(text)
 }
 
-/// The line of two images that mean the same, or don't.
-pub fn comparison_line(alloc: Global, same: bool) -> Result<Vec<u8>, AllocError>
-    ensures { IfOk result (λ text. text.items ≡ comparison_line same) }
+/// Adds the line of two images that mean the same, or don't.
+pub fn put_comparison(text: &mut Vec<u8>, is_same: bool) -> Result<(), AllocError>
+    ensures { OnOk result (text.new.items ≡ text.old.items ++ comparison_line is_same) }
 {
-    Vec::from_slice(alloc, if same { b"same\n" } else { b"different\n" })
+    put_word(text, if is_same { "same\n" } else { "different\n" })
 }
 
 /// The line of an eraseblock that isn't in the image.

@@ -21,7 +21,7 @@ use ubi_scan::{BlockSource, MemorySource, StreamError};
 use ubi_volume::{Amount, Places, amount_of, attach_places};
 
 /// Adds a byte as two digits.
-fn put_digits(alloc: Global, text: &mut Vec<u8>, byte: u8) -> Result<(), AllocError>
+pub fn put_digits(alloc: Global, text: &mut Vec<u8>, byte: u8) -> Result<(), AllocError>
     ensures { OnOk result (text.new.items ≡ text.old.items ++ encode_lower (byte ∷ [])) }
 {
     let digits = hex::encode(alloc, [byte])?;
@@ -50,7 +50,8 @@ pub fn put_shown(alloc: Global, text: &mut Vec<u8>, name: &[u8]) -> Result<(), A
     Ok(())
 }
 
-fn kind_word(kind: VolKind) -> &'static str
+/// The word of a kind.
+pub fn kind_word(kind: VolKind) -> &'static str
     ensures { result.now ≡ kind_word kind }
 {
     match kind {

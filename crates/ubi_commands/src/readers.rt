@@ -1,33 +1,22 @@
-//! The commands that read image files, and write none.
+//! The commands that read an image file, and write none.
 
-ghost use Rattle.std.specs.Bool.{Decides};
 ghost use Rattle.std.specs.Option.{ForSome};
 ghost use Rattle.std.specs.Prelude.{◌≡◌, IfErr, IfOk};
 ghost use Rattle.ubi_scan.specs.Source.{Narrows};
 ghost use Rattle.ubi_files.specs.AfterRun.{IsNoWrite, after_run};
-ghost use Rattle.ubi_commands.specs.inner.Ended.{IsToldOfSides, Works};
-ghost use Rattle.ubi_files.specs.Answer.{Gives, says};
 ghost use Rattle.ubi_files.specs.Kept.{IsPartOf};
-ghost use Rattle.ubi_commands.specs.Lines.{unlike_line};
-ghost use Rattle.ubi_files.specs.Numbers.{sizes_of};
-ghost use Rattle.ubi_commands.specs.Program.{OfAsked, OfBoth};
+ghost use Rattle.ubi_commands.specs.Program.{OfAsked};
 ghost use Rattle.ubi_files.specs.OverFile.{OfFile};
-ghost use Rattle.ubi_commands.specs.Same.{ComparesOf};
 ghost use Rattle.ubi_commands.specs.Reads.{reads};
 
 use crate::asked::Asked;
 use crate::check::run_check_from;
 use crate::finding::{KnownDump, find_dump, open_known};
 use crate::geometry::run_geometry_from;
-use crate::lines::unlike_line;
 use crate::list::run_list_from;
-use crate::same::run_same_from;
 use crate::show::run_show_from;
 use std::alloc::{AllocError, Global};
-use ubi_files::{
-    Disk, Dump, FAILED, FilePart, OpenImage, Outcome, SidesError, ToolError, frame_of, told,
-    unread_line,
-};
+use ubi_files::{Disk, FilePart, OpenImage, Outcome, ToolError, frame_of, told};
 use ubi_media::Geometry;
 use ubi_scan::{BlockSource, MemorySource};
 
@@ -119,147 +108,4 @@ pub fn read_file<D: Disk>(
         Ok(known) => read_dump(disk, alloc, known, image, command),
         Err(unread) => unread.answer(),
     }
-}
-
-/// What is told of a comparison of two files once it is done: its outcome, or the line of the file of which a read failed.
-fn told_of_sides(
-    alloc: Global,
-    work: Result<Outcome, SidesError>,
-    left: &str,
-    right: &str,
-) -> Result<Outcome, AllocError>
-    ensures { IfOk result (IsToldOfSides work left.now right.now) }
-{
-    match work {
-        Ok(outcome) => Ok(outcome),
-        Err(error) => match error {
-            SidesError::Left => unread_line(alloc, left),
-            SidesError::Right => unread_line(alloc, right),
-            SidesError::Memory => Err(AllocError),
-        },
-    }
-}
-
-/// A dump of which it is known how it is read, and the path of its file.
-#[derive(Drop)]
-struct Side<'a, 'p> {
-    /// The dump.
-    known: KnownDump<'a>,
-    /// The path.
-    path: &'p str,
-}
-
-/// Compares what the source over the left file means with what the right dump does, which has the same geometry.
-fn same_beside<D: Disk, S: BlockSource>(
-    disk: &D,
-    alloc: Global,
-    source: &mut S,
-    left: &str,
-    right: Side<'_, '_>,
-) -> Result<Outcome, AllocError>
-    requires kept { ForSome right.known.kept (λ bytes. IsPartOf (D.files disk.now) right.known.dump right.path.now bytes.items) }
-    ensures narrows { Narrows (S.agrees source.old) (S.agrees source.new) }
-    ensures answer { IfOk result (Works (S.known source.old) (S.known source.new) left.now (OfFile (D.files disk.now) right.entry.known.dump right.entry.path.now (λ s l there. ComparesOf s (S.known source.old) (S.agrees source.new) l there))) }
-{
-    let Side {
-        known: KnownDump { dump, kept },
-        path,
-    } = right;
-    let frame = match frame_of(alloc, &dump) {
-        Ok(frame) => frame,
-        Err(unread) => return unread.answer(),
-    };
-    match open_known(disk, alloc, &frame, kept, path) {
-        Ok(OpenImage::AtPlaces(mut file)) => {
-            let geometry = file.geometry;
-            let work = run_same_from(alloc, &geometry, source, &mut file.source);
-            told_of_sides(alloc, work, left, path)
-        }
-        Ok(OpenImage::Whole(file)) => {
-            let mut beside = MemorySource::new(file.bytes.as_slice());
-            let work = run_same_from(alloc, &file.geometry, source, &mut beside);
-            told_of_sides(alloc, work, left, path)
-        }
-        Err(unread) => unread.answer(),
-    }
-}
-
-/// Compares what two dumps of one geometry mean. Both are opened before the first is judged.
-fn same_dumps<D: Disk>(
-    disk: &D,
-    alloc: Global,
-    left: Side<'_, '_>,
-    right: Side<'_, '_>,
-) -> Result<Outcome, AllocError>
-    requires left { ForSome left.known.kept (λ bytes. IsPartOf (D.files disk.now) left.known.dump left.path.now bytes.items) }
-    requires right { ForSome right.known.kept (λ bytes. IsPartOf (D.files disk.now) right.known.dump right.path.now bytes.items) }
-    requires alike { left.known.dump.numbers ≡ right.known.dump.numbers }
-    ensures { IfOk result (OfFile (D.files disk.now) left.entry.known.dump left.entry.path.now (λ s k here. OfFile (D.files disk.now) right.entry.known.dump right.entry.path.now (λ _ l there. ComparesOf s k here l there))) }
-{
-    let Side {
-        known: KnownDump { dump, kept },
-        path,
-    } = left;
-    let frame = match frame_of(alloc, &dump) {
-        Ok(frame) => frame,
-        Err(unread) => return unread.answer(),
-    };
-    match open_known(disk, alloc, &frame, kept, path) {
-        Ok(OpenImage::AtPlaces(mut file)) => {
-            same_beside(disk, alloc, &mut file.source, path, right)
-        }
-        Ok(OpenImage::Whole(file)) => {
-            let mut source = MemorySource::new(file.bytes.as_slice());
-            same_beside(disk, alloc, &mut source, path, right)
-        }
-        Err(unread) => unread.answer(),
-    }
-}
-
-/// Whether two dumps have the same geometry.
-fn are_alike(left: &Dump<'_>, right: &Dump<'_>) -> bool
-    ensures { Decides result (left.now.numbers ≡ right.now.numbers) }
-{
-    left.numbers == right.numbers
-}
-
-/// What is answered of two dumps whose own geometries differ.
-fn unlike(alloc: Global, left: &Dump<'_>, right: &Dump<'_>) -> Result<Outcome, AllocError>
-    ensures { IfOk result (λ o. Gives o (says (unlike_line (sizes_of left.now.numbers) (sizes_of right.now.numbers)) 1)) }
-{
-    let line = unlike_line(alloc, left.numbers, right.numbers)?;
-    Ok(Outcome::saying(line, FAILED))
-}
-
-/// Compares what two files mean, each of which is read as the words tell, or as its own headers do. Both are opened before the first is
-/// judged.
-pub fn same_files<D: Disk>(
-    disk: &D,
-    alloc: Global,
-    asked: &Asked<'_>,
-    left: &str,
-    right: &str,
-) -> Result<Outcome, AllocError>
-    ensures { IfOk result (OfBoth (D.files disk.now) asked.now left.now right.now ComparesOf) }
-{
-    let here = match find_dump(disk, alloc, asked, left, "left ") {
-        Ok(known) => known,
-        Err(unread) => return unread.answer(),
-    };
-    let there = match find_dump(disk, alloc, asked, right, "right ") {
-        Ok(known) => known,
-        Err(unread) => return unread.answer(),
-    };
-    if !are_alike(&here.dump, &there.dump) {
-        return unlike(alloc, &here.dump, &there.dump);
-    }
-    let left = Side {
-        known: here,
-        path: left,
-    };
-    let right = Side {
-        known: there,
-        path: right,
-    };
-    same_dumps(disk, alloc, left, right)
 }

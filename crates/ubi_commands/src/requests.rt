@@ -13,10 +13,11 @@ use crate::asked::{
     volume_extract, volume_rename,
 };
 use crate::build::build_file;
+use crate::comparison::{Comparison, compare_files};
 use crate::compose::compose_file;
 use crate::finding::KnownDump;
 use crate::planners::{change_file, rename_file};
-use crate::readers::{Reading, read_dump, read_file, same_files};
+use crate::readers::{Reading, read_dump, read_file};
 use crate::unpack::unpack_file;
 use crate::writers::{Writing, write_file};
 use clap::ArgMatches;
@@ -84,8 +85,9 @@ pub enum Request<'a> {
         dump: Asked<'a>,
         paths: Paths<'a>,
     },
-    /// Whether two files mean the same.
-    Same {
+    /// What comparing two files tells.
+    Compare {
+        how: Comparison,
         dump: Asked<'a>,
         left: &'a str,
         right: &'a str,
@@ -137,6 +139,7 @@ fn request_under<'a>(name: &str, matches: &'a ArgMatches<'_>) -> Option<Request<
         "build" => build_of(matches),
         "normalise" => normalise_of(matches),
         "same" => same_of(matches),
+        "diff" => diff_of(matches),
         "change" => change_of(matches),
         "rename" => rename_of(matches),
         _ => None,
@@ -230,7 +233,19 @@ fn normalise_of<'a>(matches: &'a ArgMatches<'_>) -> Option<Request<'a>>
 fn same_of<'a>(matches: &'a ArgMatches<'_>) -> Option<Request<'a>>
     ensures { IsOneOf (IsAskedBy (codes "same") (words_in matches.now)) result }
 {
-    Some(Request::Same {
+    Some(Request::Compare {
+        how: Comparison::Same,
+        dump: asked_of(matches)?,
+        left: text_of(matches, "IMAGE")?,
+        right: text_of(matches, "OTHER")?,
+    })
+}
+
+fn diff_of<'a>(matches: &'a ArgMatches<'_>) -> Option<Request<'a>>
+    ensures { IsOneOf (IsAskedBy (codes "diff") (words_in matches.now)) result }
+{
+    Some(Request::Compare {
+        how: Comparison::Diff,
         dump: asked_of(matches)?,
         left: text_of(matches, "IMAGE")?,
         right: text_of(matches, "OTHER")?,
@@ -286,7 +301,12 @@ pub fn run_request<D: Disk + Eprint>(
         Request::Normalise { dump, paths } => {
             write_file(disk, alloc, &dump, &paths, &Writing::Normalise, is_watched)
         }
-        Request::Same { dump, left, right } => same_files(disk, alloc, &dump, left, right),
+        Request::Compare {
+            how,
+            dump,
+            left,
+            right,
+        } => compare_files(disk, alloc, how, &dump, left, right),
         Request::Change { dump, change } => change_file(disk, alloc, &dump, &change),
         Request::Rename { dump, rename } => rename_file(disk, alloc, &dump, &rename),
     }

@@ -1,4 +1,27 @@
-//! Comparing what two images mean: whether it is the same, and in what it differs.
+//! Comparing what two images mean: whether it is the same ([`same_from`]), and in what it differs ([`diff_from`]).
+//!
+//! Both go the same way over two sources, slot by slot, and hold an eraseblock of contents of each. What differs is a list, which is empty
+//! exactly if the images mean the same.
+//!
+//! A caller, proved from the contracts alone (`crates/ubi_uses`):
+//!
+//! ```
+//! use std::alloc::Global;
+//! use ubi_compare::{CompareError, same};
+//! use ubi_media::Geometry;
+//!
+//! /// Whether two builds of an image mean the same, wherever their eraseblocks lie and however worn they are.
+//! pub fn is_same_build(
+//!     alloc: Global,
+//!     geometry: &Geometry,
+//!     ours: &[u8],
+//!     theirs: &[u8],
+//! ) -> Result<bool, CompareError>
+//!     ensures { IfOk result (λ answer. (m : Meant) × (n : Meant) × Accepts (image_of geometry.now ours.now) m × Accepts (image_of geometry.now theirs.now) n × (IsTrue answer ↔ (m ≡ n))) }
+//! {
+//!     same(alloc, geometry, ours, theirs)
+//! }
+//! ```
 #![tactic(auto)]
 
 mod comparing;

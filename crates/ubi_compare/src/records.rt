@@ -1,6 +1,6 @@
 //! In which fields the records of a volume differ.
 
-ghost use Rattle.std.specs.Prelude.{◌≡◌, ◌==◌, OnOk};
+ghost use Rattle.std.specs.Prelude.{◌≡◌, OnOk};
 ghost use Rattle.ubi_media.specs.Fields.{same_bytes};
 ghost use Rattle.ubi_compare.specs.Differences.{record_differences, same_kind};
 ghost use Rattle.ubi_compare.specs.inner.Found.{Adds};
@@ -12,12 +12,6 @@ use ubi_media::{VolKind, VolName, VolumeRecord};
 
 fn is_same_kind(left: VolKind, right: VolKind) -> bool
     ensures { result ≡ same_kind left right }
-{
-    left == right
-}
-
-fn is_same_number(left: u32, right: u32) -> bool
-    ensures { result ≡ (left == right) }
 {
     left == right
 }
@@ -51,7 +45,7 @@ pub fn compare_records(
         },
     )?;
     found.add_unless(
-        is_same_number(here.reserved, there.reserved),
+        here.reserved == there.reserved,
         Difference::Reserved {
             id,
             left: here.reserved,
@@ -59,7 +53,7 @@ pub fn compare_records(
         },
     )?;
     found.add_unless(
-        is_same_number(here.alignment, there.alignment),
+        here.alignment == there.alignment,
         Difference::Alignment {
             id,
             left: here.alignment,
@@ -67,7 +61,7 @@ pub fn compare_records(
         },
     )?;
     found.add_unless(
-        is_same_number(u32::from(here.flags), u32::from(there.flags)),
+        here.flags == there.flags,
         Difference::Flags {
             id,
             left: here.flags,

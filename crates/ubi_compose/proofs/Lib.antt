@@ -45,6 +45,7 @@ pub mod SpecVectors
 pub mod StoredImage
 pub mod StoredNext
 pub mod StoredPieces
+pub mod StoredVolumes
 pub mod StandIns
 pub mod Table
 pub mod Taken

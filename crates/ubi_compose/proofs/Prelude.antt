@@ -12,7 +12,7 @@ pub use Rattle.std.proofs.lemmas.Iterator.{YieldsList-from_take}
 pub use Rattle.std.proofs.lemmas.Iterator.Consumers.{YieldsList-end, YieldsList-turn}
 pub use Rattle.std.proofs.lemmas.Iterator.Search.{any_from_yields_List}
 pub use Rattle.std.proofs.lemmas.Iterator.Splits.{YieldsList-from_slice_split}
-pub use Rattle.std.proofs.lemmas.List.{drop-append-le, drop-drop, drop-take, drop_all, drop_more, get_or-append_right, get_or-replicate, get_or_at, length-map, length-replicate, length-take, length_push, map-append, map-id, map-set, replicate-append-replicate, set-get_or, set_at, take-append-le, take-replicate, take-take, take_all, take_at, take_more}
+pub use Rattle.std.proofs.lemmas.List.{drop-append-le, drop-drop, drop-take, drop_all, drop_more, get_or-append_right, get_or-map, get_or-replicate, get_or_at, length-map, length-replicate, length-take, length_push, map-append, map-id, map-set, replicate-append-replicate, set-get_or, set_at, take-append-le, take-replicate, take-take, take_all, take_at, take_more}
 pub use Rattle.std.proofs.lemmas.List.Concat.{concat_is, length-flat_map}
 pub use Rattle.std.proofs.lemmas.List.Elements.{All-from_recursion, All-get_or, filter-append, filter_map-append}
 pub use Rattle.std.proofs.lemmas.List.Folds.{find-append, flat_map-map, list_all-append, list_any-append}
@@ -62,7 +62,6 @@ pub use Rattle.ubi_media.specs.Fields.{blank, is_blank, same_bytes}
 unfoldable pub use Rattle.ubi_media.specs.Fields.{filled}
 pub use Rattle.ubi_media.specs.Geometry.{IsGeometry, Sizes, leb_size, slots}
 unfoldable pub use Rattle.ubi_media.specs.Limits.{first_broken}
-pub use Rattle.ubi_media.specs.OtherPage.{with_page}
 pub use Rattle.ubi_media.specs.Record.{data_pad, rec_fault, usable}
 unfoldable pub use Rattle.ubi_media.specs.Record.{breaks, empty_record, fields_from, first_fault, rec_bytes}
 pub use Rattle.ubi_media.specs.Vid.{plain, vid_bytes, vid_fault}
@@ -81,6 +80,7 @@ pub use Rattle.ubi_scan.proofs.Filled.{behind, drop_blank, filled-by, filled-is,
 pub use Rattle.ubi_scan.proofs.Finite.{find_at}
 pub use Rattle.ubi_scan.proofs.Keys.{apart_test, at_itself, same_test, told}
 pub use Rattle.ubi_scan.proofs.Parts.{blank_vid}
+pub use Rattle.ubi_scan.proofs.Revalued.{entries_revalued}
 pub use Rattle.ubi_scan.proofs.Seq.{seq_is}
 pub use Rattle.ubi_scan.proofs.Truths.{both_left, both_right}
 pub use Rattle.ubi_scan.specs.Clean.{IsSound}
@@ -102,6 +102,7 @@ pub use Rattle.ubi_volume.proofs.ContentAt.{case_fits}
 pub use Rattle.ubi_volume.proofs.Either.{are_lebs}
 pub use Rattle.ubi_volume.proofs.Extracted.{front_of, same_range, static_whole}
 pub use Rattle.ubi_volume.proofs.FirstCause.{one_first}
+pub use Rattle.ubi_volume.proofs.Gathered.{record_at}
 pub use Rattle.ubi_volume.proofs.LesserPage.{greater_breaks, lesser_page}
 pub use Rattle.ubi_volume.proofs.Listed.{listed_volume}
 pub use Rattle.ubi_volume.proofs.MeantRecords.{meant_by, records_are, records_fit, volume_is}

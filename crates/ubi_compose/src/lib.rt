@@ -5,19 +5,18 @@
 //!
 //! ```
 //! use std::alloc::Global;
-//! use ubi_compose::{SameError, same};
-//! use ubi_media::Geometry;
+//! use ubi_compose::normalise;
+//! use ubi_media::{AttachError, Geometry};
 //!
-//! /// Whether two builds of an image mean the same, wherever their eraseblocks lie and however worn they are.
-//! pub fn is_same_build(
+//! /// The bytes by which a build is known, wherever its eraseblocks lie and however worn they are.
+//! pub fn known_by(
 //!     alloc: Global,
 //!     geometry: &Geometry,
-//!     ours: &[u8],
-//!     theirs: &[u8],
-//! ) -> Result<bool, SameError>
-//!     ensures { IfOk result (λ answer. (m : Meant) × (n : Meant) × Accepts (image_of geometry.now ours.now) m × Accepts (image_of geometry.now theirs.now) n × (IsTrue answer ↔ (m ≡ n))) }
+//!     build: &[u8],
+//! ) -> Result<Vec<u8>, AttachError>
+//!     ensures { IfOk result (λ normal. (m : Meant) × Accepts (image_of geometry.now build.now) m × (normal.items ≡ normal_bytes m)) }
 //! {
-//!     same(alloc, geometry, ours, theirs)
+//!     normalise(alloc, geometry, build)
 //! }
 //! ```
 #![tactic(auto)]

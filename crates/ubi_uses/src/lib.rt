@@ -3,6 +3,7 @@
 
 mod build;
 mod change;
+mod compare;
 mod compose;
 mod config;
 mod detect;
@@ -14,7 +15,8 @@ mod words;
 
 pub use build::image_of_volumes;
 pub use change::update;
-pub use compose::is_same_build;
+pub use compare::is_same_build;
+pub use compose::known_by;
 pub use config::volume_count;
 pub use detect::start_of;
 pub use media::erased;

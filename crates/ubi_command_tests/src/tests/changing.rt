@@ -4,8 +4,7 @@ use std::alloc::Global;
 use std::test::Fail;
 use ubi_change::Avoided;
 use ubi_commands::{
-    NewBytes, Reading, run_change, run_change_from, run_rename, run_rename_from, run_same,
-    run_same_from,
+    Comparison, NewBytes, Reading, run_change, run_change_from, run_rename, run_rename_from,
 };
 use ubi_compose::normalise_to;
 use ubi_files::Outcome;
@@ -122,8 +121,10 @@ fn is_compared<'a>(
     let geometry = small()?;
     let mut source = ChangingSource::new(first, then, left);
     let mut beside = MemorySource::new(first);
-    let answer = run_same_from(alloc, &geometry, &mut source, &mut beside)?;
-    let want = run_same(alloc, &geometry, first, first)?;
+    let how = Comparison::Same;
+    let answer = how.answer(alloc, &geometry, &mut source, &mut beside)?;
+    let (mut one, mut other) = (MemorySource::new(first), MemorySource::new(first));
+    let want = how.answer(alloc, &geometry, &mut one, &mut other)?;
     let text = answer.text.as_slice();
     let is_form = if answer.status == 0 {
         text == b"same\n".as_slice()

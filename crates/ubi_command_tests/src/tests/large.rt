@@ -56,6 +56,7 @@ static CHIPS: [Session; 2] = [
             ),
             ("normalise chip.img --out chip_normal.img", "blocks 3\n", 0),
             ("same chip.img chip_normal.img", "same\n", 0),
+            ("diff chip.img chip_normal.img", "same\n", 0),
             (
                 "change chip.img --id 0 --lnum 1 --from chip.new --out chip_changed.img",
                 "steps 4\nprogram block=3 page=1\nprogram block=3 page=2\n\
@@ -66,6 +67,11 @@ static CHIPS: [Session; 2] = [
                 "extract chip_changed.img --id 0 --out chip_changed.bin",
                 "bytes 380928\n",
                 0,
+            ),
+            (
+                "diff chip.img chip_changed.img",
+                "volume 0 lebs 1\ndifferent\n",
+                1,
             ),
             (
                 "compose chip.txt --out chip_spares.img --spares 2 --seq 305419896",
@@ -101,6 +107,11 @@ static CHIPS: [Session; 2] = [
                     program block=4 page=9\nprogram block=4 page=10\nprogram block=4 page=11\nprogram block=4 page=12\n\
                     erase block=1\nprogram block=1 page=0\n",
                 0,
+            ),
+            (
+                "diff chip_renamed.img chip_changed.img",
+                "volume 0 name left=data right=root\nvolume 0 lebs 1\ndifferent\n",
+                1,
             ),
             (
                 "list chip_renamed.img",
@@ -173,6 +184,7 @@ static CHIPS: [Session; 2] = [
             ),
             ("normalise chip.img --out chip_normal.img", "blocks 3\n", 0),
             ("same chip.img chip_normal.img", "same\n", 0),
+            ("diff chip.img chip_normal.img", "same\n", 0),
             (
                 "change chip.img --id 0 --lnum 1 --from chip.new --out chip_changed.img",
                 "steps 4\nprogram block=3 page=0\nprogram block=3 page=1\n\

@@ -14,10 +14,10 @@ use std::alloc::{AllocError, Global};
 use std::process::Abort;
 use std::test::Fail;
 use ubi_commands::{
-    VolumeKey, run_change, run_check, run_compose, run_extract, run_geometry, run_list,
-    run_normalise, run_rename, run_same, run_show,
+    Comparison, VolumeKey, run_change, run_check, run_compose, run_extract, run_geometry, run_list,
+    run_normalise, run_rename, run_show,
 };
-use ubi_files::{Outcome, ToolError};
+use ubi_files::{Outcome, SidesError, ToolError};
 use ubi_media::Geometry;
 use ubi_probe::pebs::{
     NORMAL_A, NORMAL_B, NORMAL_C, Peb, ROOT_FIRST, ROOT_SECOND, UNNAMED_FREE, image_of, small,
@@ -104,6 +104,28 @@ fn is_normalised(rt: &impl Abort, alloc: Global, geometry: &Geometry, image: &[u
     is_written(rt, answer, "blocks 5\n", &written, image)
 }
 
+/// A byte of logical eraseblock 2 of the image.
+const OTHER_BYTE: usize = 2560 - 384;
+
+/// What `diff` tells of the image and the one with another byte there.
+const DIFFERENT: &str = "volume 0 lebs 2\ndifferent\n";
+
+/// Whether two images were compared. Else memory ran out.
+fn is_compared(
+    rt: &impl Abort,
+    alloc: Global,
+    geometry: &Geometry,
+    (how, left, right): (Comparison, &[u8], &[u8]),
+    text: &str,
+) -> bool {
+    let (mut left, mut right) = (MemorySource::new(left), MemorySource::new(right));
+    match how.answer(alloc, geometry, &mut left, &mut right) {
+        Ok(outcome) => is_told(rt, Ok(outcome), text),
+        Err(SidesError::Memory) => false,
+        Err(SidesError::Left | SidesError::Right) => panic!(rt; "no read fails"),
+    }
+}
+
 /// The first bytes of the image.
 fn image(alloc: Global, geometry: &Geometry, len: usize) -> Result<Vec<u8>, AllocError> {
     let mut bytes = image_of(alloc, geometry, SPARES)?;
@@ -115,6 +137,8 @@ fn image(alloc: Global, geometry: &Geometry, len: usize) -> Result<Vec<u8>, Allo
 fn tells_all(rt: &impl Abort, alloc: Global, geometry: &Geometry) -> Result<bool, AllocError> {
     let (root, spare) = (image(alloc, geometry, 2560)?, image(alloc, geometry, 3072)?);
     let (spares, text) = (image(alloc, geometry, 3584)?, bytes_of(alloc, TEXT)?);
+    let mut other = image(alloc, geometry, 2560)?;
+    other.as_mut_slice()[OTHER_BYTE] = b'c';
     let (image, spare) = (root.as_slice(), spare.as_slice());
     let changed = run_change(alloc, geometry, spare, 0, 1, &[0x61; 64], None);
     let renamed = run_rename(alloc, geometry, spares.as_slice(), 0, b"data", None);
@@ -125,7 +149,8 @@ fn tells_all(rt: &impl Abort, alloc: Global, geometry: &Geometry) -> Result<bool
         is_told(rt, run_show(alloc, geometry, image, 4), ROOT_SHOWN),
         is_extracted(rt, alloc, geometry, image, text.as_slice()),
         is_normalised(rt, alloc, geometry, image),
-        is_told(rt, run_same(alloc, geometry, image, image), "same\n"),
+        is_compared(rt, alloc, geometry, (Comparison::Same, image, image), "same\n"),
+        is_compared(rt, alloc, geometry, (Comparison::Diff, image, other.as_slice()), DIFFERENT),
         is_told(rt, run_compose(alloc, geometry, SPEC, 1, 0), "blocks 5\n"),
         is_told(rt, changed, CHANGED),
         is_told(rt, renamed, LINES),
@@ -142,7 +167,7 @@ fn tells_all_or_runs_out_of_memory(rt: HostRuntime) -> Result<(), Fail> {
 }
 
 /// The words of a command, how many bytes of the image they are over, what is answered, and how many bytes are written.
-static WORDS: [(&str, usize, &str, usize); 10] = [
+static WORDS: [(&str, usize, &str, usize); 11] = [
     ("geometry a", 2560, SMALL, 0),
     ("list a --peb 512 --page 64 --pebs 32", 2560, ROOT_LISTED, 0),
     ("show a --block 4 --peb 512 --page 64", 2560, ROOT_SHOWN, 0),
@@ -171,6 +196,7 @@ static WORDS: [(&str, usize, &str, usize); 10] = [
         2560,
     ),
     ("same a b --peb 512 --page 64", 2560, "same\n", 0),
+    ("diff a b --peb 512 --page 64", 2560, "same\n", 0),
     (
         "change a --id 0 --lnum 1 --from new.bin --out b --peb 512 --page 64",
         3072,

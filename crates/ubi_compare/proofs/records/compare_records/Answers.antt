@@ -7,8 +7,6 @@ returns c =
     on_ok_weaker c.add_unless-5.result
     (adds_records c.args.id c.args.left.now c.args.right.now c.args.found.now c.add_unless.new.self c.add_unless-2.new.self
     c.add_unless-3.new.self c.add_unless-4.new.self c.add_unless-5.new.self
-    (rw c.is_same_kind.ensures at c.in_ok-add_unless.ensures)
-    (rw c.is_same_number.ensures at c.in_ok-add_unless-2.ensures)
-    (rw c.is_same_number-2.ensures at c.in_ok-add_unless-3.ensures)
-    (rw (c.is_same_number-3.ensures, c.from.ensures, c.from-2.ensures) at c.in_ok-add_unless-4.ensures))
+    (rw c.is_same_kind.ensures at c.in_ok-add_unless.ensures) c.in_ok-add_unless-2.ensures c.in_ok-add_unless-3.ensures
+    c.in_ok-add_unless-4.ensures)
     (rw c.is_same_name.ensures at c.add_unless-5.ensures)

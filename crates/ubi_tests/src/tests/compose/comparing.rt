@@ -2,14 +2,14 @@
 
 use super::images::Image;
 use std::test::Fail;
-use ubi_compose::{SameError, SameFault, same, same_from};
+use ubi_compare::{CompareError, CompareFault, same, same_from};
 use ubi_media::Refusal;
 use ubi_probe::ProbeSource;
 use ubi_probe::pebs::small;
 use ubi_scan::{MemorySource, StreamError};
 
 /// Two images, and whether they mean the same, or the side that is refused.
-static COMPARED: [(Image, Image, Result<bool, SameError>); 22] = [
+static COMPARED: [(Image, Image, Result<bool, CompareError>); 22] = [
     (Image::NormalRoot, Image::UsedRoot, Ok(true)),
     (Image::UsedRoot, Image::UsedRoot, Ok(true)),
     (Image::NormalRoot, Image::TurnedRoot, Ok(true)),
@@ -36,17 +36,17 @@ static COMPARED: [(Image, Image, Result<bool, SameError>); 22] = [
     (
         Image::Blank(511),
         Image::Blank(512),
-        Err(SameError::Left(Refusal::Length)),
+        Err(CompareError::Left(Refusal::Length)),
     ),
     (
         Image::Blank(511),
         Image::Blank(0),
-        Err(SameError::Left(Refusal::Length)),
+        Err(CompareError::Left(Refusal::Length)),
     ),
     (
         Image::Blank(512),
         Image::Blank(511),
-        Err(SameError::Right(Refusal::Length)),
+        Err(CompareError::Right(Refusal::Length)),
     ),
 ];
 
@@ -75,10 +75,10 @@ fn tells_the_side_whose_read_fails(rt: HostRuntime) -> Result<(), Fail> {
         let mut whole = MemorySource::new(image);
         let mut broken = ProbeSource::new(alloc, &geometry, image, at)?;
         let answer = same_from(alloc, &geometry, &mut broken, &mut whole);
-        assert!(rt; answer == Err(SameFault::Left(StreamError::Read(p, 0))));
+        assert!(rt; answer == Err(CompareFault::Left(StreamError::Read(p, 0))));
         let mut broken = ProbeSource::new(alloc, &geometry, image, at)?;
         let answer = same_from(alloc, &geometry, &mut whole, &mut broken);
-        assert!(rt; answer == Err(SameFault::Right(StreamError::Read(p, 0))));
+        assert!(rt; answer == Err(CompareFault::Right(StreamError::Read(p, 0))));
     }
     Ok(())
 }

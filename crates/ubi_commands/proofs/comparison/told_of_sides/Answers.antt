@@ -1,6 +1,6 @@
 use Rattle.ubi_commands.proofs.Prelude.{ap, ◌∙◌, IfOk-weaker, comparison, left_failed, right_failed}
 use Rattle.std.proofs.Common.{Err}
-use Rattle.ubi_commands.proofs.readers.told_of_sides.Goals as goal
+use Rattle.ubi_commands.proofs.comparison.told_of_sides.Goals as goal
 
 pub returns-in-Ok : goal.returns-in-Ok
 returns-in-Ok c = comparison c.in-Ok.is

@@ -1,6 +1,6 @@
 use Rattle.ubi_commands.proofs.Prelude.{◌∙◌, sym, true≢false, IfOk-weaker, alike, no_left, no_right, unlike}
 use Rattle.ubi_commands.proofs.Outcomes.{told}
-use Rattle.ubi_commands.proofs.readers.same_files.Goals as goal
+use Rattle.ubi_commands.proofs.comparison.compare_files.Goals as goal
 
 pub returns-in-Err : goal.returns-in-Err
 returns-in-Err g c =
@@ -22,7 +22,7 @@ returns-then-not-are_alike g c =
 
 pub returns : goal.returns
 returns g c =
-    IfOk-weaker c.same_dumps.result _ _
+    IfOk-weaker c.compare_dumps.result _ _
     (λ o h. alike c.in-Ok.known.dump c.in-Ok-find_dump.known.dump c.in-Ok.ensures.dump c.in-Ok-find_dump.ensures.dump
     (c.are_alike.ensures.0 c.if-not-are_alike.false) h)
-    c.same_dumps.ensures
+    c.compare_dumps.ensures
