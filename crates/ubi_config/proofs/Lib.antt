@@ -12,4 +12,5 @@ pub mod Places
 pub mod ReadSoFar
 pub mod Reserved
 pub mod SectionsDiffer
+pub mod Texts
 pub mod Prelude

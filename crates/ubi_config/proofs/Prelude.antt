@@ -11,7 +11,7 @@ pub use Rattle.std.proofs.lemmas.List.Sums.{prefix_len-le-length, sum_by-append}
 pub use Rattle.std.proofs.lemmas.Result.{err_from_is_err_and}
 pub use Rattle.std.specs.Bool.{then_some}
 unfoldable pub use Rattle.std.specs.Fmt.{digits}
-pub use Rattle.std.specs.List.{AllByRecursion, before_first, cons_option, enumerate_from, join_with_byte, list_any, position_or_len, suffix_len}
+pub use Rattle.std.specs.List.{AllByRecursion, before_first, cons_option, enumerate_from, flat_map, join_with_byte, list_any, position_or_len, suffix_len}
 unfoldable pub use Rattle.std.specs.List.{IsDistinct}
 pub use Rattle.std.specs.Option.{ok_or, option_map_or, option_or}
 pub use Rattle.std.specs.Prelude.{Err, None, Ok, Option, Result, Some, codes, cond, count_by, filter_map, fold, map, min, nat_le, not, option_map, option_to_list, position, replicate, unwrap_or, ⊤, ◌==◌}
