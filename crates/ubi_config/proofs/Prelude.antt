@@ -26,7 +26,7 @@ pub use Rattle.ubi_media.specs.declared.vid.VolKind.{VolKind}
 unfoldable pub use Rattle.ubi_words.specs.Words.{is_number, number_within}
 pub use Rattle.ubi_config.specs.Above.{first_some, gives_id, gives_name, is_autoresize, is_heading, is_titled, own, sets, shared_cause}
 unfoldable pub use Rattle.ubi_config.specs.Above.{heading_cause, later_cause, setting_cause}
-pub use Rattle.ubi_config.specs.Config.{Fault, Group, IsFault, cause_after, group_of, groups, groups_of, lack_of, line_at, line_number, lines, no_section_fault, section_of, sections_of}
+pub use Rattle.ubi_config.specs.Config.{Fault, Group, IsFault, cause_after, group_of, groups, groups_of, lack_of, line_at, line_number, lines, section_of, sections_of}
 unfoldable pub use Rattle.ubi_config.specs.Config.{cause_at, first_fault, line_fault, saying, sayings, section_fault, sections_in}
 pub use Rattle.ubi_config.specs.ErrorTexts.{config_error_text}
 pub use Rattle.ubi_config.specs.Laws.{SectionsDiffer}

@@ -6,6 +6,7 @@ pub mod Sections
 pub mod Config
 pub mod Records
 pub mod Written
+pub mod WrittenLaws
 pub mod Laws
 pub mod ErrorTexts
 pub mod inner

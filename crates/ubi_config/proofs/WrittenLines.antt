@@ -1,0 +1,123 @@
+-- What each line of a config that is written says.
+use Rattle.ubi_config.proofs.Prelude.{◌≡◌, ◌<◌, ◌≤◌, ◌+◌, ◌-◌, ◌^◌, ℕ, Bool, true, false, not, List, [], ◌∷◌, ◌++◌, arith, get_or, length, drop, take, refl, sym, ap, ◌∙◌, ◌==◌, codes, cond, Option, Some, None, Result, Ok, list_any, list_any-append, nat_le, nat_tests, position, position_or_len, is_blank, flag_of, heading_line, is_one_line, key_of, kind_of, line_of, line_said, number_within, is_number, plain_value, setting, setting_at, setting_line, title_of, trimmed, value_of, Key, Line, VolKind}
+use Rattle.std.proofs.Common.{length-append, slice_range}
+use Rattle.std.proofs.Math.Seq.{drop-append-add, drop-append_seam, take-append_seam}
+use Rattle.std.specs.Prelude.{decimal}
+use Rattle.ubi_media.specs.Name.{is_name}
+use Rattle.ubi_media.specs.declared.vid.VolKind.TheVariants as kind
+use Rattle.ubi_config.proofs.Digits.{digits_beyond, digits_framed, digits_number, digits_short, digits_size, digits_some, digits_trimmed, digits_value, digits_without}
+use Rattle.ubi_config.proofs.Framed.{IsFramed, framed_behind, line_read, remark_read, trimmed_stays}
+use Rattle.ubi_config.proofs.QuotedValues.{CanWrite, position_behind, quoted_framed, quoted_read, quoted_trimmed, quoted_unbroken}
+use Rattle.ubi_config.specs.Lines.{is_title}
+use Rattle.ubi_config.specs.Values.{is_mark, is_remark}
+use Rattle.ubi_config.specs.Words.{most_bytes}
+use Rattle.ubi_config.specs.Written.{kind_word, left_out_words, quote_of, quoted, title}
+use Rattle.ubi_config.specs.declared.key.Key.TheVariants as key
+use Rattle.ubi_config.specs.declared.line.Line.TheVariants as line
+use Rattle.ubi_config.specs.declared.volume.LeftOut.{LeftOut}
+use Rattle.ubi_config.specs.declared.volume.LeftOut.TheVariants as why
+use Rattle.ubi_words.specs.Words.{most_number}
+
+no_remark : (text : List ℕ) → 0 < length text → is_mark (get_or text 0 0) ≡ false → is_remark text ≡ false
+no_remark text some plain =
+    let there : (length text == 0) ≡ false = grind (arith, nat_tests, some) in
+    rw (there, plain) refl
+
+module _ (n : ℕ) (name value v : List ℕ) (k : Key) (l : Line) (apart : list_any (λ b. b == 61) name ≡ false)
+    (whole : trimmed name ≡ name) (named : key_of name ≡ Some k) (trim : trimmed value ≡ value)
+    (is : value_of value ≡ Some v) (sets : setting k v ≡ Some l) where
+  found : position (λ b. b == 61) (name ++ 61 ∷ value) ≡ Some (length name)
+  found = position_behind (λ b. b == 61) name 61 value apart refl
+
+  behind : drop (length name + 1) (name ++ 61 ∷ value) ≡ value
+  behind = drop-append-add name (61 ∷ value) 1
+
+  setting_is : setting_line (name ++ 61 ∷ value) ≡ Ok l
+  unfolding setting_line setting_at
+  setting_is = rw found (rw (take-append_seam name (61 ∷ value), behind) (rw (whole, trim) (rw named (rw is (rw sets refl)))))
+
+  -- a key with a value, as they stand
+  pub setting_read : is_mark (get_or (name ++ 61 ∷ value) 0 0) ≡ false → (get_or (name ++ 61 ∷ value) 0 0 == 91) ≡ false
+      → IsFramed (name ++ 61 ∷ value) → line_of n (name ++ 61 ∷ value) ≡ Ok (Some l)
+  unfolding line_said
+  setting_read plain no_title framed = line_read n (name ++ 61 ∷ value) l framed (no_remark (name ++ 61 ∷ value) framed.some plain) (rw no_title setting_is)
+
+-- the lines without a volume in them
+pub mode_read : (n : ℕ) → line_of n (codes "mode=ubi") ≡ Ok (Some line.Mode)
+unfolding line_of is_one_line trimmed line_said setting_line setting_at key_of value_of setting plain_value
+mode_read n = refl
+
+pub kind_read : (n : ℕ) (k : VolKind) → line_of n (codes "vol_type=" ++ kind_word k) ≡ Ok (Some (line.Kind k))
+unfolding line_of is_one_line trimmed line_said setting_line setting_at key_of value_of setting plain_value kind_of
+kind_read n kind.Dynamic = refl
+kind_read n kind.Static = refl
+
+pub autoresize_read : (n : ℕ) → line_of n (codes "vol_flags=autoresize") ≡ Ok (Some line.Autoresize)
+unfolding line_of is_one_line trimmed line_said setting_line setting_at key_of value_of setting plain_value flag_of
+autoresize_read n = refl
+
+pub skip_check_read : (n : ℕ) → line_of n (codes "vol_flags=skip-check") ≡ Ok (Some line.SkipCheck)
+unfolding line_of is_one_line trimmed line_said setting_line setting_at key_of value_of setting plain_value flag_of
+skip_check_read n = refl
+
+pub empty_read : (n : ℕ) → line_of n [] ≡ Ok None
+unfolding line_of is_one_line trimmed
+empty_read n = refl
+
+-- the lines that end with a number
+module _ (n number : ℕ) (small : number < 2 ^ 64) where
+  framed : (front : List ℕ) → 0 < length front → is_blank (get_or front 0 0) ≡ false
+      → list_any (λ b. b == 0) front ≡ false → length front ≤ 1000 → IsFramed (front ++ decimal number)
+  framed front some first zero short =
+      framed_behind front (decimal number) some first zero (omega (arith, short, digits_short number small))
+      (digits_framed number small)
+
+  pub id_read : number ≤ most_number → line_of n (codes "vol_id=" ++ decimal number) ≡ Ok (Some (line.Id number))
+  unfolding trimmed key_of setting
+  id_read within =
+      setting_read n (codes "vol_id") (decimal number) (decimal number) key.Id (line.Id number) refl refl refl
+      (digits_trimmed number small) (digits_value number small) (rw (digits_number number small most_number within) refl)
+      refl refl (framed (codes "vol_id=") (omega arith) refl refl (omega arith))
+
+  pub alignment_read : number ≤ most_number
+      → line_of n (codes "vol_alignment=" ++ decimal number) ≡ Ok (Some (line.Alignment number))
+  unfolding trimmed key_of setting
+  alignment_read within =
+      setting_read n (codes "vol_alignment") (decimal number) (decimal number) key.Alignment (line.Alignment number) refl
+      refl refl (digits_trimmed number small) (digits_value number small)
+      (rw (digits_number number small most_number within) refl) refl refl
+      (framed (codes "vol_alignment=") (omega arith) refl refl (omega arith))
+
+  pub size_read : 1 ≤ number → number ≤ most_bytes
+      → line_of n (codes "vol_size=" ++ decimal number) ≡ Ok (Some (line.Size number))
+  unfolding trimmed key_of setting
+  size_read one within =
+      setting_read n (codes "vol_size") (decimal number) (decimal number) key.Size (line.Size number) refl refl refl
+      (digits_trimmed number small) (digits_value number small) (rw (digits_size number small one within) refl) refl refl
+      (framed (codes "vol_size=") (omega arith) refl refl (omega arith))
+
+-- the lines that end with a value in quotes
+module _ (n : ℕ) (value : List ℕ) (w : CanWrite value) where
+  long : length (quoted value) ≡ length value + 2
+  long = omega (arith, length-append value (quote_of value ∷ []))
+
+  pub name_read : is_name value ≡ true → line_of n (codes "vol_name=" ++ quoted value) ≡ Ok (Some (line.Name value))
+  unfolding trimmed key_of setting
+  name_read named =
+      setting_read n (codes "vol_name") (quoted value) value key.Name (line.Name value) refl refl refl
+      (quoted_trimmed value w) (quoted_read value w) (rw named refl) refl refl
+      (framed_behind (codes "vol_name=") (quoted value) (omega arith) refl refl (omega (arith, long, w.short))
+      (quoted_framed value w))
+
+  pub image_read : line_of n (codes "image=" ++ quoted value) ≡ Ok (Some (line.Image value))
+  unfolding trimmed key_of setting
+  image_read =
+      setting_read n (codes "image") (quoted value) value key.Image (line.Image value) refl refl refl
+      (quoted_trimmed value w) (quoted_read value w) refl refl refl
+      (framed_behind (codes "image=") (quoted value) (omega arith) refl refl (omega (arith, long, w.short))
+      (quoted_framed value w))
+
+-- the line that begins a section
+module _ (n id : ℕ) (small : id < 2 ^ 64) where
+  heading : List ℕ
+  heading = codes "[" ++ title id ++ codes "]"
