@@ -33,10 +33,10 @@ visible b h =
     let both : (nat_le 9 b && false) ≡ false = and_false (nat_le 9 b) in
     rw (space, late) both
 
-other : (b c : ℕ) → is_ascii_digit b ≡ true → c < 48 → (b == c) ≡ false
+pub other : (b c : ℕ) → is_ascii_digit b ≡ true → c < 48 → (b == c) ≡ false
 other b c h below = let r = in_range b h in grind (arith, nat_tests)
 
-above : (b c : ℕ) → is_ascii_digit b ≡ true → 57 < c → (b == c) ≡ false
+pub above : (b c : ℕ) → is_ascii_digit b ≡ true → 57 < c → (b == c) ≡ false
 above b c h more = let r = in_range b h in grind (arith, nat_tests)
 
 or_true : (a : Bool) → (a || true) ≡ true
@@ -61,7 +61,8 @@ module _ (n : ℕ) (small : n < 2 ^ 64) where
   digit_at : (i : ℕ) → i < length (decimal n) → is_ascii_digit (get_or (decimal n) i 0) ≡ true
   digit_at i within = AllPass-from_list_all is_ascii_digit (decimal n) all_digits i 0 within
 
-  none_is : (p : ℕ → Bool) → ((b : ℕ) → is_ascii_digit b ≡ true → p b ≡ false) → list_any p (decimal n) ≡ false
+  -- no digit of them passes a test that no digit passes
+  pub none_is : (p : ℕ → Bool) → ((b : ℕ) → is_ascii_digit b ≡ true → p b ≡ false) → list_any p (decimal n) ≡ false
   none_is p apart =
       list_any_none p (decimal n)
       (λ k d within. apart _ (AllPass-from_list_all is_ascii_digit (decimal n) all_digits k d within))

@@ -4,8 +4,8 @@ use Rattle.std.proofs.lemmas.List.{get_or-append_right, get_or_append_left, take
 use Rattle.std.proofs.lemmas.List.Folds.{list_any-append}
 use Rattle.std.proofs.Common.{length-append}
 use Rattle.std.proofs.lemmas.List.Sums.{position_or_len_is, suffix_len_is}
-use Rattle.std.specs.Prelude.{if◌then◌else◌}
-use Rattle.ubi_config.specs.Values.{is_remark}
+use Rattle.std.specs.Prelude.{◌||◌, if◌then◌else◌}
+use Rattle.ubi_config.specs.Values.{is_mark, is_remark}
 use Rattle.ubi_config.specs.Words.{is_visible}
 
 -- bytes that are a line: some and not too many, no blank at either end, no backslash at the end, and no byte that cuts it
@@ -16,6 +16,10 @@ pub record IsFramed (text : List ℕ) : Type 0 where
   pub last : is_blank (get_or text (length text - 1) 0) ≡ false
   pub slash : (get_or text (length text - 1) 0 == 92) ≡ false
   pub zero : list_any (λ b. b == 0) text ≡ false
+
+or_true : (a : Bool) → (a || true) ≡ true
+or_true true = refl
+or_true false = refl
 
 not_false : (b : Bool) → b ≡ false → not b ≡ true
 not_false b h = rw h refl
@@ -50,15 +54,15 @@ framed_said n text f =
     rw (framed_trimmed text f) (rw (short, f.zero, f.slash) (rw some refl))
 
 -- a line that begins with a mark is skipped
-pub remark_read : (n : ℕ) (text : List ℕ) → IsFramed text → is_remark text ≡ true → line_of n text ≡ Ok None
-remark_read n text f mark = framed_said n text f ∙ rw mark refl
+pub remark_read : (n : ℕ) (text : List ℕ) → IsFramed text → is_mark (get_or text 0 0) ≡ true → line_of n text ≡ Ok None
+remark_read n text f mark = framed_said n text f ∙ rw mark (rw (or_true (length text == 0)) refl)
 
 -- what a line says that isn't skipped
 pub line_read : (n : ℕ) (text : List ℕ) (l : Line) → IsFramed text → is_remark text ≡ false
     → line_said n text ≡ Ok l → line_of n text ≡ Ok (Some l)
 line_read n text l f plain said = framed_said n text f ∙ rw plain (rw said refl)
 
-both_none : (p : ℕ → Bool) (xs ys : List ℕ) → list_any p xs ≡ false → list_any p ys ≡ false
+pub both_none : (p : ℕ → Bool) (xs ys : List ℕ) → list_any p xs ≡ false → list_any p ys ≡ false
     → list_any p (xs ++ ys) ≡ false
 both_none p xs ys h k = list_any-append p xs ys ∙ rw (h, k) refl
 

@@ -17,4 +17,5 @@ pub mod Reserved
 pub mod SectionsDiffer
 pub mod Texts
 pub mod WrittenLines
+pub mod WrittenRemarks
 pub mod Prelude

@@ -1,14 +1,16 @@
 -- What each line of a config that is written says.
 use Rattle.ubi_config.proofs.Prelude.{◌≡◌, ◌<◌, ◌≤◌, ◌+◌, ◌-◌, ◌^◌, ℕ, Bool, true, false, not, List, [], ◌∷◌, ◌++◌, arith, get_or, length, drop, take, refl, sym, ap, ◌∙◌, ◌==◌, codes, cond, Option, Some, None, Result, Ok, list_any, list_any-append, nat_le, nat_tests, position, position_or_len, is_blank, flag_of, heading_line, is_one_line, key_of, kind_of, line_of, line_said, number_within, is_number, plain_value, setting, setting_at, setting_line, title_of, trimmed, value_of, Key, Line, VolKind}
 use Rattle.std.proofs.Common.{length-append, slice_range}
+use Rattle.std.proofs.lemmas.List.{get_or-append_right}
 use Rattle.std.proofs.Math.Seq.{drop-append-add, drop-append_seam, take-append_seam}
 use Rattle.std.specs.Prelude.{decimal}
 use Rattle.ubi_media.specs.Name.{is_name}
 use Rattle.ubi_media.specs.declared.vid.VolKind.TheVariants as kind
-use Rattle.ubi_config.proofs.Digits.{digits_beyond, digits_framed, digits_number, digits_short, digits_size, digits_some, digits_trimmed, digits_value, digits_without}
-use Rattle.ubi_config.proofs.Framed.{IsFramed, framed_behind, line_read, remark_read, trimmed_stays}
+use Rattle.ubi_config.proofs.Digits.{above, none_is, digits_beyond, digits_framed, digits_number, digits_short, digits_size, digits_some, digits_trimmed, digits_value, digits_without}
+use Rattle.ubi_config.proofs.Framed.{IsFramed, both_none, framed_behind, framed_trimmed, line_read, remark_read, trimmed_stays}
 use Rattle.ubi_config.proofs.QuotedValues.{CanWrite, position_behind, quoted_framed, quoted_read, quoted_trimmed, quoted_unbroken}
-use Rattle.ubi_config.specs.Lines.{is_title}
+use Rattle.std.specs.Char.{is_ascii_digit}
+use Rattle.ubi_config.specs.Lines.{is_special, is_title}
 use Rattle.ubi_config.specs.Values.{is_mark, is_remark}
 use Rattle.ubi_config.specs.Words.{most_bytes}
 use Rattle.ubi_config.specs.Written.{kind_word, left_out_words, quote_of, quoted, title}
@@ -118,6 +120,58 @@ module _ (n : ℕ) (value : List ℕ) (w : CanWrite value) where
       (quoted_framed value w))
 
 -- the line that begins a section
+special_digit : (b : ℕ) → is_ascii_digit b ≡ true → is_special b ≡ false
+special_digit b h = rw (above b 93 h (omega arith), above b 58 h (omega arith)) refl
+
 module _ (n id : ℕ) (small : id < 2 ^ 64) where
   heading : List ℕ
   heading = codes "[" ++ title id ++ codes "]"
+
+  titled : IsFramed (title id)
+  titled = framed n id small (codes "volume-") (omega arith) refl refl (omega arith)
+
+  title_short : length (title id) ≤ 27
+  title_short = omega (arith, digits_short id small)
+
+  is_titled : is_title (title id) ≡ true
+  is_titled =
+      let some : nat_le 1 (length (title id)) ≡ true = grind (arith, nat_tests) in
+      let short : nat_le (length (title id)) 128 ≡ true = grind (arith, nat_tests, title_short) in
+      let none : list_any is_special (title id) ≡ false =
+      both_none is_special (codes "volume-") (decimal id) refl (none_is id small is_special special_digit) in
+      rw (some, short) (rw none refl)
+
+  heading_long : length (codes "[" ++ title id ++ codes "]") ≡ length (title id) + 2
+  heading_long = omega (arith, length-append (title id) (codes "]"))
+
+  between : slice_range (codes "[" ++ title id ++ codes "]") 1 (length (codes "[" ++ title id ++ codes "]") - 1) ≡ title id
+  between =
+      let inner : length (codes "[" ++ title id ++ codes "]") - 1 - 1 ≡ length (title id) = omega (arith, heading_long) in
+      ap (λ k. take k (title id ++ codes "]")) inner ∙ take-append_seam (title id) (codes "]")
+
+  closing : get_or (codes "[" ++ title id ++ codes "]") (length (codes "[" ++ title id ++ codes "]") - 1) 0 ≡ 93
+  closing =
+      let place : length (codes "[" ++ title id ++ codes "]") - 1 - (length (title id) + 1) ≡ 0 = omega (arith, heading_long) in
+      get_or-append_right (codes "[" ++ title id) (codes "]") (length (title id) + 1)
+      (length (codes "[" ++ title id ++ codes "]") - 1) 0 (omega arith) (omega (arith, heading_long))
+      ∙ ap (λ i. get_or (codes "]") i 0) place
+
+  bracket : IsFramed (codes "]")
+  bracket = record { some = omega arith; short = omega arith; first = refl; last = refl; slash = refl; zero = refl }
+
+  heading_framed : IsFramed (codes "[" ++ title id ++ codes "]")
+  heading_framed =
+      framed_behind (codes "[" ++ title id) (codes "]") (omega arith) refl titled.zero (omega (arith, title_short)) bracket
+
+  title_is : title_of (codes "[" ++ title id ++ codes "]") ≡ Some (title id)
+  unfolding title_of
+  title_is =
+      let two : nat_le 2 (length (codes "[" ++ title id ++ codes "]")) ≡ true = grind (arith, nat_tests, heading_long) in
+      let one : nat_le 1 (length (codes "[" ++ title id ++ codes "]")) ≡ true = grind (arith, nat_tests, heading_long) in
+      rw between (rw (framed_trimmed (title id) titled) (rw (two, one, closing) (rw is_titled refl)))
+
+  pub heading_read : line_of n (codes "[" ++ title id ++ codes "]") ≡ Ok (Some (line.Heading n (title id)))
+  unfolding line_said heading_line
+  heading_read =
+      line_read n (codes "[" ++ title id ++ codes "]") (line.Heading n (title id)) heading_framed
+      (no_remark (codes "[" ++ title id ++ codes "]") heading_framed.some refl) (rw title_is refl)
