@@ -15,7 +15,7 @@ use Rattle.ubi_config.specs.Words.{is_no_digit, most_bytes, size_in}
 use Rattle.ubi_words.specs.Words.{decimal_value, with_digit}
 
 -- the words of this crate for digits and their number
-own : IsNumeralModel (λ ds. list_all is_ascii_digit ds ≡ true) decimal_value
+pub own : IsNumeralModel (λ ds. list_all is_ascii_digit ds ≡ true) decimal_value
 own = numerals_by_fold _ (search rules) (λ n ds. fold with_digit n ds) (search rules)
 
 in_range : (b : ℕ) → is_ascii_digit b ≡ true → (48 ≤ b) × (b ≤ 57)

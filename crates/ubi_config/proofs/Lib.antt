@@ -1,4 +1,6 @@
 pub mod Apart
+pub mod AreRead
+pub mod CanSay
 pub mod ConfigVectors
 pub mod Counts
 pub mod Digits
@@ -14,8 +16,10 @@ pub mod Places
 pub mod QuotedValues
 pub mod ReadSoFar
 pub mod Reserved
+pub mod SectionRead
 pub mod SectionsDiffer
 pub mod Texts
+pub mod TitlesApart
 pub mod WrittenLines
 pub mod WrittenRemarks
 pub mod Prelude

@@ -1,0 +1,100 @@
+-- What is known of a volume that a config describes.
+use Rattle.ubi_config.proofs.Prelude.{◌≡◌, ◌<◌, ◌≤◌, ◌-◌, ◌^◌, ℕ, Bool, true, false, not, List, [], ◌∷◌, ap, arith, length, refl, subst, sym, take, ◌∙◌, ◌==◌, Option, Some, None, nat_tests, option_or, then_some, Sizes, breaks, fields_from, rec_fault, VolKind}
+use Rattle.std.proofs.Common.{◌&&◌, ◌*◌, lit<}
+use Rattle.std.proofs.Math.Nat.{mul-le-mul_left}
+use Rattle.std.proofs.Math.Seq.{take-append_seam}
+use Rattle.std.proofs.lemmas.Grind.{common_steps}
+use Rattle.std.proofs.lemmas.Nat.{mul-le}
+use Rattle.std.specs.Prelude.{is_some, replicate, unwrap_or}
+use Rattle.ubi_media.proofs.Records.{alignment_within, kept, name_kept, signs_kept, usable_some}
+use Rattle.ubi_media.specs.Geometry.{IsGeometry, leb_size}
+use Rattle.ubi_media.specs.Name.{is_name}
+use Rattle.ubi_media.specs.Record.{usable}
+use Rattle.ubi_media.specs.declared.record.VolumeRecord.{VolumeRecord}
+use Rattle.ubi_config.proofs.QuotedValues.{CanWrite, can_write}
+use Rattle.ubi_config.specs.Words.{most_bytes}
+use Rattle.ubi_config.specs.Written.{bytes_reserved, has_words, is_growing, is_writable, left_out, path_of}
+use Rattle.ubi_config.specs.declared.volume.ConfigVolume.{ConfigVolume}
+use Rattle.ubi_config.specs.declared.volume.LeftOut.{LeftOut}
+use Rattle.ubi_config.specs.declared.volume.LeftOut.TheVariants as why
+use Rattle.ubi_words.specs.Words.{most_number}
+
+none_of : (b : Bool) (c : LeftOut) (rest : Option LeftOut) → option_or (then_some b c) rest ≡ None
+    → (b ≡ false) × (rest ≡ None)
+none_of true c rest h = absurd (cc)
+none_of false c rest h = (refl, h)
+
+not_true : (b : Bool) → not b ≡ false → b ≡ true
+not_true true h = refl
+not_true false h = absurd (cc)
+
+-- why a volume isn't left out
+pub record IsSaid (grow : Bool) (v : ConfigVolume) : Type 0 where
+  pub unmarked : v.entry.marker ≡ false
+  pub there : is_some v.image ≡ true
+  pub name : CanWrite v.entry.name
+  pub path : CanWrite (path_of v)
+  pub flags : has_words v.entry.kind v.entry.flags ≡ true
+  pub grows : (is_growing v && not grow) ≡ false
+
+pub is_said : (grow : Bool) (v : ConfigVolume) → left_out grow v ≡ None → IsSaid grow v
+unfolding left_out
+is_said grow v h =
+    let one = none_of v.entry.marker why.Updating _ h in
+    let two = none_of (not (is_some v.image)) why.Damaged _ one.1 in
+    let three = none_of (not (is_writable v.entry.name)) why.Name _ two.1 in
+    let four = none_of (not (is_writable (path_of v))) why.Path _ three.1 in
+    let five = none_of (not (has_words v.entry.kind v.entry.flags)) why.Flags _ four.1 in
+    let six = none_of (is_growing v && not grow) why.Growing _ five.1 in
+    record {
+      unmarked = one.0;
+      there = not_true (is_some v.image) two.0;
+      name = can_write v.entry.name (not_true (is_writable v.entry.name) three.0);
+      path = can_write (path_of v) (not_true (is_writable (path_of v)) four.0);
+      flags = not_true (has_words v.entry.kind v.entry.flags) five.0;
+      grows = six.0;
+    }
+
+image_by : (o : Option (List ℕ)) → is_some o ≡ true → o ≡ Some (unwrap_or o [])
+image_by (Some path) h = refl
+image_by None h = absurd (cc)
+
+pub image_is : (v : ConfigVolume) → is_some v.image ≡ true → v.image ≡ Some (path_of v)
+image_is v h = image_by v.image h
+
+-- what is known of a record that breaks no rule
+module _ (s : Sizes) (g : IsGeometry s) (r : VolumeRecord) (sound : rec_fault s r ≡ None) where
+  pub named : is_name r.name ≡ true
+  unfolding fields_from
+  named =
+      subst (λ name. is_name name ≡ true) (take-append_seam r.name (replicate (128 - length r.name) 0))
+      (name_kept s (fields_from s r) sound)
+
+  signs : (r.reserved < 2 ^ 31) × (r.alignment < 2 ^ 31)
+  unfolding fields_from
+  signs = signs_kept s (fields_from s r) sound
+
+  some : 1 ≤ r.reserved
+  unfolding fields_from breaks
+  some = let h = kept s (fields_from s r) sound 0 (lit< tt) in grind (arith, nat_tests)
+
+  pub reserved_some : 1 ≤ r.reserved
+  reserved_some = some
+
+  pub reserved_few : r.reserved < 2 ^ 31
+  reserved_few = signs.0
+
+  pub alignment_fits : r.alignment ≤ most_number
+  alignment_fits = omega (arith, signs.1)
+
+  usable_small : usable s r ≤ 2 ^ 24
+  usable_small = omega (arith, g.peb_to)
+
+  pub bytes_some : 1 ≤ bytes_reserved s r
+  bytes_some = omega (arith, mul-le 1 1 r.reserved (usable s r) some (usable_some s r sound))
+
+  bytes_below : bytes_reserved s r ≤ 2 ^ 31 * 2 ^ 24
+  bytes_below = mul-le r.reserved (usable s r) (2 ^ 31) (2 ^ 24) (omega (arith, signs.0)) usable_small
+
+  pub bytes_fit : bytes_reserved s r ≤ most_bytes
+  bytes_fit = omega (arith, bytes_below)
