@@ -1,4 +1,6 @@
 pub mod Apart
+pub mod AllMade
+pub mod AllRead
 pub mod AreRead
 pub mod CanSay
 pub mod ConfigVectors
@@ -20,6 +22,7 @@ pub mod SectionRead
 pub mod SectionsDiffer
 pub mod Texts
 pub mod TitlesApart
+pub mod Unbroken
 pub mod WrittenLines
 pub mod WrittenRemarks
 pub mod Prelude
