@@ -1,6 +1,6 @@
 -- The lines of all volumes are read, one after the other.
-use Rattle.ubi_config.proofs.Prelude.{◌≡◌, ◌<◌, ◌≤◌, ◌+◌, ◌^◌, ℕ, Bool, true, false, not, List, [], ◌∷◌, ◌++◌, append-nil, arith, length, refl, subst, sym, ap, ◌∙◌, ◌==◌, codes, cond, count_by, AllByRecursion, IsDistinct, Option, Some, None, flat_map, list_any, list_any-append, map, nat_le, nat_tests, rec_fault, same_bytes, gives_id, gives_name, is_autoresize, is_heading, is_titled, line_number, Line, Sizes}
-use Rattle.std.proofs.Common.{◌||◌, ◌&&◌, if◌then◌else◌}
+use Rattle.ubi_config.proofs.Prelude.{◌≡◌, ◌<◌, ◌≤◌, ◌+◌, ◌^◌, ℕ, Bool, true, false, not, List, [], ◌∷◌, ◌++◌, append-nil, arith, length, refl, subst, ◌∙◌, ◌==◌, codes, cond, count_by, AllByRecursion, IsDistinct, Option, Some, None, flat_map, list_any, list_any-append, map, rec_fault, same_bytes, gives_id, gives_name, is_autoresize, is_heading, is_titled, line_number, Line, Sizes}
+use Rattle.std.proofs.Common.{◌&&◌, if◌then◌else◌}
 use Rattle.std.specs.Prelude.{decimal}
 use Rattle.ubi_media.specs.Geometry.{IsGeometry}
 use Rattle.ubi_config.proofs.AreRead.{AreRead, read-append, read_under, skip_line}
@@ -130,12 +130,11 @@ module _ (s : Sizes) (place : ℕ) (v : ConfigVolume) (above : List Line) (o : O
       → AllByRecursion (λ y. same_bytes v.entry.name y ≡ false) (map (λ w. w.entry.name) ws)
       → AllByRecursion (IsClear (above ++ said_at s place v o)) ws
   still_clear [] sounds clear ids names = tt
-  still_clear (w ∷ ws) sounds clear ids names =
-      (
-        clear_both above (said_at s place v o) w clear.0
-            (apart s place v w small sounds.0.number ids.0 names.0 o),
-        still_clear ws sounds.1 clear.1 ids.1 names.1,
-      )
+  still_clear (w ∷ ws) sounds clear ids names = (
+    clear_both above (said_at s place v o) w clear.0
+        (apart s place v w small sounds.0.number ids.0 names.0 o),
+    still_clear ws sounds.1 clear.1 ids.1 names.1,
+  )
 
 module _ (s : Sizes) (g : IsGeometry s) (grow : Bool) where
   one_volume : (v : ConfigVolume) (place : ℕ) (above : List Line) → IsSound s v → IsClear above v

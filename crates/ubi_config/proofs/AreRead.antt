@@ -37,8 +37,7 @@ read-append place above own [] us said more first second =
 read-append place above own (t ∷ ts) us said more (o, m, read, fits, is, rest) second =
     let next : place + length (t ∷ ts) ≡ place + 1 + length ts = omega arith in
     let behind : own ++ said ≡ (own ++ option_to_list o) ++ m =
-    ap (λ ls. own ++ ls) is ∙ sym (append_assoc own (option_to_list o) m) in
-    (
+    ap (λ ls. own ++ ls) is ∙ sym (append_assoc own (option_to_list o) m) in (
       o,
       m ++ more,
       read,
@@ -53,16 +52,15 @@ read-append place above own (t ∷ ts) us said more (o, m, read, fits, is, rest)
 pub read_under : (place : ℕ) (above own other : List Line) (ts : List (List ℕ)) (said : List Line)
     → AreRead place (above ++ own) other ts said → AreRead place above (own ++ other) ts said
 read_under place above own other [] said h = h
-read_under place above own other (t ∷ ts) said (o, m, read, fits, is, rest) =
-    (
-      o,
-      m,
-      read,
-      subst (λ ls. option_and_then (later_cause ls) o ≡ None) (append_assoc above own other) fits,
-      is,
-      subst (λ ls. AreRead (place + 1) above ls ts m) (sym (append_assoc own other (option_to_list o)))
-          (read_under (place + 1) above own (other ++ option_to_list o) ts m rest),
-    )
+read_under place above own other (t ∷ ts) said (o, m, read, fits, is, rest) = (
+  o,
+  m,
+  read,
+  subst (λ ls. option_and_then (later_cause ls) o ≡ None) (append_assoc above own other) fits,
+  is,
+  subst (λ ls. AreRead (place + 1) above ls ts m) (sym (append_assoc own other (option_to_list o)))
+      (read_under (place + 1) above own (other ++ option_to_list o) ts m rest),
+)
 
 no_next : (before : List (List ℕ)) (t : List ℕ) (above : List Line) (o : Option Line) → sayings before ≡ above
     → line_of (line_number (length before)) t ≡ Ok o → option_and_then (later_cause above) o ≡ None
@@ -83,17 +81,15 @@ said_next before t above o is read =
 read_left : (place : ℕ) (before : List (List ℕ)) (above own : List Line) (ts : List (List ℕ)) (said : List Line)
     → place ≡ length before → sayings before ≡ above ++ own → AreRead place above own ts said
     → (first_left before ts ≡ None) × (sayings (before ++ ts) ≡ (above ++ own) ++ said)
-read_left place before above own [] said at is h =
-    (
-      refl,
-      ap sayings (append-nil before) ∙ is ∙ sym (append-nil (above ++ own)) ∙ ap (λ ls. (above ++ own) ++ ls) (sym h),
-    )
+read_left place before above own [] said at is h = (
+  refl,
+  ap sayings (append-nil before) ∙ is ∙ sym (append-nil (above ++ own)) ∙ ap (λ ls. (above ++ own) ++ ls) (sym h),
+)
 read_left place before above own (t ∷ ts) said at is (o, m, read, fits, eq, rest) =
     let here = subst (λ p. line_of (line_number p) t ≡ Ok o) at read in
     let after = said_next before t (above ++ own) o is here ∙ append_assoc above own (option_to_list o) in
     let long : place + 1 ≡ length (before ++ t ∷ []) = omega (arith, at, length_push before t) in
-    let more = read_left (place + 1) (before ++ t ∷ []) above (own ++ option_to_list o) ts m long after rest in
-    (
+    let more = read_left (place + 1) (before ++ t ∷ []) above (own ++ option_to_list o) ts m long after rest in (
       ap (λ (f : Option Fault). option_or f (first_left (before ++ t ∷ []) ts)) (no_next before t (above ++ own) o is here fits)
           ∙ more.0,
       ap sayings (sym (append_assoc before (t ∷ []) ts))

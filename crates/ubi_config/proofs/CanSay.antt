@@ -1,13 +1,11 @@
 -- What is known of a volume that a config describes.
-use Rattle.ubi_config.proofs.Prelude.{◌≡◌, ◌<◌, ◌≤◌, ◌-◌, ◌^◌, ℕ, Bool, true, false, not, List, [], ◌∷◌, ap, arith, length, refl, subst, sym, take, ◌∙◌, ◌==◌, Option, Some, None, nat_tests, option_or, then_some, Sizes, breaks, fields_from, rec_fault, VolKind}
+use Rattle.ubi_config.proofs.Prelude.{◌≡◌, ◌<◌, ◌≤◌, ◌-◌, ◌^◌, ℕ, Bool, true, false, not, List, [], arith, length, refl, subst, Option, Some, None, nat_tests, option_or, then_some, Sizes, breaks, fields_from, rec_fault}
 use Rattle.std.proofs.Common.{◌&&◌, ◌*◌, lit<}
-use Rattle.std.proofs.Math.Nat.{mul-le-mul_left}
 use Rattle.std.proofs.Math.Seq.{take-append_seam}
-use Rattle.std.proofs.lemmas.Grind.{common_steps}
 use Rattle.std.proofs.lemmas.Nat.{mul-le}
 use Rattle.std.specs.Prelude.{is_some, replicate, unwrap_or}
-use Rattle.ubi_media.proofs.Records.{alignment_within, kept, name_kept, signs_kept, usable_some}
-use Rattle.ubi_media.specs.Geometry.{IsGeometry, leb_size}
+use Rattle.ubi_media.proofs.Records.{kept, name_kept, signs_kept, usable_some}
+use Rattle.ubi_media.specs.Geometry.{IsGeometry}
 use Rattle.ubi_media.specs.Name.{is_name}
 use Rattle.ubi_media.specs.Record.{usable}
 use Rattle.ubi_media.specs.declared.record.VolumeRecord.{VolumeRecord}
@@ -62,6 +60,15 @@ image_by None h = absurd (cc)
 pub image_is : (v : ConfigVolume) → is_some v.image ≡ true → v.image ≡ Some (path_of v)
 image_is v h = image_by v.image h
 
+-- a record that breaks no rule reserves some eraseblocks, and not too many
+pub reserved_some : (s : Sizes) (r : VolumeRecord) → rec_fault s r ≡ None → 1 ≤ r.reserved
+unfolding fields_from breaks
+reserved_some s r sound = let h = kept s (fields_from s r) sound 0 (lit< tt) in grind (arith, nat_tests)
+
+pub reserved_few : (s : Sizes) (r : VolumeRecord) → rec_fault s r ≡ None → r.reserved < 2 ^ 31
+unfolding fields_from
+reserved_few s r sound = (signs_kept s (fields_from s r) sound).0
+
 -- what is known of a record that breaks no rule
 module _ (s : Sizes) (g : IsGeometry s) (r : VolumeRecord) (sound : rec_fault s r ≡ None) where
   pub named : is_name r.name ≡ true
@@ -74,16 +81,6 @@ module _ (s : Sizes) (g : IsGeometry s) (r : VolumeRecord) (sound : rec_fault s 
   unfolding fields_from
   signs = signs_kept s (fields_from s r) sound
 
-  some : 1 ≤ r.reserved
-  unfolding fields_from breaks
-  some = let h = kept s (fields_from s r) sound 0 (lit< tt) in grind (arith, nat_tests)
-
-  pub reserved_some : 1 ≤ r.reserved
-  reserved_some = some
-
-  pub reserved_few : r.reserved < 2 ^ 31
-  reserved_few = signs.0
-
   pub alignment_fits : r.alignment ≤ most_number
   alignment_fits = omega (arith, signs.1)
 
@@ -91,7 +88,7 @@ module _ (s : Sizes) (g : IsGeometry s) (r : VolumeRecord) (sound : rec_fault s 
   usable_small = omega (arith, g.peb_to)
 
   pub bytes_some : 1 ≤ bytes_reserved s r
-  bytes_some = omega (arith, mul-le 1 1 r.reserved (usable s r) some (usable_some s r sound))
+  bytes_some = omega (arith, mul-le 1 1 r.reserved (usable s r) (reserved_some s r sound) (usable_some s r sound))
 
   bytes_below : bytes_reserved s r ≤ 2 ^ 31 * 2 ^ 24
   bytes_below = mul-le r.reserved (usable s r) (2 ^ 31) (2 ^ 24) (omega (arith, signs.0)) usable_small

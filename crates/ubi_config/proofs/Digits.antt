@@ -1,5 +1,5 @@
 -- Numbers in decimal digits: a line may end with them, and they are read as the number.
-use Rattle.ubi_config.proofs.Prelude.{◌≡◌, ◌<◌, ◌≤◌, ◌+◌, ◌-◌, ◌^◌, ℕ, Bool, true, false, not, List, [], ◌∷◌, ◌++◌, arith, get_or, length, drop, take, refl, rules, sym, ap, ◌∙◌, ◌==◌, Option, Some, None, list_any, nat_le, nat_tests, position_or_len, then_some, is_blank, is_number, number_within, plain_value, size_of, trimmed, unit_of, value_of}
+use Rattle.ubi_config.proofs.Prelude.{◌≡◌, ◌<◌, ◌≤◌, ◌-◌, ◌^◌, ℕ, Bool, true, false, not, arith, get_or, length, refl, rules, ◌==◌, Some, list_any, nat_le, nat_tests, position_or_len, is_blank, is_number, number_within, plain_value, size_of, trimmed, unit_of, value_of}
 use Rattle.std.proofs.Common.{◌&&◌, ◌||◌, ◌*◌, suc, zero}
 use Rattle.std.proofs.lemmas.Fmt.{decimal_digit, decimal_nonempty, digits_decimal, digits_value-decimal, first_decimal, length-decimal-le}
 use Rattle.std.proofs.lemmas.List.{drop_all, take_all}
@@ -10,8 +10,8 @@ use Rattle.std.specs.Prelude.{decimal, fold}
 use Rattle.std.specs.Char.{is_ascii_digit}
 use Rattle.std.specs.List.{before_first, list_all}
 use Rattle.ubi_config.proofs.Framed.{IsFramed, trimmed_stays}
-use Rattle.ubi_config.specs.Values.{is_mark, is_quote, some_bytes}
-use Rattle.ubi_config.specs.Words.{is_no_digit, most_bytes, size_in}
+use Rattle.ubi_config.specs.Values.{is_mark, is_quote}
+use Rattle.ubi_config.specs.Words.{is_no_digit, most_bytes}
 use Rattle.ubi_words.specs.Words.{decimal_value, with_digit}
 
 -- the words of this crate for digits and their number

@@ -1,5 +1,5 @@
 -- Lines that no reader trims: what they say.
-use Rattle.ubi_config.proofs.Prelude.{◌≡◌, ◌<◌, ◌≤◌, ◌+◌, ◌-◌, ℕ, Bool, true, false, not, List, [], ◌∷◌, ◌++◌, arith, get_or, length, drop, take, refl, sym, ap, ◌∙◌, ◌==◌, Option, Some, None, Result, Ok, Err, list_any, nat_le, nat_tests, position_or_len, suffix_len, is_blank, is_one_line, line_of, line_said, trimmed, Line, ConfigCause, ◌>>=◌}
+use Rattle.ubi_config.proofs.Prelude.{◌≡◌, ◌<◌, ◌≤◌, ◌+◌, ◌-◌, ℕ, Bool, true, false, not, List, ◌++◌, arith, get_or, length, refl, ap, ◌∙◌, ◌==◌, Some, None, Ok, list_any, nat_le, nat_tests, position_or_len, suffix_len, is_blank, is_one_line, line_of, line_said, trimmed, Line, ◌>>=◌}
 use Rattle.std.proofs.lemmas.List.{get_or-append_right, get_or_append_left, take_all}
 use Rattle.std.proofs.lemmas.List.Folds.{list_any-append}
 use Rattle.std.proofs.Common.{length-append}

@@ -10,6 +10,7 @@ pub mod Distinct
 pub mod Faults
 pub mod Framed
 pub mod Fields
+pub mod GivenRecord
 pub mod Groups
 pub mod Grows
 pub mod Kept
@@ -23,6 +24,7 @@ pub mod SectionsDiffer
 pub mod Texts
 pub mod TitlesApart
 pub mod Unbroken
+pub mod WrittenReads
 pub mod WrittenLines
 pub mod WrittenRemarks
 pub mod Prelude

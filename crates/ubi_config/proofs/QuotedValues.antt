@@ -1,7 +1,7 @@
 -- Values in quotes: a line may end with them, and they are read as what stands between the quotes.
-use Rattle.ubi_config.proofs.Prelude.{◌≡◌, ◌<◌, ◌≤◌, ◌+◌, ◌-◌, ℕ, Bool, true, false, not, List, [], ◌∷◌, ◌++◌, arith, get_or, length, drop, take, refl, sym, ap, ◌∙◌, ◌==◌, cond, Option, Some, None, list_any, list_any-append, nat_le, nat_tests, position, position_or_len, is_blank, quoted_value, trimmed, value_of}
-use Rattle.std.proofs.Common.{◌&&◌, ◌||◌, if◌then◌else◌, length-append, nat_lt}
-use Rattle.std.proofs.Math.Seq.{drop-append-add, drop-append_seam, take-append_seam}
+use Rattle.ubi_config.proofs.Prelude.{◌≡◌, ◌≤◌, ℕ, Bool, true, false, not, List, [], ◌∷◌, ◌++◌, arith, length, refl, ◌∙◌, ◌==◌, Some, list_any, list_any-append, nat_le, nat_tests, position, position_or_len, is_blank, quoted_value, trimmed, value_of}
+use Rattle.std.proofs.Common.{if◌then◌else◌, length-append, nat_lt}
+use Rattle.std.proofs.Math.Seq.{drop-append-add, take-append_seam}
 use Rattle.std.proofs.lemmas.Bool.{and_parts}
 use Rattle.ubi_config.proofs.Distinct.{or_false}
 use Rattle.ubi_config.proofs.Framed.{IsFramed, framed_behind, trimmed_stays}

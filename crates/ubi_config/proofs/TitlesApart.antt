@@ -1,5 +1,5 @@
 -- Volumes of other numbers have sections of other names.
-use Rattle.ubi_config.proofs.Prelude.{◌≡◌, ◌<◌, ◌^◌, ℕ, Bool, true, false, List, [], ◌∷◌, ◌++◌, arith, refl, sym, ap, ◌∙◌, ◌==◌, codes, drop, map, nat_tests}
+use Rattle.ubi_config.proofs.Prelude.{◌≡◌, ◌<◌, ◌^◌, ℕ, Bool, true, false, List, [], ◌∷◌, ◌++◌, arith, refl, sym, ap, ◌∙◌, ◌==◌, codes, drop, nat_tests}
 use Rattle.std.proofs.Common.{◌&&◌}
 use Rattle.std.proofs.lemmas.Fmt.{decimal_injective, digits_decimal}
 use Rattle.std.specs.Char.{is_ascii_digit, to_ascii_lowercase}

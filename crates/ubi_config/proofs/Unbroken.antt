@@ -1,8 +1,8 @@
 -- A text of lines that hold no line's end is cut into them.
-use Rattle.ubi_config.proofs.Prelude.{◌≡◌, ◌<◌, ◌≤◌, ◌+◌, ◌^◌, ℕ, Bool, true, false, List, [], ◌∷◌, ◌++◌, append_assoc, arith, refl, sym, ap, ◌∙◌, ◌==◌, codes, AllByRecursion, Option, Some, None, flat_map, lines, list_any, list_any-append, rec_fault, Sizes, VolKind}
+use Rattle.ubi_config.proofs.Prelude.{◌≡◌, ◌<◌, ◌^◌, ℕ, Bool, true, false, List, [], ◌∷◌, ◌++◌, append_assoc, arith, refl, ap, ◌∙◌, ◌==◌, codes, AllByRecursion, Option, Some, None, lines, list_any, rec_fault, Sizes, VolKind}
 use Rattle.std.proofs.Common.{if◌then◌else◌}
 use Rattle.std.proofs.lemmas.List.Splits.{slice_split-cons_no, slice_split-cons_yes}
-use Rattle.std.specs.List.{onto_first, slice_split}
+use Rattle.std.specs.List.{onto_first}
 use Rattle.std.specs.Prelude.{decimal}
 use Rattle.ubi_media.specs.Geometry.{IsGeometry}
 use Rattle.ubi_media.specs.declared.vid.VolKind.TheVariants as kind
@@ -12,7 +12,7 @@ use Rattle.ubi_config.proofs.Distinct.{or_false}
 use Rattle.ubi_config.proofs.Framed.{both_none}
 use Rattle.ubi_config.proofs.QuotedValues.{quoted_unbroken}
 use Rattle.ubi_config.proofs.WrittenRemarks.{left_out_unbroken}
-use Rattle.ubi_config.specs.Written.{bytes_reserved, ended, flag_lines, kind_word, left_out, lines_by, path_of, quoted, remark_lines, section_lines, text_of, title}
+use Rattle.ubi_config.specs.Written.{bytes_reserved, kind_word, lines_by, path_of, quoted, section_lines, text_of, title}
 use Rattle.ubi_config.specs.declared.volume.ConfigVolume.{ConfigVolume}
 use Rattle.ubi_config.specs.declared.volume.LeftOut.{LeftOut}
 

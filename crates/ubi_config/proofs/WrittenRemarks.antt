@@ -1,5 +1,5 @@
 -- The remarks of a config that is written are skipped.
-use Rattle.ubi_config.proofs.Prelude.{◌≡◌, ◌<◌, ◌≤◌, ◌+◌, ◌^◌, ℕ, Bool, false, true, List, [], ◌∷◌, ◌++◌, append_assoc, arith, length, refl, subst, sym, ap, ◌∙◌, ◌==◌, codes, None, Ok, list_any, line_of}
+use Rattle.ubi_config.proofs.Prelude.{◌≡◌, ◌<◌, ◌≤◌, ◌^◌, ℕ, Bool, false, true, List, ◌++◌, append_assoc, arith, length, refl, sym, ap, ◌∙◌, ◌==◌, codes, None, Ok, list_any, line_of}
 use Rattle.std.proofs.Common.{length-append}
 use Rattle.std.specs.Char.{is_ascii_digit}
 use Rattle.std.specs.Prelude.{decimal}

@@ -1,11 +1,13 @@
 -- What the config that is written is read as.
-use Rattle.std.specs.Prelude.{◌≡◌, ℕ, ◌+◌, ◌<◌, ◌≤◌, ◌==◌, ◌^◌, All, Bool, List, [], ◌∷◌, ◌++◌, None, Option, Some, length, map}
+use Rattle.std.specs.Prelude.{◌≡◌, ℕ, ◌+◌, ◌<◌, ◌≤◌, ◌==◌, ◌^◌, All, Bool, List, [], ◌∷◌, ◌++◌, None, Ok, Option, Some, false, length, map}
 use Rattle.std.specs.List.{IsDistinct}
 use Rattle.ubi_media.specs.Fields.{same_bytes}
-use Rattle.ubi_media.specs.Geometry.{IsGeometry, Sizes}
+use Rattle.ubi_media.specs.Geometry.{IsGeometry, Sizes, slots}
 use Rattle.ubi_media.specs.Record.{rec_fault}
 use Rattle.ubi_config.specs.Above.{most_sections}
 use Rattle.ubi_config.specs.Config.{first_fault, line_number, sections_of}
+use Rattle.ubi_media.specs.declared.vid.VolKind.TheVariants as kind
+use Rattle.ubi_config.specs.Records.{record_in}
 use Rattle.ubi_config.specs.Written.{bytes_reserved, config_text, left_out, may_grow, volume_lines}
 use Rattle.ubi_config.specs.declared.section.Section.{Section}
 use Rattle.ubi_config.specs.declared.volume.ConfigVolume.{ConfigVolume}
@@ -53,3 +55,11 @@ abbrev pub WrittenReads : Type 0
 WrittenReads =
     (s : Sizes) (seq : ℕ) (vs : List ConfigVolume) → seq < 2 ^ 32 → AreVolumes s vs
     → (first_fault (config_text s seq vs) ≡ None) × (sections_of (config_text s seq vs) ≡ sections_written s vs)
+
+-- the section of a volume gives back its record, for a file with the bytes that it can read: no more than it reserves, and
+-- some if it is dynamic
+abbrev pub SectionGivesRecord : Type 0
+SectionGivesRecord =
+    (s : Sizes) (n len : ℕ) (v : ConfigVolume) → rec_fault s v.entry ≡ None → v.entry.marker ≡ false
+    → v.id < slots s → len ≤ bytes_reserved s v.entry → (v.entry.kind ≡ kind.Dynamic → 1 ≤ len)
+    → record_in s (section_for s n v) (Some len) ≡ Ok v.entry
