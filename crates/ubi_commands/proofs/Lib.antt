@@ -9,6 +9,7 @@ pub mod DetectedLines
 pub mod Edited
 pub mod Ended
 pub mod Extracted
+pub mod FolderConfigs
 pub mod Found
 pub mod GatheredParts
 pub mod GeometryVectors

@@ -192,7 +192,7 @@ pub use Rattle.ubi_commands.specs.Rename.{CutIsNamed, HasRename, IsRenameFault, 
 pub use Rattle.ubi_commands.specs.Same.{Compares, ComparesOf, compared, comparison_status, different, left_refused, left_refused_from, right_refused, right_refused_from, same}
 pub use Rattle.ubi_commands.specs.Show.{Shows, block_lines, no_block, no_block_from, no_size, shown_from}
 pub use Rattle.ubi_commands.specs.Tool.{HasOneVolume, Mean, finds, plans, reads_dump}
-pub use Rattle.ubi_commands.specs.Unpack.{AreUnpacked, AreUnpackedUntil, IsUnpacked, Listed, Unpacks, UnpacksOf, file_byte, file_path, no_folder, unpacked, unpacked_line, unpacked_lines, unpacked_status}
+pub use Rattle.ubi_commands.specs.Unpack.{AreUnpacked, AreUnpackedUntil, IsUnpacked, IsWritten, Listed, Unpacks, UnpacksOf, all_described, config_path, file_byte, file_path, no_folder, unpacked, unpacked_line, unpacked_lines, unpacked_status}
 unfoldable pub use Rattle.ubi_commands.specs.Unpack.{file_name}
 pub use Rattle.ubi_commands.specs.declared.asked.Asked.{Asked}
 pub use Rattle.ubi_commands.specs.declared.asked.Change.{Change}

@@ -15,6 +15,7 @@ mod commands;
 mod compose;
 mod extract;
 mod finding;
+mod folder_config;
 mod gathering;
 mod geometry;
 pub mod laws;
