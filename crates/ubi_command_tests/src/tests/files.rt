@@ -2,6 +2,7 @@
 
 use super::answers::SMALL_SIZES;
 use super::contents::{Contents, EMPTY};
+use super::folder_configs::ROOT_CONFIG;
 use super::geometry::SMALL;
 use super::rename::LINES;
 use super::sessions::{Session, assert_session};
@@ -168,7 +169,12 @@ static UNPACKED: Session = Session {
             "volume 0 bytes=7680 name=root\n",
             0,
         ),
-        // There is a file in it now.
+        (
+            "build unpack_made/ubi.ini --out unpack_again.img --seq 305419896",
+            "blocks 5\n",
+            0,
+        ),
+        // There are files in it now.
         (
             "unpack unpack_none.img --out unpack_made",
             "cannot write unpack_made\n",
@@ -233,6 +239,11 @@ static UNPACKED: Session = Session {
     ],
     after: &[
         ("unpack_made/0-root", Contents::RootText),
+        (
+            "unpack_made/ubi.ini",
+            Contents::Runs(&[(ROOT_CONFIG, 1)]),
+        ),
+        ("unpack_again.img", Contents::Root),
         ("unpack_none/0-boot", EMPTY),
         (
             "unpack_paths/0-..\\x2f..\\x2fx",
