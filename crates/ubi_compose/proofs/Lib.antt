@@ -1,6 +1,7 @@
 pub mod Accepted
 pub mod Apart
 pub mod Blocks
+pub mod BuiltAgain
 pub mod BuiltContents
 pub mod BuiltImage
 pub mod BuiltMeaning
