@@ -10,6 +10,7 @@ pub mod Edited
 pub mod Ended
 pub mod Extracted
 pub mod FolderConfigs
+pub mod FolderReads
 pub mod Found
 pub mod GatheredParts
 pub mod GeometryVectors

@@ -5,7 +5,8 @@ use super::sessions::{Session, assert_session};
 use std::test::Fail;
 
 /// The config of the volume `root` in an image of 32 small eraseblocks.
-pub const ROOT_CONFIG: &[u8] = b"# ubi_tool build ubi.ini --out IMAGE --peb 512 --page 64 --vid 64 --data 128 --pebs 32 --seq 305419896\n\
+pub const ROOT_CONFIG: &[u8] =
+    b"# ubi_tool build ubi.ini --out IMAGE --peb 512 --page 64 --vid 64 --data 128 --pebs 32 --seq 305419896\n\
     \n\
     [volume-0]\n\
     mode=ubi\n\
@@ -129,7 +130,17 @@ static CIRCLE: Session = Session {
     after: &[
         ("circle/ubi.ini", CONFIG),
         ("circle/0-a\"b", Contents::Runs(&[(b"abc", 1)])),
+        (
+            "circle/1-it's\\x20me",
+            Contents::Runs(&[(b"\xFF", 1792), (b"ab", 1), (b"\xFF", 1790)]),
+        ),
+        ("circle/2-\"'", Contents::Runs(&[(b"\xFF", 1920)])),
+        ("circle/3-e\\x20", EMPTY),
+        ("circle/4-odd", Contents::Runs(&[(b"\xFF", 1920)])),
+        ("circle/7-empty", EMPTY),
         ("circle_growing/ubi.ini", GROWING_CONFIG),
+        ("circle_growing/0-a", Contents::Runs(&[(b"\xFF", 1920)])),
+        ("circle_growing/1-b", Contents::Runs(&[(b"\xFF", 1920)])),
         (
             "circle_none/ubi.ini",
             Contents::Runs(&[(
