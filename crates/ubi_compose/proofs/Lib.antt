@@ -32,6 +32,7 @@ pub mod Lists
 pub mod NextPiece
 pub mod Normal
 pub mod NormalVectors
+pub mod PartsAgain
 pub mod Places
 pub mod PiecesOfParts
 pub mod Puts

@@ -132,7 +132,7 @@ static CIRCLE: Session = Session {
         ("circle/0-a\"b", Contents::Runs(&[(b"abc", 1)])),
         (
             "circle/1-it's\\x20me",
-            Contents::Runs(&[(b"\xFF", 1792), (b"ab", 1), (b"\xFF", 1790)]),
+            Contents::Runs(&[(b"ab", 1), (b"\xFF", 3582)]),
         ),
         ("circle/2-\"'", Contents::Runs(&[(b"\xFF", 1920)])),
         ("circle/3-e\\x20", EMPTY),
