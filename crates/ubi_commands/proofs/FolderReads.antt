@@ -1,5 +1,5 @@
 -- The config of an accepted image's volumes is read as their sections.
-use Rattle.ubi_commands.proofs.Prelude.{◌≡◌, ℕ, ◌+◌, ◌<◌, ◌≤◌, ◌^◌, ◌==◌, List, [], ◌∷◌, false, ap, arith, get_or, length, refl, subst, suc, sym, zero, ◌∙◌, None, Option, Some, entries, find, rec_fault, Sizes, VolumeRecord, AreRecords, Records, ReadError, Listed, Result, all_described}
+use Rattle.ubi_commands.proofs.Prelude.{◌≡◌, ℕ, ◌<◌, ◌^◌, ◌==◌, List, [], ◌∷◌, false, ap, arith, get_or, length, refl, subst, suc, sym, ◌∙◌, None, Option, Some, entries, Sizes, AreRecords, Records, ReadError, Listed, Result, all_described}
 use Rattle.std.proofs.Common.{Bool, Less, cond, map, true}
 use Rattle.std.specs.FinMap.{nat_cmp-IsAntisymmetric}
 use Rattle.std.proofs.lemmas.Bool.Decides.{nat_tests}
@@ -12,18 +12,15 @@ use Rattle.std.specs.Ordering.{nat_cmp}
 use Rattle.std.specs.Prelude.{All}
 use Rattle.ubi_config.proofs.WrittenReads.{written_reads}
 use Rattle.ubi_config.specs.WrittenLaws.{AreVolumes}
-use Rattle.ubi_config.specs.declared.volume.ConfigVolume.{ConfigVolume}
 use Rattle.ubi_media.specs.Fields.{same_bytes}
 use Rattle.ubi_media.specs.Geometry.{IsGeometry, slots}
 use Rattle.ubi_scan.proofs.Finite.{rising_at}
-use Rattle.ubi_scan.specs.Image.{Image}
 use Rattle.ubi_table.proofs.Entries.{few_kept}
 use Rattle.ubi_table.proofs.NamedTable.{entries_kept}
 use Rattle.ubi_table.specs.Coded.{AreKept}
 use Rattle.ubi_table.specs.Records.{first_named, twice}
 use Rattle.ubi_volume.proofs.MeantRecords.{records_are}
-use Rattle.ubi_volume.specs.Accepts.{Accepts}
-use Rattle.ubi_volume.specs.Meant.{Meant, records_of}
+use Rattle.ubi_volume.specs.Meant.{records_of}
 use Rattle.ubi_volume.specs.Reading.{volume_len}
 use Rattle.ubi_commands.proofs.FolderConfigs.{sound_described}
 use Rattle.ubi_commands.specs.FolderLaws.{FolderConfigReads}
@@ -64,11 +61,10 @@ module _ (len : ℕ → Result ℕ ReadError) where
       → IsDistinct (λ a b. a == b) (map (λ v. v.id) (all_described len es))
   unfolding IsDistinct
   ids_differ [] h = tt
-  ids_differ (e ∷ es) h =
-      (
-        ids_from e.0 es (λ i d inside. h 0 (suc i) d (omega arith) (omega (arith, inside))),
-        ids_differ es (rises e es h),
-      )
+  ids_differ (e ∷ es) h = (
+    ids_from e.0 es (λ i d inside. h 0 (suc i) d (omega arith) (omega (arith, inside))),
+    ids_differ es (rises e es h),
+  )
 
   -- no name comes again
   named_none : (name : List ℕ) (es : List Listed) → first_named name es ≡ None

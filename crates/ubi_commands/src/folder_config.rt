@@ -69,11 +69,7 @@ fn config_volumes(
 }
 
 /// The text of the config.
-fn config_text(
-    alloc: Global,
-    geometry: &Geometry,
-    places: &Places,
-) -> Result<Vec<u8>, AllocError>
+fn config_text(alloc: Global, geometry: &Geometry, places: &Places) -> Result<Vec<u8>, AllocError>
     requires { places.now.records.sizes ≡ geometry.now }
     ensures { IfOk result (λ text. text.items ≡ config_in geometry.now places.now) }
 {

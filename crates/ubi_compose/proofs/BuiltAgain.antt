@@ -1,5 +1,5 @@
 -- What is built of the records and the contents of an accepted image is its meaning.
-use Rattle.ubi_compose.proofs.Prelude.{◌≡◌, ◌≢◌, ◌==◌, ℕ, zero, suc, ◌+◌, ◌-◌, ◌*◌, ◌<◌, ◌≤◌, inl, inr, Bool, true, false, cond, List, [], ◌∷◌, ◌++◌, append-nil, length, refl, ap, sym, ◌∙◌, subst, arith, zero-add, Contains, Err, None, Ok, Option, Result, Some, IfSome, find, option_map, unwrap_or, FinMap, nat_cmp, nat_cmp_total, nat_cmp-IsAntisymmetric, range_with_len, option_map_or, same_Some, mul-le, blank, filled, is_blank, Sizes, usable, VolumeRecord, VolKind, within_or_past, usable_some, filled-is, length-blank, lebs_without_blank, without_blank, pieces, share, leb_text, lebs_text, read_volume, volume_read, Content, Fits, IsMeaning, IsVolume, Meant, Volume, blank_text, pieces_few, pieces_suffice, get_without_blank, is_kept, HaveMeaning, Parts, Reaches, built, content_of, item_of, lebs_of, text_of, part_at, Part, not, volume_is}
+use Rattle.ubi_compose.proofs.Prelude.{◌≡◌, ◌≢◌, ℕ, zero, suc, ◌+◌, ◌-◌, ◌*◌, ◌<◌, ◌≤◌, inl, inr, Bool, true, false, cond, List, [], ◌++◌, append-nil, length, refl, ap, sym, ◌∙◌, arith, zero-add, Contains, Err, None, Ok, Option, Some, IfSome, option_map, unwrap_or, FinMap, nat_cmp, nat_cmp_total, nat_cmp-IsAntisymmetric, range_with_len, option_map_or, mul-le, blank, filled, is_blank, Sizes, usable, VolumeRecord, VolKind, within_or_past, usable_some, filled-is, length-blank, lebs_without_blank, without_blank, pieces, share, leb_text, lebs_text, volume_read, Content, Fits, IsMeaning, IsVolume, Meant, Volume, blank_text, pieces_few, pieces_suffice, get_without_blank, is_kept, Parts, built, content_of, lebs_of, text_of, part_at, Part, not, volume_is}
 use Rattle.std.proofs.Common.{get_or}
 use Rattle.std.proofs.lemmas.List.FromFn.{get_or-range_with_len, length-range_with_len}
 use Rattle.std.specs.FinMap as finite

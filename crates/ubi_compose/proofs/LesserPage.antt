@@ -1,5 +1,5 @@
 -- The normal image is the same bytes with each page.
-use Rattle.ubi_compose.proofs.Prelude.{◌≡◌, ℕ, List, refl, sym, ◌∙◌, ◌∣◌, with_page, rec_bytes, Image, Meant, image_with_page, meaning_with_page, lesser_page, IsNormalised, normal_bytes, NormalWithLesserPage}
+use Rattle.ubi_compose.proofs.Prelude.{◌≡◌, ℕ, List, refl, sym, ◌∙◌, ◌∣◌, rec_bytes, Image, Meant, image_with_page, meaning_with_page, lesser_page, IsNormalised, normal_bytes, NormalWithLesserPage}
 
 same_normal : (m : Meant) (page : ℕ) → normal_bytes (meaning_with_page m page) ≡ normal_bytes m
 unfolding normal_bytes rec_bytes

@@ -1,5 +1,5 @@
 -- The volumes of an accepted image can be built again.
-use Rattle.ubi_compose.proofs.Prelude.{◌≡◌, ◌==◌, ℕ, zero, suc, ◌+◌, ◌*◌, ◌<◌, ◌≤◌, inl, inr, Bool, true, false, List, [], ◌∷◌, get_or, length, map, refl, ap, sym, ◌∙◌, subst, arith, Contains, Err, None, Ok, Option, Result, Some, IfSome, fold, slice_get, sum_by, sum_by-cons, get_or_from_slice_get, slice_get-map, slice_get-get_or, slice_get_within, option_map, option_map_or, FinMap, nat_cmp, nat_cmp_total, IsGeometry, Sizes, slots, rec_fault, usable, usable_some, VolumeRecord, IsItem, NoCause, Content, Fits, IsMeaning, IsVolume, Meant, records_of, Volume, pieces_few, read_volume, volume_read, records_are, records_fit, volume_is, meant_by, record_of, same_Some, HaveMeaning, Parts, Reaches, built, content_of, item_of, items_of, most_blocks, pieces_of, text_of, Part, lebs_text}
+use Rattle.ubi_compose.proofs.Prelude.{◌≡◌, ℕ, suc, ◌+◌, ◌*◌, ◌<◌, ◌≤◌, false, List, [], ◌∷◌, get_or, length, map, refl, ap, sym, ◌∙◌, subst, arith, Contains, Err, None, Ok, Option, Some, IfSome, fold, slice_get, sum_by, sum_by-cons, get_or_from_slice_get, slice_get-map, slice_get-get_or, slice_get_within, option_map, option_map_or, nat_cmp_total, IsGeometry, Sizes, slots, rec_fault, usable, usable_some, VolumeRecord, IsItem, NoCause, Content, Fits, IsMeaning, IsVolume, Meant, records_of, Volume, pieces_few, volume_read, records_are, records_fit, volume_is, meant_by, record_of, same_Some, HaveMeaning, Parts, Reaches, item_of, items_of, most_blocks, pieces_of, text_of, Part, lebs_text}
 use Rattle.std.proofs.lemmas.Cmp.{ranked}
 use Rattle.std.proofs.Common.{Less}
 use Rattle.std.specs.FinMap as finite
@@ -9,7 +9,6 @@ use Rattle.ubi_table.specs.Records.{AreRecords, Records}
 use Rattle.ubi_volume.proofs.Gathered.{listed_at as entry_at_place}
 use Rattle.ubi_volume.proofs.LebsText.{length-lebs}
 use Rattle.ubi_volume.specs.declared.content.Content.TheVariants as content
-use Rattle.ubi_volume.specs.declared.errors.MeaningCause.{MeaningCause}
 use Rattle.ubi_volume.specs.declared.errors.MeaningCause.TheVariants as cause
 use Rattle.ubi_volume.specs.declared.errors.ReadError.TheVariants as error
 use Rattle.ubi_compose.proofs.BuiltAgain.{again}
@@ -101,8 +100,7 @@ module _ (m : Meant) (is : IsMeaning m) (g : IsGeometry m.sizes) (ps : Parts) (b
       let fits = read_fits m.sizes p.id v (volume_is m is p.id v of.1) (text_of bytes p) read in
       let here : (p.entry.marker ≡ false) × (length (text_of bytes p) ≤ p.entry.reserved * usable m.sizes p.entry) =
       subst (λ (r : VolumeRecord). (r.marker ≡ false) × (length (text_of bytes p) ≤ r.reserved * usable m.sizes r)) of.2 fits in
-      let long = long_as p i at bytes are.reaches in
-      (
+      let long = long_as p i at bytes are.reaches in (
         here.0,
         subst (λ (s : Sizes). p.len ≤ p.entry.reserved * usable s p.entry) (sym are.sizes) (omega (arith, here.1, long)),
       )
@@ -232,8 +230,7 @@ module _ (m : Meant) (is : IsMeaning m) (g : IsGeometry m.sizes) (ps : Parts) (b
 
 pub parts_build_again : PartsBuildAgain
 parts_build_again image m ps bytes g accepts are =
-    let is = accepts.accepted.means.meaning in
-    (
+    let is = accepts.accepted.means.meaning in (
       has_meaning m is g ps bytes are,
       enough_room m is g ps bytes are,
       again m is ps bytes (are_volumes m is g ps bytes are),

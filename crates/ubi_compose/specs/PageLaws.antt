@@ -1,10 +1,10 @@
 -- Laws of the page, which no header names, as they stand on functions that do nothing.
-use Rattle.std.specs.Prelude.{◌≡◌, ℕ, ◌∷◌, Contains, List}
+use Rattle.std.specs.Prelude.{◌≡◌, ℕ, List}
 use Rattle.std.specs.Int.{◌∣◌}
 use Rattle.ubi_media.specs.Geometry.{IsGeometry}
 use Rattle.ubi_media.specs.OtherPage.{with_page}
 use Rattle.ubi_media.specs.declared.refusal.Refusal.{Refusal}
-use Rattle.ubi_scan.specs.Image.{Image, image_of}
+use Rattle.ubi_scan.specs.Image.{Image}
 use Rattle.ubi_volume.specs.Accepts.{Accepts, Refuses}
 use Rattle.ubi_volume.specs.Meant.{Meant}
 use Rattle.ubi_volume.specs.PageLaws.{image_with_page, meaning_with_page}

@@ -1,18 +1,11 @@
 -- What the lines of all volumes say are their sections.
-use Rattle.ubi_config.proofs.Prelude.{◌≡◌, ◌+◌, ℕ, Bool, true, false, List, [], ◌∷◌, ◌++◌, arith, length, refl, sym, ap, ◌∙◌, ◌==◌, before_first, Option, Some, None, Ok, nat_le, nat_tests, option_or, position_or_len, draft_of, finished, is_heading, Group, groups, line_number, section_fault, section_of, sections_in, ConfigCause, Line, Section, Sizes, VolKind}
-use Rattle.std.proofs.Common.{◌||◌, ◌&&◌, if◌then◌else◌}
-use Rattle.std.proofs.Math.Seq.{take-append_seam}
-use Rattle.ubi_media.specs.Kind.{is_static}
+use Rattle.ubi_config.proofs.Prelude.{◌≡◌, ◌+◌, ℕ, Bool, true, false, List, [], ◌∷◌, ◌++◌, arith, length, refl, sym, ap, ◌∙◌, ◌==◌, before_first, Option, Some, None, Ok, nat_le, nat_tests, option_or, position_or_len, draft_of, finished, is_heading, Group, groups, line_number, section_fault, section_of, sections_in, ConfigCause, Line, Section, Sizes, VolKind, ◌||◌, ◌&&◌, if◌then◌else◌, take-append_seam, is_static, bytes_reserved, has_words, left_out, path_of, volume_lines, section_at, section_for, sections_at, ConfigVolume, LeftOut}
 use Rattle.ubi_media.specs.declared.vid.VolKind.TheVariants as kind
 use Rattle.ubi_config.proofs.AllRead.{said_at, said_from}
 use Rattle.ubi_config.proofs.CanSay.{IsSaid, image_is, is_said}
 use Rattle.ubi_config.proofs.Groups.{fault-append, none_made, one_made, sections-append}
 use Rattle.ubi_config.proofs.SectionRead.{body, section_said}
-use Rattle.ubi_config.specs.Written.{bytes_reserved, has_words, left_out, path_of, volume_lines}
-use Rattle.ubi_config.specs.WrittenLaws.{section_at, section_for, sections_at}
 use Rattle.ubi_config.specs.declared.line.Line.TheVariants as line
-use Rattle.ubi_config.specs.declared.volume.ConfigVolume.{ConfigVolume}
-use Rattle.ubi_config.specs.declared.volume.LeftOut.{LeftOut}
 
 -- the flags that the line of flags gives
 abbrev flags_given : Bool → Bool → ℕ

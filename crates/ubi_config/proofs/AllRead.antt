@@ -1,8 +1,5 @@
 -- The lines of all volumes are read, one after the other.
-use Rattle.ubi_config.proofs.Prelude.{◌≡◌, ◌<◌, ◌≤◌, ◌+◌, ◌^◌, ℕ, Bool, true, false, not, List, [], ◌∷◌, ◌++◌, append-nil, arith, length, refl, subst, ◌∙◌, ◌==◌, codes, cond, count_by, AllByRecursion, IsDistinct, Option, Some, None, flat_map, list_any, list_any-append, map, rec_fault, same_bytes, gives_id, gives_name, is_autoresize, is_heading, is_titled, line_number, Line, Sizes}
-use Rattle.std.proofs.Common.{◌&&◌, if◌then◌else◌}
-use Rattle.std.specs.Prelude.{decimal}
-use Rattle.ubi_media.specs.Geometry.{IsGeometry}
+use Rattle.ubi_config.proofs.Prelude.{◌≡◌, ◌<◌, ◌≤◌, ◌+◌, ◌^◌, ℕ, Bool, true, false, not, List, [], ◌∷◌, ◌++◌, append-nil, arith, length, refl, subst, ◌∙◌, ◌==◌, codes, cond, count_by, AllByRecursion, IsDistinct, Option, Some, None, flat_map, list_any, list_any-append, map, rec_fault, same_bytes, gives_id, gives_name, is_autoresize, is_heading, is_titled, line_number, Line, Sizes, ◌&&◌, if◌then◌else◌, decimal, IsGeometry, bytes_reserved, is_growing, left_out, left_out_words, lines_by, path_of, title, volume_lines, ConfigVolume, LeftOut}
 use Rattle.ubi_config.proofs.AreRead.{AreRead, read-append, read_under, skip_line}
 use Rattle.ubi_config.proofs.CanSay.{IsSaid, is_said}
 use Rattle.ubi_config.proofs.Counts.{count_both, count_cons, some_counted}
@@ -10,10 +7,7 @@ use Rattle.ubi_config.proofs.SectionRead.{IsClear, flag_said, section_read, sect
 use Rattle.ubi_config.proofs.TitlesApart.{titles_apart}
 use Rattle.ubi_config.proofs.WrittenLines.{empty_read}
 use Rattle.ubi_config.proofs.WrittenRemarks.{left_out_read}
-use Rattle.ubi_config.specs.Written.{bytes_reserved, is_growing, left_out, left_out_words, lines_by, path_of, title, volume_lines}
 use Rattle.ubi_config.specs.declared.line.Line.TheVariants as line
-use Rattle.ubi_config.specs.declared.volume.ConfigVolume.{ConfigVolume}
-use Rattle.ubi_config.specs.declared.volume.LeftOut.{LeftOut}
 
 -- what the lines of a volume say, which begin at a place
 abbrev pub said_at : Sizes → ℕ → ConfigVolume → Option LeftOut → List Line

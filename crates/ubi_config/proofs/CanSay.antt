@@ -1,21 +1,7 @@
 -- What is known of a volume that a config describes.
-use Rattle.ubi_config.proofs.Prelude.{◌≡◌, ◌<◌, ◌≤◌, ◌-◌, ◌^◌, ℕ, Bool, true, false, not, List, [], arith, length, refl, subst, Option, Some, None, nat_tests, option_or, then_some, Sizes, breaks, fields_from, rec_fault}
-use Rattle.std.proofs.Common.{◌&&◌, ◌*◌, lit<}
-use Rattle.std.proofs.Math.Seq.{take-append_seam}
-use Rattle.std.proofs.lemmas.Nat.{mul-le}
-use Rattle.std.specs.Prelude.{is_some, replicate, unwrap_or}
-use Rattle.ubi_media.proofs.Records.{kept, name_kept, signs_kept, usable_some}
-use Rattle.ubi_media.specs.Geometry.{IsGeometry}
-use Rattle.ubi_media.specs.Name.{is_name}
-use Rattle.ubi_media.specs.Record.{usable}
-use Rattle.ubi_media.specs.declared.record.VolumeRecord.{VolumeRecord}
+use Rattle.ubi_config.proofs.Prelude.{◌≡◌, ◌<◌, ◌≤◌, ◌-◌, ◌^◌, ℕ, Bool, true, false, not, List, [], arith, length, refl, subst, Option, Some, None, nat_tests, option_or, then_some, Sizes, breaks, fields_from, rec_fault, ◌&&◌, ◌*◌, lit<, take-append_seam, mul-le, is_some, replicate, unwrap_or, kept, name_kept, signs_kept, usable_some, IsGeometry, is_name, usable, VolumeRecord, most_bytes, bytes_reserved, has_words, is_growing, is_writable, left_out, path_of, ConfigVolume, LeftOut, most_number}
 use Rattle.ubi_config.proofs.QuotedValues.{CanWrite, can_write}
-use Rattle.ubi_config.specs.Words.{most_bytes}
-use Rattle.ubi_config.specs.Written.{bytes_reserved, has_words, is_growing, is_writable, left_out, path_of}
-use Rattle.ubi_config.specs.declared.volume.ConfigVolume.{ConfigVolume}
-use Rattle.ubi_config.specs.declared.volume.LeftOut.{LeftOut}
 use Rattle.ubi_config.specs.declared.volume.LeftOut.TheVariants as why
-use Rattle.ubi_words.specs.Words.{most_number}
 
 none_of : (b : Bool) (c : LeftOut) (rest : Option LeftOut) → option_or (then_some b c) rest ≡ None
     → (b ≡ false) × (rest ≡ None)

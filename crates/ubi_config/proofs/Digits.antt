@@ -1,18 +1,6 @@
 -- Numbers in decimal digits: a line may end with them, and they are read as the number.
-use Rattle.ubi_config.proofs.Prelude.{◌≡◌, ◌<◌, ◌≤◌, ◌-◌, ◌^◌, ℕ, Bool, true, false, not, arith, get_or, length, refl, rules, ◌==◌, Some, list_any, nat_le, nat_tests, position_or_len, is_blank, is_number, number_within, plain_value, size_of, trimmed, unit_of, value_of}
-use Rattle.std.proofs.Common.{◌&&◌, ◌||◌, ◌*◌, suc, zero}
-use Rattle.std.proofs.lemmas.Fmt.{decimal_digit, decimal_nonempty, digits_decimal, digits_value-decimal, first_decimal, length-decimal-le}
-use Rattle.std.proofs.lemmas.List.{drop_all, take_all}
-use Rattle.std.proofs.lemmas.List.Folds.{list_any_none}
-use Rattle.std.proofs.lemmas.List.Sums.{AllPass-from_list_all, position_or_len_is}
-use Rattle.std.proofs.lemmas.Str.Parse.{IsNumeralModel, numerals_by_fold}
-use Rattle.std.specs.Prelude.{decimal, fold}
-use Rattle.std.specs.Char.{is_ascii_digit}
-use Rattle.std.specs.List.{before_first, list_all}
+use Rattle.ubi_config.proofs.Prelude.{◌≡◌, ◌<◌, ◌≤◌, ◌-◌, ◌^◌, ℕ, Bool, true, false, not, arith, get_or, length, refl, rules, ◌==◌, Some, list_any, nat_le, nat_tests, position_or_len, is_blank, is_number, number_within, plain_value, size_of, trimmed, unit_of, value_of, ◌&&◌, ◌||◌, ◌*◌, suc, zero, decimal_digit, decimal_nonempty, digits_decimal, digits_value-decimal, first_decimal, length-decimal-le, drop_all, take_all, list_any_none, AllPass-from_list_all, position_or_len_is, IsNumeralModel, numerals_by_fold, decimal, fold, is_ascii_digit, before_first, list_all, is_mark, is_quote, is_no_digit, most_bytes, decimal_value, with_digit}
 use Rattle.ubi_config.proofs.Framed.{IsFramed, trimmed_stays}
-use Rattle.ubi_config.specs.Values.{is_mark, is_quote}
-use Rattle.ubi_config.specs.Words.{is_no_digit, most_bytes}
-use Rattle.ubi_words.specs.Words.{decimal_value, with_digit}
 
 -- the words of this crate for digits and their number
 pub own : IsNumeralModel (λ ds. list_all is_ascii_digit ds ≡ true) decimal_value
@@ -73,9 +61,6 @@ module _ (n : ℕ) (small : n < 2 ^ 64) where
   pub digits_short : length (decimal n) ≤ 20
   digits_short = length-decimal-le 20 n (omega arith) (omega (arith, small)) small
 
-  pub digits_some : 0 < length (decimal n)
-  digits_some = some
-
   -- digits are a line
   pub digits_framed : IsFramed (decimal n)
   digits_framed = record {
@@ -91,9 +76,6 @@ module _ (n : ℕ) (small : n < 2 ^ 64) where
   -- no byte of them is another
   pub digits_without : (c : ℕ) → c < 48 → list_any (λ b. b == c) (decimal n) ≡ false
   digits_without c below = none_is (λ b. b == c) (λ b h. other b c h below)
-
-  pub digits_beyond : (c : ℕ) → 57 < c → list_any (λ b. b == c) (decimal n) ≡ false
-  digits_beyond c more = none_is (λ b. b == c) (λ b h. above b c h more)
 
   value_is : decimal_value (decimal n) ≡ n
   value_is = digits_value-decimal own n small

@@ -1,12 +1,6 @@
 -- Lines that no reader trims: what they say.
-use Rattle.ubi_config.proofs.Prelude.{◌≡◌, ◌<◌, ◌≤◌, ◌+◌, ◌-◌, ℕ, Bool, true, false, not, List, ◌++◌, arith, get_or, length, refl, ap, ◌∙◌, ◌==◌, Some, None, Ok, list_any, nat_le, nat_tests, position_or_len, suffix_len, is_blank, is_one_line, line_of, line_said, trimmed, Line, ◌>>=◌}
-use Rattle.std.proofs.lemmas.List.{get_or-append_right, get_or_append_left, take_all}
-use Rattle.std.proofs.lemmas.List.Folds.{list_any-append}
-use Rattle.std.proofs.Common.{length-append}
-use Rattle.std.proofs.lemmas.List.Sums.{position_or_len_is, suffix_len_is}
+use Rattle.ubi_config.proofs.Prelude.{◌≡◌, ◌<◌, ◌≤◌, ◌+◌, ◌-◌, ℕ, Bool, true, false, not, List, ◌++◌, arith, get_or, length, refl, ap, ◌∙◌, ◌==◌, Some, None, Ok, list_any, nat_le, nat_tests, position_or_len, suffix_len, is_blank, is_one_line, line_of, line_said, trimmed, Line, ◌>>=◌, get_or-append_right, get_or_append_left, take_all, list_any-append, length-append, position_or_len_is, suffix_len_is, is_mark, is_remark, is_visible}
 use Rattle.std.specs.Prelude.{◌||◌, if◌then◌else◌}
-use Rattle.ubi_config.specs.Values.{is_mark, is_remark}
-use Rattle.ubi_config.specs.Words.{is_visible}
 
 -- bytes that are a line: some and not too many, no blank at either end, no backslash at the end, and no byte that cuts it
 pub record IsFramed (text : List ℕ) : Type 0 where

@@ -1,20 +1,8 @@
 -- The section of a volume gives back its record.
-use Rattle.ubi_config.proofs.Prelude.{◌≡◌, ◌<◌, ◌≤◌, ◌^◌, ℕ, Bool, true, false, not, arith, refl, sym, ap, ◌∙◌, ◌==◌, Some, None, Ok, nat_tests, rec_fault, record_in, reserving, Sizes, VolKind}
-use Rattle.std.proofs.Common.{◌&&◌, ◌*◌, ◌/◌, ◌%◌, nat_lt}
-use Rattle.std.proofs.Math.Nat.{mul-div_cancel, mul-mod_left}
-use Rattle.std.specs.Int.{div_ceil}
-use Rattle.ubi_media.proofs.Records.{usable_some}
-use Rattle.ubi_media.specs.Geometry.{slots}
-use Rattle.ubi_media.specs.Kind.{is_static}
-use Rattle.ubi_media.specs.Record.{usable}
-use Rattle.ubi_media.specs.declared.record.VolumeRecord.{VolumeRecord}
+use Rattle.ubi_config.proofs.Prelude.{◌≡◌, ◌<◌, ◌≤◌, ◌^◌, ℕ, Bool, true, false, not, arith, refl, sym, ap, ◌∙◌, ◌==◌, Some, None, Ok, nat_tests, rec_fault, record_in, reserving, Sizes, VolKind, ◌&&◌, ◌*◌, ◌/◌, ◌%◌, nat_lt, mul-div_cancel, mul-mod_left, div_ceil, usable_some, slots, is_static, usable, VolumeRecord, blocks_of, fitting, bytes_reserved, SectionGivesRecord, section_for, ConfigVolume}
 use Rattle.ubi_media.specs.declared.vid.VolKind.TheVariants as kind
 use Rattle.ubi_config.proofs.CanSay.{reserved_few, reserved_some}
 use Rattle.ubi_config.proofs.Reserved.{fault_reserving}
-use Rattle.ubi_config.specs.Records.{blocks_of, fitting}
-use Rattle.ubi_config.specs.Written.{bytes_reserved}
-use Rattle.ubi_config.specs.WrittenLaws.{SectionGivesRecord, section_for}
-use Rattle.ubi_config.specs.declared.volume.ConfigVolume.{ConfigVolume}
 
 -- as many bytes as some eraseblocks have together need just these
 whole : (n part : ℕ) → 1 ≤ part → div_ceil (n * part) part ≡ n

@@ -1,12 +1,7 @@
 -- Values in quotes: a line may end with them, and they are read as what stands between the quotes.
-use Rattle.ubi_config.proofs.Prelude.{◌≡◌, ◌≤◌, ℕ, Bool, true, false, not, List, [], ◌∷◌, ◌++◌, arith, length, refl, ◌∙◌, ◌==◌, Some, list_any, list_any-append, nat_le, nat_tests, position, position_or_len, is_blank, quoted_value, trimmed, value_of}
-use Rattle.std.proofs.Common.{if◌then◌else◌, length-append, nat_lt}
-use Rattle.std.proofs.Math.Seq.{drop-append-add, take-append_seam}
-use Rattle.std.proofs.lemmas.Bool.{and_parts}
+use Rattle.ubi_config.proofs.Prelude.{◌≡◌, ◌≤◌, ℕ, Bool, true, false, not, List, [], ◌∷◌, ◌++◌, arith, length, refl, ◌∙◌, ◌==◌, Some, list_any, list_any-append, nat_le, nat_tests, position, position_or_len, is_blank, quoted_value, trimmed, value_of, if◌then◌else◌, length-append, nat_lt, drop-append-add, take-append_seam, and_parts, is_quotable, is_quote, is_no_value, is_writable, longest_value, quote_of, quoted}
 use Rattle.ubi_config.proofs.Distinct.{or_false}
 use Rattle.ubi_config.proofs.Framed.{IsFramed, framed_behind, trimmed_stays}
-use Rattle.ubi_config.specs.Values.{is_quotable, is_quote}
-use Rattle.ubi_config.specs.Written.{is_no_value, is_writable, longest_value, quote_of, quoted}
 
 not_true : (b : Bool) → not b ≡ true → b ≡ false
 not_true false h = refl

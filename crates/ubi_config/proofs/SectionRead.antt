@@ -1,18 +1,10 @@
 -- The lines of a volume that is described are read, where no line above them says the same of another.
-use Rattle.ubi_config.proofs.Prelude.{◌≡◌, ◌<◌, ◌+◌, ◌^◌, ℕ, Bool, true, false, List, [], ◌∷◌, ◌++◌, append-nil, arith, refl, ap, ◌∙◌, ◌==◌, codes, Some, None, Ok, line_of, count_by, list_any, list_any-append, nat_le, nat_tests, rec_fault, Sizes, gives_id, gives_name, heading_cause, is_autoresize, is_heading, is_titled, later_cause, sets, setting_cause, shared_cause, line_number, Key, Line}
-use Rattle.std.proofs.Common.{◌||◌, if◌then◌else◌}
-use Rattle.std.proofs.lemmas.List.{reverse-append}
-use Rattle.std.specs.Prelude.{decimal, reverse}
-use Rattle.std.specs.List.{take_while}
-use Rattle.ubi_media.specs.Geometry.{IsGeometry}
+use Rattle.ubi_config.proofs.Prelude.{◌≡◌, ◌<◌, ◌+◌, ◌^◌, ℕ, Bool, true, false, List, [], ◌∷◌, ◌++◌, append-nil, arith, refl, ap, ◌∙◌, ◌==◌, codes, Some, None, Ok, line_of, count_by, list_any, list_any-append, nat_le, nat_tests, rec_fault, Sizes, gives_id, gives_name, heading_cause, is_autoresize, is_heading, is_titled, later_cause, sets, setting_cause, shared_cause, line_number, Key, Line, ◌||◌, if◌then◌else◌, reverse-append, decimal, reverse, take_while, IsGeometry, is_setting, bytes_reserved, flag_lines, is_growing, kind_word, path_of, quoted, section_lines, title, ConfigVolume}
 use Rattle.ubi_config.proofs.AreRead.{AreRead, skip_line, take_line}
 use Rattle.ubi_config.proofs.CanSay.{IsSaid, alignment_fits, bytes_fit, bytes_some, named}
 use Rattle.ubi_config.proofs.WrittenLines.{alignment_read, autoresize_read, empty_read, heading_read, id_read, image_read, kind_read, mode_read, name_read, size_read, skip_check_read}
-use Rattle.ubi_config.specs.Above.{is_setting}
-use Rattle.ubi_config.specs.Written.{bytes_reserved, flag_lines, is_growing, kind_word, path_of, quoted, section_lines, title}
 use Rattle.ubi_config.specs.declared.key.Key.TheVariants as key
 use Rattle.ubi_config.specs.declared.line.Line.TheVariants as line
-use Rattle.ubi_config.specs.declared.volume.ConfigVolume.{ConfigVolume}
 
 -- what the line of flags says, where there are some
 abbrev pub flag_said : ℕ → List Line

@@ -1,6 +1,5 @@
 -- The text of lines, one after the other.
-use Rattle.ubi_config.proofs.Prelude.{◌≡◌, ℕ, List, [], ◌∷◌, ◌++◌, ap, append_assoc, refl, sym, ◌∙◌}
-use Rattle.ubi_config.specs.Written.{ended, text_of}
+use Rattle.ubi_config.proofs.Prelude.{◌≡◌, ℕ, List, [], ◌∷◌, ◌++◌, ap, append_assoc, refl, sym, ◌∙◌, ended, text_of}
 
 -- the text of lines, and of more that follow
 pub text_of-append : (ls ms : List (List ℕ)) → text_of (ls ++ ms) ≡ text_of ls ++ text_of ms

@@ -1,14 +1,6 @@
 -- Volumes of other numbers have sections of other names.
-use Rattle.ubi_config.proofs.Prelude.{◌≡◌, ◌<◌, ◌^◌, ℕ, Bool, true, false, List, [], ◌∷◌, ◌++◌, arith, refl, sym, ap, ◌∙◌, ◌==◌, codes, drop, nat_tests}
-use Rattle.std.proofs.Common.{◌&&◌}
-use Rattle.std.proofs.lemmas.Fmt.{decimal_injective, digits_decimal}
-use Rattle.std.specs.Char.{is_ascii_digit, to_ascii_lowercase}
-use Rattle.std.specs.Cmp.Lexicographic.{same_text}
-use Rattle.std.specs.List.{list_all}
-use Rattle.std.specs.Prelude.{decimal}
-use Rattle.std.specs.Str.{str_eq_ignore_ascii_case, str_to_ascii_lowercase}
+use Rattle.ubi_config.proofs.Prelude.{◌≡◌, ◌<◌, ◌^◌, ℕ, Bool, true, false, List, [], ◌∷◌, ◌++◌, arith, refl, sym, ap, ◌∙◌, ◌==◌, codes, drop, nat_tests, ◌&&◌, decimal_injective, digits_decimal, is_ascii_digit, to_ascii_lowercase, same_text, list_all, decimal, str_eq_ignore_ascii_case, str_to_ascii_lowercase, title}
 use Rattle.ubi_config.proofs.Digits.{own}
-use Rattle.ubi_config.specs.Written.{title}
 
 digit_small : (b : ℕ) → is_ascii_digit b ≡ true → to_ascii_lowercase b ≡ b
 digit_small b h = grind (arith, nat_tests)

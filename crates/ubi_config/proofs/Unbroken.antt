@@ -1,10 +1,5 @@
 -- A text of lines that hold no line's end is cut into them.
-use Rattle.ubi_config.proofs.Prelude.{◌≡◌, ◌<◌, ◌^◌, ℕ, Bool, true, false, List, [], ◌∷◌, ◌++◌, append_assoc, arith, refl, ap, ◌∙◌, ◌==◌, codes, AllByRecursion, Option, Some, None, lines, list_any, rec_fault, Sizes, VolKind}
-use Rattle.std.proofs.Common.{if◌then◌else◌}
-use Rattle.std.proofs.lemmas.List.Splits.{slice_split-cons_no, slice_split-cons_yes}
-use Rattle.std.specs.List.{onto_first}
-use Rattle.std.specs.Prelude.{decimal}
-use Rattle.ubi_media.specs.Geometry.{IsGeometry}
+use Rattle.ubi_config.proofs.Prelude.{◌≡◌, ◌<◌, ◌^◌, ℕ, Bool, true, false, List, [], ◌∷◌, ◌++◌, append_assoc, arith, refl, ap, ◌∙◌, ◌==◌, codes, AllByRecursion, Option, Some, None, lines, list_any, rec_fault, Sizes, VolKind, if◌then◌else◌, slice_split-cons_no, slice_split-cons_yes, onto_first, decimal, IsGeometry, bytes_reserved, kind_word, lines_by, path_of, quoted, section_lines, text_of, title, ConfigVolume, LeftOut}
 use Rattle.ubi_media.specs.declared.vid.VolKind.TheVariants as kind
 use Rattle.ubi_config.proofs.CanSay.{IsSaid, alignment_fits, bytes_fit}
 use Rattle.ubi_config.proofs.Digits.{digits_without}
@@ -12,9 +7,6 @@ use Rattle.ubi_config.proofs.Distinct.{or_false}
 use Rattle.ubi_config.proofs.Framed.{both_none}
 use Rattle.ubi_config.proofs.QuotedValues.{quoted_unbroken}
 use Rattle.ubi_config.proofs.WrittenRemarks.{left_out_unbroken}
-use Rattle.ubi_config.specs.Written.{bytes_reserved, kind_word, lines_by, path_of, quoted, section_lines, text_of, title}
-use Rattle.ubi_config.specs.declared.volume.ConfigVolume.{ConfigVolume}
-use Rattle.ubi_config.specs.declared.volume.LeftOut.{LeftOut}
 
 -- a line holds no line's end
 abbrev pub IsUnbroken : List ℕ → Type 0

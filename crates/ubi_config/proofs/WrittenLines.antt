@@ -1,22 +1,11 @@
 -- What each line of a config that is written says.
-use Rattle.ubi_config.proofs.Prelude.{◌≡◌, ◌<◌, ◌≤◌, ◌+◌, ◌-◌, ◌^◌, ℕ, true, false, List, [], ◌∷◌, ◌++◌, arith, get_or, length, drop, take, refl, ap, ◌∙◌, ◌==◌, codes, Some, None, Ok, list_any, nat_le, nat_tests, position, is_blank, flag_of, heading_line, is_one_line, key_of, kind_of, line_of, line_said, plain_value, setting, setting_at, setting_line, title_of, trimmed, value_of, Key, Line, VolKind}
-use Rattle.std.proofs.Common.{length-append, slice_range}
-use Rattle.std.proofs.lemmas.List.{get_or-append_right}
-use Rattle.std.proofs.Math.Seq.{drop-append-add, take-append_seam}
-use Rattle.std.specs.Prelude.{decimal}
-use Rattle.ubi_media.specs.Name.{is_name}
+use Rattle.ubi_config.proofs.Prelude.{◌≡◌, ◌<◌, ◌≤◌, ◌+◌, ◌-◌, ◌^◌, ℕ, true, false, List, [], ◌∷◌, ◌++◌, arith, get_or, length, drop, take, refl, ap, ◌∙◌, ◌==◌, codes, Some, None, Ok, list_any, nat_le, nat_tests, position, is_blank, flag_of, heading_line, is_one_line, key_of, kind_of, line_of, line_said, plain_value, setting, setting_at, setting_line, title_of, trimmed, value_of, Key, Line, VolKind, length-append, slice_range, get_or-append_right, drop-append-add, take-append_seam, decimal, is_name, is_ascii_digit, is_special, is_title, is_mark, is_remark, most_bytes, kind_word, quote_of, quoted, title, most_number}
 use Rattle.ubi_media.specs.declared.vid.VolKind.TheVariants as kind
 use Rattle.ubi_config.proofs.Digits.{above, none_is, digits_framed, digits_number, digits_short, digits_size, digits_trimmed, digits_value}
 use Rattle.ubi_config.proofs.Framed.{IsFramed, both_none, framed_behind, framed_trimmed, line_read}
 use Rattle.ubi_config.proofs.QuotedValues.{CanWrite, position_behind, quoted_framed, quoted_read, quoted_trimmed}
-use Rattle.std.specs.Char.{is_ascii_digit}
-use Rattle.ubi_config.specs.Lines.{is_special, is_title}
-use Rattle.ubi_config.specs.Values.{is_mark, is_remark}
-use Rattle.ubi_config.specs.Words.{most_bytes}
-use Rattle.ubi_config.specs.Written.{kind_word, quote_of, quoted, title}
 use Rattle.ubi_config.specs.declared.key.Key.TheVariants as key
 use Rattle.ubi_config.specs.declared.line.Line.TheVariants as line
-use Rattle.ubi_words.specs.Words.{most_number}
 
 no_remark : (text : List ℕ) → 0 < length text → is_mark (get_or text 0 0) ≡ false → is_remark text ≡ false
 no_remark text some plain =

@@ -1,7 +1,5 @@
 -- The config that is written is read as the sections of its volumes.
-use Rattle.ubi_config.proofs.Prelude.{◌≡◌, ◌<◌, ◌≤◌, ◌+◌, ◌^◌, ℕ, Bool, true, List, [], ◌∷◌, ◌++◌, append-nil, arith, length, refl, subst, sym, ap, ◌∙◌, suc, AllByRecursion, None, count_by, flat_map, first_fault, groups, line_fault, line_number, lines, nat_le, nat_tests, rec_fault, sayings, section_fault, sections_in, sections_of, Line, Sizes}
-use Rattle.std.specs.Prelude.{All}
-use Rattle.ubi_media.specs.Geometry.{IsGeometry}
+use Rattle.ubi_config.proofs.Prelude.{◌≡◌, ◌<◌, ◌≤◌, ◌+◌, ◌^◌, ℕ, Bool, true, List, [], ◌∷◌, ◌++◌, append-nil, arith, length, refl, subst, sym, ap, ◌∙◌, suc, AllByRecursion, None, count_by, flat_map, first_fault, groups, line_fault, line_number, lines, nat_le, nat_tests, rec_fault, sayings, section_fault, sections_in, sections_of, Line, Sizes, All, IsGeometry, config_lines, config_text, head, is_growing, left_out, may_grow, volume_lines, AreVolumes, WrittenReads, sections_at, ConfigVolume}
 use Rattle.ubi_config.proofs.AllMade.{all_made}
 use Rattle.ubi_config.proofs.AllRead.{IsAhead, IsSound, all_read, said_from}
 use Rattle.ubi_config.proofs.AreRead.{AreRead, read-append, skip_line, text_read}
@@ -11,9 +9,6 @@ use Rattle.ubi_config.proofs.SectionRead.{IsClear}
 use Rattle.ubi_config.proofs.Unbroken.{IsUnbroken, lines_of_text, unbroken-append, volume_unbroken}
 use Rattle.ubi_config.proofs.WrittenLines.{empty_read}
 use Rattle.ubi_config.proofs.WrittenRemarks.{head_read, head_unbroken}
-use Rattle.ubi_config.specs.Written.{config_lines, config_text, head, is_growing, left_out, may_grow, volume_lines}
-use Rattle.ubi_config.specs.WrittenLaws.{AreVolumes, WrittenReads, sections_at}
-use Rattle.ubi_config.specs.declared.volume.ConfigVolume.{ConfigVolume}
 
 -- what holds of each element by its place, holds by recursion
 each : {X : Type 0} (P : X → Type 0) (xs : List X) → All P xs → AllByRecursion P xs

@@ -1,13 +1,7 @@
 -- The remarks of a config that is written are skipped.
-use Rattle.ubi_config.proofs.Prelude.{◌≡◌, ◌<◌, ◌≤◌, ◌^◌, ℕ, Bool, false, true, List, ◌++◌, append_assoc, arith, length, refl, sym, ap, ◌∙◌, ◌==◌, codes, None, Ok, list_any, line_of}
-use Rattle.std.proofs.Common.{length-append}
-use Rattle.std.specs.Char.{is_ascii_digit}
-use Rattle.std.specs.Prelude.{decimal}
-use Rattle.ubi_media.specs.Geometry.{IsGeometry, Sizes}
+use Rattle.ubi_config.proofs.Prelude.{◌≡◌, ◌<◌, ◌≤◌, ◌^◌, ℕ, Bool, false, true, List, ◌++◌, append_assoc, arith, length, refl, sym, ap, ◌∙◌, ◌==◌, codes, None, Ok, list_any, line_of, length-append, is_ascii_digit, decimal, IsGeometry, Sizes, head, left_out_words, LeftOut}
 use Rattle.ubi_config.proofs.Digits.{digits_framed, digits_short, none_is, other}
 use Rattle.ubi_config.proofs.Framed.{IsFramed, both_none, framed_behind, remark_read}
-use Rattle.ubi_config.specs.Written.{head, left_out_words}
-use Rattle.ubi_config.specs.declared.volume.LeftOut.{LeftOut}
 use Rattle.ubi_config.specs.declared.volume.LeftOut.TheVariants as why
 
 words_framed : (c : LeftOut) → IsFramed (left_out_words c)

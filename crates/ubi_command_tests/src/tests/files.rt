@@ -180,20 +180,20 @@ const LONG_CONFIG: Contents = Contents::Runs(&[
 ]);
 
 const EMPTY_CONFIG: Contents = Contents::Runs(&[(
-    b"# ubi_tool build ubi.ini --out IMAGE --peb 512 --page 64 --vid 64 --data 128 --pebs 32 --seq 305419896\n\
+    b"# ubi_tool build ubi.ini --out IMAGE --peb 512 --page 64 --vid 64 --data 128 --pebs 32 --seq 0\n\
         \n[volume-0]\nmode=ubi\nvol_id=0\nvol_type=static\nvol_name=\"boot\"\nvol_size=1152\n\
         vol_alignment=1\nimage=\"0-boot\"\n",
     1,
 )]);
 
 const DAMAGED_CONFIG: Contents = Contents::Runs(&[(
-    b"# ubi_tool build ubi.ini --out IMAGE --peb 512 --page 64 --vid 64 --data 128 --pebs 32 --seq 305419896\n\
+    b"# ubi_tool build ubi.ini --out IMAGE --peb 512 --page 64 --vid 64 --data 128 --pebs 32 --seq 0\n\
         \n# volume 0 is left out: it is damaged\n",
     1,
 )]);
 
 const MARKED_CONFIG: Contents = Contents::Runs(&[(
-    b"# ubi_tool build ubi.ini --out IMAGE --peb 512 --page 64 --vid 64 --data 128 --pebs 32 --seq 305419896\n\
+    b"# ubi_tool build ubi.ini --out IMAGE --peb 512 --page 64 --vid 64 --data 128 --pebs 32 --seq 0\n\
         \n# volume 0 is left out: its update didn't end\n",
     1,
 )]);

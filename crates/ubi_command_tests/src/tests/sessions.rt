@@ -65,7 +65,11 @@ where
         assert_line(rt, alloc, line.as_str(), (text, *status))?;
     }
     assert_held(rt, alloc, session.after)?;
-    assert!(*rt; !fs::exists(rt, session.absent)?, "{} is there", session.absent);
+    assert!(*rt;
+        !fs::exists(rt, session.absent)?,
+        "{} is there",
+        session.absent
+    );
     remove_files(rt, session.before);
     remove_files(rt, session.after);
     Ok(())

@@ -1,5 +1,5 @@
 -- The pieces that are built of parts; and what stands for the bytes where volumes are judged.
-use Rattle.std.specs.Prelude.{◌≡◌, ℕ, ◌+◌, ◌*◌, ◌^◌, ◌<◌, ◌≤◌, ◌&&◌, Bool, List, [], if◌then◌else◌, find, flat_map, is_none, nat_lt, not, option_map, None, Option, ◌==◌}
+use Rattle.std.specs.Prelude.{ℕ, ◌+◌, ◌*◌, ◌^◌, ◌<◌, ◌&&◌, Bool, List, [], if◌then◌else◌, find, flat_map, is_none, nat_lt, not, option_map, Option, ◌==◌}
 use Rattle.std.specs.FinMap as finite
 use Rattle.std.specs.List.{range_with_len}
 use Rattle.std.specs.Option.{option_map_or}

@@ -1,5 +1,5 @@
 -- The pieces of a normal image, each by where its bytes lie in a source, and what a writer receives of them.
-use Rattle.std.specs.Prelude.{◌≡◌, ℕ, ◌+◌, ◌*◌, ◌/◌, ◌^◌, ◌<◌, ◌≤◌, Bool, false, List, [], ◌++◌, if◌then◌else◌, length, take, drop, flat_map, slice_range, MatchOption, None, Option, Some, Result, Ok, Err}
+use Rattle.std.specs.Prelude.{◌≡◌, ℕ, ◌+◌, ◌*◌, ◌/◌, ◌^◌, ◌<◌, ◌≤◌, Bool, false, List, [], ◌++◌, if◌then◌else◌, take, drop, flat_map, slice_range, MatchOption, None, Option, Some, Result, Ok, Err}
 use Rattle.std.specs.List.{range_with_len}
 use Rattle.std.specs.Option.{option_map_or}
 use Rattle.ubi_media.specs.Check.{check}

@@ -1,5 +1,4 @@
 use Rattle.ubi_compose.proofs.Prelude.{◌≡◌, ◌∙◌, ap, length, sym, subst, arith, List, ℕ, Device, Reaches, HasPut, CanBuild, composed, built}
-use Rattle.ubi_compose.specs.declared.errors.PutError.TheVariants as put
 use Rattle.ubi_compose.proofs.BuiltImage.{IsReadFor, all_built}
 use Rattle.ubi_compose.proofs.BuiltMeaning.{table_room}
 use Rattle.ubi_compose.proofs.BuiltRoom.{built_accepted}

@@ -1,5 +1,4 @@
 use Rattle.ubi_compose.proofs.Prelude.{◌∙◌, ap, arith, table_bytes, places_narrowed}
-use Rattle.ubi_compose.specs.declared.errors.PutError.TheVariants as put
 use Rattle.ubi_compose.proofs.StoredImage as stored
 use Rattle.ubi_compose.proofs.StoredImage.{IsTold}
 use Rattle.ubi_compose.proofs.streaming.normalise_to.Given as given

@@ -1,7 +1,5 @@
-use Rattle.ubi_config.proofs.Prelude.{◌++◌, ◌∙◌, codes, List, ℕ}
-use Rattle.std.specs.Prelude.{decimal}
+use Rattle.ubi_config.proofs.Prelude.{◌++◌, ◌∙◌, codes, List, ℕ, decimal, head}
 use Rattle.ubi_config.proofs.Texts.{then_more}
-use Rattle.ubi_config.specs.Written.{head}
 use Rattle.ubi_config.proofs.written.put_head.Goals as goal
 
 pub returns : goal.returns

@@ -1,7 +1,5 @@
-use Rattle.ubi_config.proofs.Prelude.{◌++◌, ◌∙◌, ap, append-nil, codes, List, sym, ℕ}
-use Rattle.std.specs.Prelude.{decimal}
+use Rattle.ubi_config.proofs.Prelude.{◌++◌, ◌∙◌, ap, append-nil, codes, List, sym, ℕ, decimal, left_out_words}
 use Rattle.ubi_config.proofs.Texts.{then_more}
-use Rattle.ubi_config.specs.Written.{left_out_words}
 use Rattle.ubi_config.proofs.written.put_remark.Goals as goal
 
 pub returns : goal.returns

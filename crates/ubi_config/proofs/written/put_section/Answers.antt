@@ -1,7 +1,5 @@
-use Rattle.ubi_config.proofs.Prelude.{◌++◌, [], ◌∷◌, codes, List, ℕ}
-use Rattle.std.specs.Prelude.{decimal}
+use Rattle.ubi_config.proofs.Prelude.{◌++◌, [], ◌∷◌, codes, List, ℕ, decimal, bytes_reserved, flag_lines, kind_word, path_of, quoted, title}
 use Rattle.ubi_config.proofs.Texts.{then_lines}
-use Rattle.ubi_config.specs.Written.{bytes_reserved, flag_lines, kind_word, path_of, quoted, title}
 use Rattle.ubi_config.proofs.written.put_section.Goals as goal
 
 pub returns : goal.returns

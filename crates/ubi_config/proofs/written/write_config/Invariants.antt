@@ -1,5 +1,4 @@
-use Rattle.ubi_config.proofs.Prelude.{◌≡◌, ◌∷◌, flat_map, take}
-use Rattle.ubi_config.specs.Written.{head, may_grow, text_of, volume_lines}
+use Rattle.ubi_config.proofs.Prelude.{◌≡◌, ◌∷◌, flat_map, take, head, may_grow, text_of, volume_lines}
 use Rattle.ubi_config.proofs.written.write_config.Given as goal
 
 abbrev pub invariant-loop-volume : goal.invariant-loop-volume
