@@ -25,6 +25,7 @@ pub mod Texts
 pub mod TitlesApart
 pub mod Unbroken
 pub mod WrittenReads
+pub mod WrittenVectors
 pub mod WrittenLines
 pub mod WrittenRemarks
 pub mod Prelude
