@@ -1,19 +1,13 @@
 -- What is built of the records and the contents of an accepted image is its meaning.
-use Rattle.ubi_compose.proofs.Prelude.{◌≡◌, ◌≢◌, ℕ, zero, suc, ◌+◌, ◌-◌, ◌*◌, ◌<◌, ◌≤◌, inl, inr, Bool, true, false, cond, List, [], ◌++◌, append-nil, length, refl, ap, sym, ◌∙◌, arith, zero-add, Contains, Err, None, Ok, Option, Some, IfSome, option_map, unwrap_or, FinMap, nat_cmp, nat_cmp_total, nat_cmp-IsAntisymmetric, range_with_len, option_map_or, mul-le, blank, filled, is_blank, Sizes, usable, VolumeRecord, VolKind, within_or_past, usable_some, filled-is, length-blank, lebs_without_blank, without_blank, pieces, share, leb_text, lebs_text, volume_read, Content, Fits, IsMeaning, IsVolume, Meant, Volume, blank_text, pieces_few, pieces_suffice, get_without_blank, is_kept, Parts, built, content_of, lebs_of, text_of, part_at, Part, not, volume_is}
-use Rattle.std.proofs.Common.{get_or}
-use Rattle.std.proofs.lemmas.List.FromFn.{get_or-range_with_len, length-range_with_len}
+use Rattle.ubi_compose.proofs.Prelude.{◌≡◌, ◌≢◌, ℕ, zero, suc, ◌+◌, ◌-◌, ◌*◌, ◌<◌, ◌≤◌, inl, inr, Bool, true, false, cond, List, [], ◌++◌, append-nil, length, refl, ap, sym, ◌∙◌, arith, zero-add, Contains, Err, None, Ok, Option, Some, IfSome, option_map, unwrap_or, FinMap, nat_cmp, nat_cmp_total, nat_cmp-IsAntisymmetric, range_with_len, option_map_or, mul-le, blank, filled, is_blank, Sizes, usable, VolumeRecord, VolKind, within_or_past, usable_some, filled-is, length-blank, lebs_without_blank, without_blank, pieces, share, leb_text, lebs_text, volume_read, Content, Fits, IsMeaning, IsVolume, Meant, Volume, blank_text, pieces_few, pieces_suffice, get_without_blank, is_kept, Parts, built, content_of, lebs_of, text_of, part_at, Part, not, volume_is, get_or, get_or-range_with_len, length-range_with_len, length-lebs, share_of_pieces, KeepsNoBlank, AreVolumesOf, BuiltAgain}
 use Rattle.std.specs.FinMap as finite
 use Rattle.ubi_media.specs.declared.vid.VolKind.TheVariants as kind
-use Rattle.ubi_volume.proofs.LebsText.{length-lebs}
-use Rattle.ubi_volume.proofs.Shares.{share_of_pieces}
-use Rattle.ubi_volume.specs.Meant.{KeepsNoBlank}
 use Rattle.ubi_volume.specs.declared.content.Content.TheVariants as content
 use Rattle.ubi_volume.specs.declared.errors.ReadError.TheVariants as error
 use Rattle.ubi_compose.proofs.BuiltContents.{leb_of, leb_there, leb_within}
 use Rattle.ubi_compose.proofs.BuiltReads.{some_part}
 use Rattle.ubi_compose.proofs.BuiltVolumes.{built_at, volume_in}
 use Rattle.ubi_compose.proofs.ListedParts.{found_part, listed_at}
-use Rattle.ubi_compose.specs.BuiltAgain.{AreVolumesOf, BuiltAgain}
 
 module _ (size reserved : ℕ) (some : 1 ≤ size) (lebs : FinMap nat_cmp (List ℕ))
     (sized : (lnum : ℕ) → IfSome (finite.get lebs lnum) (λ x. (lnum < reserved) × (length x ≡ size)))
@@ -118,10 +112,6 @@ module _ (size reserved : ℕ) (some : 1 ≤ size) (lebs : FinMap nat_cmp (List 
 
 -- what a volume holds that what it reads was written to
 module _ (s : Sizes) (id : ℕ) (v : Volume) (is : IsVolume s id v) (text : List ℕ) where
-  dynamic_sized : (lebs : FinMap nat_cmp (List ℕ)) → Fits s v.entry (content.Dynamic lebs) → (lnum : ℕ)
-      → IfSome (finite.get lebs lnum) (λ x. (lnum < v.entry.reserved) × (length x ≡ usable s v.entry))
-  dynamic_sized lebs fits = fits.2
-
   content_by : (c : Content) → Fits s v.entry c → KeepsNoBlank s v.entry c → volume_read s v.entry c ≡ Ok text
       → without_blank (content_of v.entry.kind (usable s v.entry) text) ≡ c
   content_by content.Updating fits keeps read = absurd (cc)

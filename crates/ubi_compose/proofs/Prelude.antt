@@ -16,7 +16,7 @@ pub use Rattle.std.proofs.lemmas.List.{drop-append-le, drop-drop, drop-take, dro
 pub use Rattle.std.proofs.lemmas.List.Concat.{concat_is, length-flat_map}
 pub use Rattle.std.proofs.lemmas.List.Elements.{All-from_recursion, All-get_or, filter-append, filter_map-append}
 pub use Rattle.std.proofs.lemmas.List.Folds.{find-append, flat_map-map, list_all-append, list_any-append}
-pub use Rattle.std.proofs.lemmas.List.FromFn.{length-map-range_with_len}
+pub use Rattle.std.proofs.lemmas.List.FromFn.{get_or-range_with_len, length-map-range_with_len, length-range_with_len}
 pub use Rattle.std.proofs.lemmas.List.Sums.{sum_by-cons, sum_by-take-le, sum_by_more}
 pub use Rattle.std.proofs.lemmas.Map.Lookups.{exact_unsigned}
 pub use Rattle.std.proofs.lemmas.Nat.{div-mul-add, mul-le}
@@ -64,7 +64,6 @@ pub use Rattle.ubi_media.specs.Fields.{blank, is_blank, same_bytes}
 unfoldable pub use Rattle.ubi_media.specs.Fields.{filled}
 pub use Rattle.ubi_media.specs.Geometry.{IsGeometry, Sizes, leb_size, slots}
 unfoldable pub use Rattle.ubi_media.specs.Limits.{first_broken}
-pub use Rattle.ubi_media.specs.OtherPage.{with_page}
 pub use Rattle.ubi_media.specs.Record.{data_pad, rec_fault, usable}
 unfoldable pub use Rattle.ubi_media.specs.Record.{breaks, empty_record, fields_from, first_fault, rec_bytes}
 pub use Rattle.ubi_media.specs.Vid.{plain, vid_bytes, vid_fault}
@@ -80,7 +79,7 @@ pub use Rattle.ubi_scan.proofs.Clean.{none_from_clean}
 pub use Rattle.ubi_scan.proofs.Decided.{Wins-unique}
 pub use Rattle.ubi_scan.proofs.Entries.{first_entry, sorted_entries}
 pub use Rattle.ubi_scan.proofs.Filled.{behind, drop_blank, filled-by, filled-is, filled-none, length-blank, length-filled}
-pub use Rattle.ubi_scan.proofs.Finite.{find_at}
+pub use Rattle.ubi_scan.proofs.Finite.{find_at, rising_at}
 pub use Rattle.ubi_scan.proofs.InMemory.{still}
 pub use Rattle.ubi_scan.proofs.Keys.{apart_test, at_itself, same_test, told}
 pub use Rattle.ubi_scan.proofs.Narrowed.{source_narrowed}
@@ -100,7 +99,7 @@ pub use Rattle.ubi_scan.specs.inner.Held.{anything, sound}
 pub use Rattle.ubi_table.proofs.Held.{table_written}
 pub use Rattle.ubi_table.proofs.NoRecords.{no_entries}
 pub use Rattle.ubi_table.proofs.ReadBack.{length-table_bytes, pieces_more}
-pub use Rattle.ubi_table.specs.Records.{Records, table_bytes}
+pub use Rattle.ubi_table.specs.Records.{AreRecords, Records, table_bytes}
 pub use Rattle.ubi_table.specs.Table.{IsTable}
 pub use Rattle.ubi_volume.proofs.Alike.{member_valid}
 pub use Rattle.ubi_volume.proofs.Arranged.{fits_without_blank, keeps_no_blank}
@@ -111,6 +110,7 @@ pub use Rattle.ubi_volume.proofs.Equal.{record_Decides}
 pub use Rattle.ubi_volume.proofs.Extracted.{extent_at, front_of, leb_is, piece_is, same_Ok, same_range, static_is, static_whole}
 pub use Rattle.ubi_volume.proofs.FirstCause.{one_first}
 pub use Rattle.ubi_volume.proofs.Gathered.{listed_item, record_at}
+pub use Rattle.ubi_volume.proofs.LebsText.{length-lebs}
 pub use Rattle.ubi_volume.proofs.LesserPage.{greater_breaks, lesser_page}
 pub use Rattle.ubi_volume.proofs.Listed.{listed_volume}
 pub use Rattle.ubi_volume.proofs.MeantRecords.{meant_by, records_are, records_fit, volume_is}
@@ -119,7 +119,7 @@ pub use Rattle.ubi_volume.proofs.One.{Accepts-unique, kept_alike, outside}
 pub use Rattle.ubi_volume.proofs.Pieces.{length-share, piece_begins, pieces_few, pieces_suffice, share_full, share_more, share_most, share_none, share_some, shares_all}
 pub use Rattle.ubi_volume.proofs.Received.{Splits, error_behind, error_front, wrote_as, wrote_cut, wrote_more, wrote_text}
 pub use Rattle.ubi_volume.proofs.Recorded.{record_of}
-pub use Rattle.ubi_volume.proofs.Shares.{header_at, share_at}
+pub use Rattle.ubi_volume.proofs.Shares.{header_at, share_at, share_of_pieces}
 pub use Rattle.ubi_volume.proofs.Static.{damaged_piece, piece_checked, piece_unchecked, read_more, read_none, static_reads}
 pub use Rattle.ubi_volume.proofs.VolumeAt.{HasCase, case_is, content_has, content_is, found_or_none, found_wins, in_table, reads_of, table}
 pub use Rattle.ubi_volume.proofs.WithoutBlank.{get_without_blank, is_kept}
@@ -142,6 +142,7 @@ pub use Rattle.ubi_volume.specs.inner.Gathered.{AreRead, ContentIs, PieceIs, Use
 unfoldable pub use Rattle.ubi_words.specs.Words.{is_number, number_within}
 pub use Rattle.ubi_compose.specs.Building.{CanBuild, those}
 pub use Rattle.ubi_compose.specs.Built.{HaveMeaning, Parts, Reaches, built, content_of, item_of, items_of, lebs_of, most_blocks, pieces_of, text_of}
+pub use Rattle.ubi_compose.specs.BuiltAgain.{AreItsParts, AreVolumesOf, BuiltAgain, PartsBuildAgain}
 pub use Rattle.ubi_compose.specs.BuiltLaws.{text_read}
 pub use Rattle.ubi_compose.specs.Compared.{IsSameFault, WhereBothHeld}
 pub use Rattle.ubi_compose.specs.Composed.{HasRoom, composed, spare}
