@@ -268,7 +268,8 @@ class Hostile(Runner):
             raise Failure("a link is followed")
         self.unpack(image, link + "/", "volume 0 bytes=7680 name=root\n", 0)
         self.unpack(image, empty, f"cannot write {empty}\n", 1)
-        os.remove(os.path.join(empty, "0-root"))
+        for name in ("0-root", "ubi.ini"):
+            os.remove(os.path.join(empty, name))
         self.unpack(image, empty, "volume 0 bytes=7680 name=root\n", 0)
 
     def names(self):

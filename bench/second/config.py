@@ -214,7 +214,7 @@ def read_config(text):
     for section in sections:
         if lack(section):
             return section.line, lack(section)
-    return sections or (1, "I6 NoSection")
+    return sections
 
 
 def record(section, geometry, image_len):

@@ -419,13 +419,13 @@ def unpack_into(tool, folder, name, is_taken, is_other=False):
     """Unpacks into a folder of that name, maybe as somebody else than root. Gives what it was, and what is wrong; None where the files
     come where they should, or nothing is written."""
     text = rules.Image(GEOMETRY, IMAGE).read_volume(0)
-    before, path = standing(folder), os.path.join(folder, name, "0-root")
+    before, path, config = standing(folder), *(os.path.join(folder, name, file) for file in ("0-root", "ubi.ini"))
     other = ["setpriv", "--reuid=65534", "--regid=65534", "--clear-groups"] if is_other and os.geteuid() == 0 else []
     words = [*other, tool, "unpack", "image", f"--out={name}", *GEOMETRY.words()]
     ran = subprocess.run(words, stdin=subprocess.DEVNULL, capture_output=True, cwd=folder, timeout=10)
     after, line = standing(folder), f"volume 0 bytes={len(text)} name=root\n" if is_taken else f"cannot write {name}\n"
     new = {where for where in after if where not in before}
-    right = {path, os.path.dirname(path)} - before.keys() if is_taken else set()
+    right = {path, config, os.path.dirname(path)} - before.keys() if is_taken else set()
     wrong = None
     if (ran.stdout, ran.returncode) != (line.encode(), 0 if is_taken else 1):
         wrong = f"its status is {ran.returncode}, and it prints {ran.stdout[:200]!r}"

@@ -655,18 +655,17 @@ class Runner:
         folder, lines, files = os.path.join(self.folder, "volumes"), [], {}
         for number, record in sorted(meaning.records.items()):
             name = rules.shown(record.name)
-            file = f"{number}-" + name.replace("/", "\\x2f")
             try:
                 text = meaning.read_volume(number)
             except Refused as refused:
                 lines.append(f"volume {number} {str(refused).split()[1].lower()} name={name}\n")
                 continue
             lines.append(f"volume {number} bytes={len(text)} name={name}\n")
-            files[file if len(file) <= 255 else str(number)] = text
+            files[rules.folder_file(number, record)] = text
         status = int(any("bytes=" not in line.split(" name=")[0] for line in lines))
+        files["ubi.ini"] = rules.folder_config(meaning)
         self.expect(["unpack", path, "--out", folder], "".join(lines), status)
-        if files:
-            self.expect(["unpack", path, "--out", folder], f"cannot write {folder}\n", 1)
+        self.expect(["unpack", path, "--out", folder], f"cannot write {folder}\n", 1)
         came = taken(folder)
         if came != files:
             raise Failure(f"unpack writes {sorted(came)} where {sorted(files)} with their contents is right")

@@ -448,6 +448,58 @@ def shown(name):
     return "".join(chr(b) if 0x21 <= b <= 0x7E and b != 0x5C else f"\\x{b:02x}" for b in name)
 
 
+def in_quotes(value):
+    """A value of a config, in the quote that it has not."""
+    quote = b"'" if b'"' in value else b'"'
+    return quote + value + quote
+
+
+def can_stand(value):
+    """Whether a value can stand in quotes."""
+    quote = in_quotes(value)[:1]
+    return 1 <= len(value) <= 1011 and not set(quote + b"\0\n") & set(value) and value[-1:] not in b" \t\n\x0B\x0C\r"
+
+
+def folder_file(number, record):
+    """The name of the file into which a volume is unpacked."""
+    name = f"{number}-" + shown(record.name).replace("/", "\\x2f")
+    return name if len(name) <= 255 else str(number)
+
+
+def left_out(meaning, number):
+    """Why no config describes a volume; None where one does."""
+    record = meaning.records[number]
+    growing = [r for r in meaning.records.values() if r.flags == 1]
+    if meaning.contents[number] == "updating":
+        return "its update didn't end"
+    if meaning.contents[number] == "damaged":
+        return "it is damaged"
+    if not can_stand(record.name):
+        return "its name can't stand in quotes"
+    if not can_stand(folder_file(number, record).encode()):
+        return "the path of its file can't stand in quotes"
+    if record.flags > 2 or record.flags == 2 and record.kind != 2:
+        return "no config can give its flags"
+    return "more than one volume has autoresize" if record.flags == 1 and len(growing) > 1 else None
+
+
+def folder_config(meaning):
+    """The config that is written beside the files of unpacked volumes."""
+    g = meaning.geometry
+    lines = [f"# ubi_tool build ubi.ini --out IMAGE --peb {g.peb} --page {g.page} --vid {g.vid} --data {g.data} --pebs {g.pebs} "
+        f"--seq {meaning.image_seq}".encode()]
+    for number, record in sorted(meaning.records.items()):
+        why, flag = left_out(meaning, number), {1: b"autoresize", 2: b"skip-check"}.get(record.flags)
+        if why:
+            lines += [b"", f"# volume {number} is left out: {why}".encode()]
+            continue
+        keys = {"mode": b"ubi", "vol_id": b"%d" % number, "vol_type": {1: b"dynamic", 2: b"static"}[record.kind],
+            "vol_name": in_quotes(record.name), "vol_size": b"%d" % (record.reserved * record.usable(g)), "vol_alignment": b"%d" % record.alignment,
+            "image": in_quotes(folder_file(number, record).encode()), "vol_flags": flag}
+        lines += [b"", b"[volume-%d]" % number, *(f"{key}=".encode() + value for key, value in keys.items() if value is not None)]
+    return b"".join(line + b"\n" for line in lines)
+
+
 def list_lines(meaning):
     g = meaning.geometry
     yield f"geometry peb={g.peb} page={g.page} vid={g.vid} data={g.data} leb={g.leb} slots={g.slots} pebs={g.pebs}\n"

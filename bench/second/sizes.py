@@ -414,7 +414,7 @@ def all_commands(looker, g, new):
         yield looker.look(g, ["extract", "image", name, "--out", "out"], f"bytes {len(texts[number])}\n", files=[("out", [texts[number]])])
     names = {number: rules.shown(r.name) for number, r in sorted(found.records.items())}
     yield looker.look(g, ["unpack", "image", "--out", "made"], "".join(f"volume {n} bytes={len(texts[n])} name={name}\n" for n, name in names.items()),
-        files=[(f"made/{n}-{name}", [texts[n]]) for n, name in names.items()])
+        files=[*((f"made/{n}-{name}", [texts[n]]) for n, name in names.items()), ("made/ubi.ini", [rules.folder_config(found)])])
     shutil.rmtree(looker.path("made"))
     looker.put("new", new)
     for words, plan in ((["change", "--id", 0, "--lnum", 0, "--from", "new"], rules.Change(found, 0, 0, new)),

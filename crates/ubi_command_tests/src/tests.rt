@@ -13,6 +13,7 @@ mod failing;
 mod fake;
 mod faults;
 mod files;
+mod folder_configs;
 mod found;
 mod geometry;
 mod large;

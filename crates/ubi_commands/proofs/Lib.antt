@@ -8,6 +8,8 @@ pub mod DetectedLines
 pub mod Edited
 pub mod Ended
 pub mod Extracted
+pub mod FolderConfigs
+pub mod FolderReads
 pub mod Found
 pub mod GatheredParts
 pub mod GeometryVectors

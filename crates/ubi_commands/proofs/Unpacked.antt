@@ -1,9 +1,9 @@
 -- What was unpacked of an image, and how.
-use Rattle.ubi_commands.proofs.Prelude.{◌≡◌, ℕ, ◌+◌, ◌<◌, ◌≤◌, ◌⊎◌, ◌&&◌, Bool, inl, inr, true, false, append-nil, zero, suc, List, [], ◌∷◌, ◌++◌, cond, take, get_or, length, ap, arith, refl, subst, sym, ◌∙◌, Err, Ok, Option, Result, codes, is_ok, slice_get, list_all, entries, get, option_map_or, take_all, take_more, flat_map-append, list_all_more, get_or_from_slice_get, slice_get_cases, slice_get_read, slice_get_within, VolumeRecord, Appends, result_map_both, Sizes, Image, image_of, Agreed, Records, extent_in, extent_len, extent_of, read_text, ArePlaces, AreWithin, Placed, read_volume, volume_len, ReadError, All, Wrote, Extent, PlaceContent, len_none, len_some, Gives, says, Files, IsKept, OthersStay, OutsideStay, fresh, file_line, AreUnpacked, AreUnpackedUntil, IsUnpacked, Listed, Unpacks, file_name, file_path, unpacked, unpacked_line, unpacked_lines, unpacked_status, AreFilesOf, Ends, IsFileOf, VolumeFile, Outcome}
+use Rattle.ubi_commands.proofs.Prelude.{◌≡◌, ℕ, ◌+◌, ◌<◌, ◌≤◌, ◌⊎◌, ◌&&◌, Bool, inl, inr, true, false, append-nil, append_assoc, zero, suc, List, [], ◌∷◌, ◌++◌, cond, take, get_or, length, ap, arith, refl, subst, sym, ◌∙◌, Err, Ok, Option, Result, codes, is_ok, slice_get, list_all, entries, get, option_map_or, take_all, take_more, flat_map-append, list_all_more, get_or_from_slice_get, slice_get_cases, slice_get_read, slice_get_within, VolumeRecord, Appends, result_map_both, Sizes, Image, image_of, Agreed, Records, extent_in, extent_len, extent_of, read_text, ArePlaces, AreWithin, Placed, read_volume, volume_len, ReadError, All, Wrote, Extent, PlaceContent, len_none, len_some, Gives, says, Files, IsKept, OthersStay, OutsideStay, fresh, file_line, AreUnpacked, AreUnpackedUntil, IsUnpacked, IsWritten, Listed, Unpacks, all_described, config_path, file_name, file_path, unpacked, unpacked_line, unpacked_lines, unpacked_status, AreFilesOf, Ends, IsFileOf, VolumeFile, Outcome, config_text, config_in, described, folder_config, listed, no_config}
 use Rattle.std.specs.Prelude.{None}
 use Rattle.std.specs.Prelude.{Some}
 use Rattle.ubi_volume.specs.declared.errors.ReadError.TheVariants as error
-use Rattle.ubi_commands.specs.Unpack.{listed, unwritten}
+use Rattle.ubi_commands.specs.Unpack.{unwritten}
 use Rattle.ubi_commands.proofs.Extracted.{has_text}
 
 -- how many bytes a volume reads, by its places
@@ -147,28 +147,68 @@ module _ (len : ℕ → Result ℕ ReadError) (es : List Listed) (i : ℕ) (e : 
       both false false = refl
 
 -- paths that aren't below a folder stay while the file of a volume in it is written
+pub outside_config : (dir file : List ℕ) (old between new : Files) → file ≡ config_path dir → OutsideStay old between dir
+    → OthersStay between new file → OutsideStay old new dir
+outside_config dir file old between new named before since path outside =
+    since path (λ same. outside (codes "ubi.ini") (same ∙ named ∙ sym (append_assoc dir (codes "/") (codes "ubi.ini")))) ∙ before path outside
+
 pub outside_more : (dir : List ℕ) (e : Listed) (file : List ℕ) (old between new : Files) → file ≡ file_path dir e → OutsideStay old between dir
     → OthersStay between new file → OutsideStay old new dir
 outside_more dir e file old between new named before since path outside =
     since path (λ same. outside (file_name e) (same ∙ named)) ∙ before path outside
 
+-- the volumes of a config of the same lengths are the same
+described_same : (f g : ℕ → Result ℕ ReadError) → ((id : ℕ) → f id ≡ g id) → (es : List Listed)
+    → all_described f es ≡ all_described g es
+described_same f g same [] = refl
+described_same f g same (e ∷ es) =
+    ap (λ (r : Result ℕ ReadError). described r e ∷ all_described f es) (same e.0)
+    ∙ ap (λ vs. described (g e.0) e ∷ vs) (described_same f g same es)
+
+-- the config of places is that of the meaning
+config_same : (image : Image) (p : Placed) (h : ArePlaces image p) (n : ℕ) → AreWithin n p → (s : Sizes) → p.records.sizes ≡ s
+    → config_in s p ≡ folder_config h.meaning
+config_same image p h n within s sizes =
+    let f : ℕ → Result ℕ ReadError = λ id. extent_len (extent_in p id) in
+    let g : ℕ → Result ℕ ReadError = volume_len h.meaning in
+    ap (λ (z : Sizes). config_text z p.image_seq (all_described f (entries p.records.of))) (sym sizes ∙ ap (λ (t : Records). t.sizes) h.records)
+    ∙ ap (λ (q : ℕ). config_text h.meaning.sizes q (all_described f (entries p.records.of))) h.image_seq
+    ∙ ap (config_text h.meaning.sizes h.meaning.image_seq)
+    (described_same f g (len_same image p h n within) (entries p.records.of) ∙ ap (all_described g) (sym (listed_is image p h)))
+
 -- what is answered of an image of which all volumes, or those before one, were unpacked into a folder
 module _ (image : Image) (p : Placed) (h : ArePlaces image p) (n : ℕ) (within : AreWithin n p) (dir path : List ℕ) (old new : Files)
     (o : Outcome) (same : path ≡ dir) where
-  pub all_done : Ends (read_volume h.meaning) path (entries p.records.of) old new None
+  are_unpacked : Ends (read_volume h.meaning) path (entries p.records.of) old new None
+      → AreUnpacked (read_volume h.meaning) dir (listed h.meaning) old new
+  are_unpacked are =
+      subst (λ (d : List ℕ). AreUnpacked (read_volume h.meaning) d (listed h.meaning) old new) same
+      (subst (λ (es : List Listed). AreUnpacked (read_volume h.meaning) path es old new) (sym (listed_is image p h)) are)
+
+  -- and then the config was written
+  pub all_done : (last : Files) (s : Sizes) (file : List ℕ) → p.records.sizes ≡ s → file ≡ config_path dir
+      → Ends (read_volume h.meaning) path (entries p.records.of) old new None
+      → IsWritten (config_in s p) file new last
       → Gives o (says (unpacked_lines (λ id. extent_len (extent_in p id)) (entries p.records.of)) (unpacked_status (λ id. extent_len (extent_in p id)) (entries p.records.of)))
-      → Unpacks image dir old new o
-  all_done are gives =
+      → Unpacks image dir old last o
+  all_done last s file sizes named are written gives =
       let listed_is : entries p.records.of ≡ listed h.meaning = sym (listed_is image p h) in
       let f : ℕ → Result ℕ ReadError = λ id. extent_len (extent_in p id) in
       let g : ℕ → Result ℕ ReadError = volume_len h.meaning in
       let lens : (id : ℕ) → f id ≡ g id = len_same image p h n within in
-      unpacked h.meaning h.accepted
-      (subst (λ (d : List ℕ). AreUnpacked (read_volume h.meaning) d (listed h.meaning) old new) same
-      (subst (λ (es : List Listed). AreUnpacked (read_volume h.meaning) path es old new) listed_is are))
+      unpacked h.meaning new h.accepted (are_unpacked are)
+      (subst (λ (at : List ℕ). IsWritten (folder_config h.meaning) at new last) named
+      (subst (λ (text : List ℕ). IsWritten text file new last) (config_same image p h n within s sizes) written))
       (subst (λ (es : List Listed). Gives o (says (unpacked_lines g es) (unpacked_status g es))) listed_is
       (subst (λ (x : ℕ). Gives o (says (unpacked_lines g (entries p.records.of)) x)) (status_same f g lens (entries p.records.of))
       (subst (λ (x : List ℕ). Gives o (says x (unpacked_status f (entries p.records.of)))) (lines_same f g lens (entries p.records.of)) gives)))
+
+  -- and then the config couldn't be written
+  pub config_failed : (last : Files) (file : List ℕ) → file ≡ config_path dir
+      → Ends (read_volume h.meaning) path (entries p.records.of) old new None → OthersStay new last file
+      → Gives o (says (file_line (codes "cannot write ") (config_path dir)) 1) → Unpacks image dir old last o
+  config_failed last file named are others gives =
+      no_config h.meaning new h.accepted (are_unpacked are) (subst (OthersStay new last) named others) gives
 
   pub stopped_at : (i : ℕ) (fs : List VolumeFile) (f : VolumeFile) → AreFilesOf dir (entries p.records.of) fs → get_or fs i f ≡ f
       → Ends (read_volume h.meaning) path (entries p.records.of) old new (Some i) → o ≡ f.unwritten → Unpacks image dir old new o

@@ -23,4 +23,5 @@ pub mod Rename
 pub mod Show
 pub mod Tool
 pub mod Unpack
+pub mod FolderLaws
 pub mod inner

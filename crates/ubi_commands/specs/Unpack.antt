@@ -1,5 +1,6 @@
 -- What is unpacked of an image: what each of its volumes reads, into a file of its own.
-use Rattle.std.specs.Prelude.{◌≡◌, ℕ, ◌==◌, if◌then◌else◌, List, [], ◌∷◌, ◌++◌, Option, Some, Result, Ok, Err, codes, decimal, is_ok, length, nat_le, slice_get, take}
+use Rattle.std.specs.Prelude.{◌≡◌, ℕ, ◌==◌, if◌then◌else◌, List, [], ◌∷◌, ◌++◌, Option, Some, Result, Ok, Err, codes, decimal, is_ok, length, map, nat_le, slice_get, take}
+use Rattle.std.specs.Bool.{then_some}
 use Rattle.std.specs.FinMap.{entries}
 use Rattle.std.specs.Io.KnownBytes.{Appends}
 use Rattle.std.specs.List.{flat_map, list_all}
@@ -17,6 +18,8 @@ use Rattle.ubi_volume.specs.declared.block.Amount.{Amount}
 use Rattle.ubi_volume.specs.declared.block.Amount.TheVariants as amount
 use Rattle.ubi_volume.specs.declared.errors.ReadError.{ReadError}
 use Rattle.ubi_volume.specs.declared.errors.ReadError.TheVariants as error
+use Rattle.ubi_config.specs.Written.{config_text}
+use Rattle.ubi_config.specs.declared.volume.ConfigVolume.{ConfigVolume}
 use Rattle.ubi_files.specs.Answer.{Gives, says}
 use Rattle.ubi_files.specs.Disk.{AllStay, Files, IsKept, OthersStay, fresh}
 use Rattle.ubi_files.specs.Lines.{file_line, refusal_line}
@@ -66,12 +69,30 @@ unpacked_status len es = if list_all (λ e. is_ok (len e.0)) es then 0 else 1
 abbrev pub listed : Meant → List Listed
 listed m = entries (records_of m).of
 
--- a volume was unpacked: the file at a path received what it reads, and each other path holds what it held; where it can't
--- be read, no file is written
+-- a text was written to a new file: it received the text, and each other path holds what it held
+abbrev pub IsWritten : List ℕ → List ℕ → Files → Files → Type 0
+IsWritten text path old new = (received : Option (List ℕ)) × Appends (fresh old) received text × IsKept old new path received
+
+-- a volume was unpacked: what it reads was written to a new file; where it can't be read, no file is written
 abbrev pub IsUnpacked : Result (List ℕ) ReadError → List ℕ → Files → Files → Type 0
-IsUnpacked (Ok text) path old new =
-    (received : Option (List ℕ)) × Appends (fresh old) received text × IsKept old new path received
+IsUnpacked (Ok text) path old new = IsWritten text path old new
 IsUnpacked (Err e) path old new = new ≡ old
+
+-- a volume as the config in the folder describes it: with its file, where it can be read
+abbrev pub described : Result ℕ ReadError → Listed → ConfigVolume
+described len e = record { id = e.0; entry = e.1; image = then_some (is_ok len) (file_name e) }
+
+-- all volumes
+abbrev pub all_described : (ℕ → Result ℕ ReadError) → List Listed → List ConfigVolume
+all_described len es = map (λ e. described (len e.0) e) es
+
+-- the config of a meaning's volumes
+abbrev pub folder_config : Meant → List ℕ
+folder_config m = config_text m.sizes m.image_seq (all_described (volume_len m) (listed m))
+
+-- its path in a folder
+abbrev pub config_path : List ℕ → List ℕ
+config_path dir = dir ++ codes "/ubi.ini"
 
 -- volumes were unpacked into a folder, one after the other
 abbrev pub AreUnpacked : (ℕ → Result (List ℕ) ReadError) → List ℕ → List Listed → Files → Files → Type 0
@@ -88,11 +109,12 @@ pub record AreUnpackedUntil (read : ℕ → Result (List ℕ) ReadError) (dir : 
   pub readable : (text : List ℕ) × (read e.0 ≡ Ok text)
   pub others : OthersStay between new (file_path dir e)
 
--- what the command answers of an image, and what becomes of the files: the lines of the volumes, which are unpacked; the
--- line of the image's refusal; or that of a folder that can't be made or isn't empty, or of a volume's file that can't be
--- written
+-- what the command answers of an image, and what becomes of the files: the lines of the volumes, which are unpacked, and then
+-- their config is written; the line of the image's refusal; or that of a folder that can't be made or isn't empty, of a
+-- volume's file that can't be written, or of the config
 pub data Unpacks (image : Image) (dir : List ℕ) (old new : Files) : Outcome → Type 0 where
-  unpacked : {o : Outcome} (m : Meant) → Accepts image m → AreUnpacked (read_volume m) dir (listed m) old new
+  unpacked : {o : Outcome} (m : Meant) (between : Files) → Accepts image m → AreUnpacked (read_volume m) dir (listed m) old between
+      → IsWritten (folder_config m) (config_path dir) between new
       → Gives o (says (unpacked_lines (volume_len m) (listed m)) (unpacked_status (volume_len m) (listed m)))
       → Unpacks image dir old new o
   refused : {o : Outcome} (c : Refusal) → Refuses image c → Gives o (says (refusal_line c) 1) → AllStay old new
@@ -102,6 +124,9 @@ pub data Unpacks (image : Image) (dir : List ℕ) (old new : Files) : Outcome �
   unwritten : {o : Outcome} (m : Meant) (i : ℕ) (e : Listed) → Accepts image m
       → AreUnpackedUntil (read_volume m) dir (listed m) i e old new
       → Gives o (says (file_line (codes "cannot write ") (file_path dir e)) 1) → Unpacks image dir old new o
+  no_config : {o : Outcome} (m : Meant) (between : Files) → Accepts image m → AreUnpacked (read_volume m) dir (listed m) old between
+      → OthersStay between new (config_path dir)
+      → Gives o (says (file_line (codes "cannot write ") (config_path dir)) 1) → Unpacks image dir old new o
 
 -- what it answers of any source: some lines, of one whose places were found; or the line of its refusal
 pub data UnpacksFrom (s : Sizes) (k : Source) (agrees : Agreed) (old new : Files) : Outcome → Type 0 where

@@ -1,6 +1,7 @@
 //! The laws that the program stands on, each as the contract of a function that does nothing.
 
 ghost use Rattle.ubi_commands.specs.BuildLaws.{BuildReads};
+ghost use Rattle.ubi_commands.specs.FolderLaws.{FolderConfigReads};
 ghost use Rattle.ubi_commands.specs.Headline.{Headline};
 ghost use Rattle.ubi_commands.specs.Laws.{ListsComposed, OneComposed};
 ghost use Rattle.ubi_commands.specs.PageLaws.{LeastTold};
@@ -27,6 +28,12 @@ pub fn lists_composed()
 /// the end of what it reserves.
 pub fn build_reads()
     ensures { BuildReads }
+{}
+
+/// The config that `unpack` writes of an accepted image has no fault, and its sections are those of the volumes that aren't left
+/// out.
+pub fn folder_config_reads()
+    ensures { FolderConfigReads }
 {}
 
 /// Of what is told of a file, the first has the least page: where pages have no out-of-band bytes, nothing else

@@ -17,6 +17,7 @@ mod compose;
 mod differences;
 mod extract;
 mod finding;
+mod folder_config;
 mod gathering;
 mod geometry;
 pub mod laws;

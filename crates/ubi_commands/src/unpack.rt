@@ -22,6 +22,7 @@ ghost use Rattle.ubi_commands.specs.inner.Folder.{AreFilesOf, Ends, IsFileOf};
 
 use crate::asked::{Asked, Paths};
 use crate::finding::{KnownDump, find_dump, open_known};
+use crate::folder_config::{folder_config, write_new};
 use crate::list::{put_amount, put_shown};
 use crate::output_file::unwritten_line;
 use itoa::Buffer;
@@ -93,7 +94,7 @@ fn number_and_name(alloc: Global, listed: &(u32, VolumeRecord)) -> Result<String
 
 /// The name of a volume's file: its number and its name, or the number alone where that is too long for a file.
 #[tactic(auto, unfolding(crate::specs::Unpack::file_name))]
-fn file_name(alloc: Global, listed: &(u32, VolumeRecord)) -> Result<String, AllocError>
+pub(crate) fn file_name(alloc: Global, listed: &(u32, VolumeRecord)) -> Result<String, AllocError>
     ensures { IfOk result (λ file. string_bytes file ≡ file_name listed.now) }
 {
     let file = number_and_name(alloc, listed)?;
@@ -299,6 +300,7 @@ fn unpack_places<D: Disk, S: BlockSource>(
 {
     let outcome = unpacked(alloc, geometry, places)?;
     let mut folder = folder_of(alloc, dir, places.table().entries())?;
+    let config = folder_config(alloc, geometry, places, dir)?;
     let unmade = unwritten_line(alloc, dir)?;
     let mut buffer = Vec::from_elem(alloc, 0u8, geometry.peb_size() as usize)?;
     if disk.make_folder(dir).is_err() {
@@ -306,7 +308,10 @@ fn unpack_places<D: Disk, S: BlockSource>(
     }
     let room = buffer.as_mut_slice();
     match unpack_volumes(disk, geometry, source, places, &folder, room)? {
-        None => Ok(outcome),
+        None => match write_new(disk, config.path.as_str(), config.text.as_slice()) {
+            Ok(()) => Ok(outcome),
+            Err(_) => Ok(config.unwritten),
+        },
         Some(i) => Ok(folder.files.swap_remove(i).unwritten),
     }
 }

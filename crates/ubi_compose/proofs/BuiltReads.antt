@@ -114,7 +114,7 @@ module _ (size reserved : ℕ) (some : 1 ≤ size) (text : List ℕ) (fits : len
       ∙ take_all (reserved * size) all (let n = length-filled (reserved * size) text fits in omega (arith, n))
 
 -- a listed part is the one that is found by its number
-some_part : (xs : List Part) (i : ℕ) (p : Part) → slice_get xs i ≡ Some p → find (λ q. q.id == p.id) xs ≡ None → ⊥
+pub some_part : (xs : List Part) (i : ℕ) (p : Part) → slice_get xs i ≡ Some p → find (λ q. q.id == p.id) xs ≡ None → ⊥
 some_part [] i p at none = absurd (cc)
 some_part (x ∷ xs) zero p at none =
     let same : x.id ≡ p.id = ap (λ (q : Part). q.id) (same_Some x p at) in

@@ -1,6 +1,7 @@
 pub mod Accepted
 pub mod Apart
 pub mod Blocks
+pub mod BuiltAgain
 pub mod BuiltContents
 pub mod BuiltImage
 pub mod BuiltMeaning
@@ -31,6 +32,7 @@ pub mod Lists
 pub mod NextPiece
 pub mod Normal
 pub mod NormalVectors
+pub mod PartsAgain
 pub mod Places
 pub mod PiecesOfParts
 pub mod Puts

@@ -16,7 +16,7 @@ pub use Rattle.std.proofs.lemmas.List.{drop-append-le, drop-drop, drop-take, dro
 pub use Rattle.std.proofs.lemmas.List.Concat.{concat_is, length-flat_map}
 pub use Rattle.std.proofs.lemmas.List.Elements.{All-from_recursion, All-get_or, filter-append, filter_map-append}
 pub use Rattle.std.proofs.lemmas.List.Folds.{find-append, flat_map-map, list_all-append, list_any-append}
-pub use Rattle.std.proofs.lemmas.List.FromFn.{length-map-range_with_len}
+pub use Rattle.std.proofs.lemmas.List.FromFn.{get_or-range_with_len, length-map-range_with_len, length-range_with_len}
 pub use Rattle.std.proofs.lemmas.List.Sums.{sum_by-cons, sum_by-take-le, sum_by_more}
 pub use Rattle.std.proofs.lemmas.Map.Lookups.{exact_unsigned}
 pub use Rattle.std.proofs.lemmas.Nat.{div-mul-add, mul-le}
@@ -77,7 +77,7 @@ pub use Rattle.ubi_scan.proofs.Clean.{none_from_clean}
 pub use Rattle.ubi_scan.proofs.Decided.{Wins-unique}
 pub use Rattle.ubi_scan.proofs.Entries.{first_entry, sorted_entries}
 pub use Rattle.ubi_scan.proofs.Filled.{behind, drop_blank, filled-by, filled-is, filled-none, length-blank, length-filled}
-pub use Rattle.ubi_scan.proofs.Finite.{find_at}
+pub use Rattle.ubi_scan.proofs.Finite.{find_at, rising_at}
 pub use Rattle.ubi_scan.proofs.Keys.{apart_test, at_itself, same_test, told}
 pub use Rattle.ubi_scan.proofs.Parts.{blank_vid}
 pub use Rattle.ubi_scan.proofs.Revalued.{entries_revalued}
@@ -93,7 +93,7 @@ pub use Rattle.ubi_scan.specs.inner.Held.{anything, sound}
 pub use Rattle.ubi_table.proofs.Held.{table_written}
 pub use Rattle.ubi_table.proofs.NoRecords.{no_entries}
 pub use Rattle.ubi_table.proofs.ReadBack.{length-table_bytes, pieces_more}
-pub use Rattle.ubi_table.specs.Records.{Records, table_bytes}
+pub use Rattle.ubi_table.specs.Records.{AreRecords, Records, table_bytes}
 pub use Rattle.ubi_table.specs.Table.{IsTable}
 pub use Rattle.ubi_volume.proofs.Alike.{member_valid}
 pub use Rattle.ubi_volume.proofs.Arranged.{fits_without_blank, keeps_no_blank}
@@ -103,6 +103,7 @@ pub use Rattle.ubi_volume.proofs.Either.{are_lebs}
 pub use Rattle.ubi_volume.proofs.Extracted.{front_of, same_range, static_whole}
 pub use Rattle.ubi_volume.proofs.FirstCause.{one_first}
 pub use Rattle.ubi_volume.proofs.Gathered.{record_at}
+pub use Rattle.ubi_volume.proofs.LebsText.{length-lebs}
 pub use Rattle.ubi_volume.proofs.LesserPage.{greater_breaks, lesser_page}
 pub use Rattle.ubi_volume.proofs.Listed.{listed_volume}
 pub use Rattle.ubi_volume.proofs.MeantRecords.{meant_by, records_are, records_fit, volume_is}
@@ -111,7 +112,7 @@ pub use Rattle.ubi_volume.proofs.One.{Accepts-unique}
 pub use Rattle.ubi_volume.proofs.Pieces.{length-share, piece_begins, pieces_few, pieces_suffice, share_full, share_more, share_most, share_none, share_some, shares_all}
 pub use Rattle.ubi_volume.proofs.Received.{Splits, error_behind, error_front, wrote_as, wrote_cut, wrote_more, wrote_text}
 pub use Rattle.ubi_volume.proofs.Recorded.{record_of}
-pub use Rattle.ubi_volume.proofs.Shares.{header_at, share_at}
+pub use Rattle.ubi_volume.proofs.Shares.{header_at, share_at, share_of_pieces}
 pub use Rattle.ubi_volume.proofs.Static.{damaged_piece, piece_checked, piece_unchecked, read_more, read_none, static_reads}
 pub use Rattle.ubi_volume.proofs.VolumeAt.{found_or_none, found_wins, in_table, reads_of, table}
 pub use Rattle.ubi_volume.proofs.WithoutBlank.{get_without_blank, is_kept}
@@ -132,6 +133,7 @@ pub use Rattle.ubi_volume.specs.inner.Gathered.{AreRead, PieceIs, UsedIs}
 unfoldable pub use Rattle.ubi_words.specs.Words.{is_number, number_within}
 pub use Rattle.ubi_compose.specs.Building.{CanBuild, those}
 pub use Rattle.ubi_compose.specs.Built.{HaveMeaning, Parts, Reaches, built, content_of, item_of, items_of, lebs_of, most_blocks, pieces_of, text_of}
+pub use Rattle.ubi_compose.specs.BuiltAgain.{AreItsParts, AreVolumesOf, BuiltAgain, PartsBuildAgain}
 pub use Rattle.ubi_compose.specs.BuiltLaws.{text_read}
 pub use Rattle.ubi_compose.specs.Composed.{HasRoom, composed, spare}
 pub use Rattle.ubi_compose.specs.ErrorTexts.{spec_error_text}

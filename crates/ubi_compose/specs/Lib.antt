@@ -10,6 +10,7 @@ pub mod TextLaws
 pub mod NormalLaws
 pub mod PageLaws
 pub mod BuiltLaws
+pub mod BuiltAgain
 pub mod Streamed
 pub mod ErrorTexts
 pub mod inner

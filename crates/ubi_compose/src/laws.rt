@@ -1,5 +1,6 @@
 //! Laws of the definitions that the contracts cite, each as the contract of a function that does nothing.
 
+ghost use Rattle.ubi_compose.specs.BuiltAgain.{BuiltAgain, PartsBuildAgain};
 ghost use Rattle.ubi_compose.specs.BuiltLaws.{BuiltAccepted, BuiltReads};
 ghost use Rattle.ubi_compose.specs.Laws.{Normalising, TwiceIsOnce};
 ghost use Rattle.ubi_compose.specs.NormalLaws.{NormalAccepted, NormalFits, NormalForm};
@@ -48,6 +49,18 @@ pub fn built_reads()
 /// behind it, as far as the device has room for them and for all pieces.
 pub fn built_accepted()
     ensures { BuiltAccepted }
+{}
+
+/// What is built of the records of an accepted image, all volumes of which can be read, and of what these read, is the meaning
+/// of the image: so its normal image is that of the image.
+pub fn built_again()
+    ensures { BuiltAgain }
+{}
+
+/// The volumes of an accepted image, all of which can be read, have a meaning together, and the device has room for all pieces of what they
+/// read: so they can be built again.
+pub fn parts_build_again()
+    ensures { PartsBuildAgain }
 {}
 
 /// The normal image of a meaning is the same bytes with each page; so what an image is normalised to, it is with each

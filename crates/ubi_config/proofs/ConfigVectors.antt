@@ -24,6 +24,8 @@ HaveFaults rows = map (λ e. config_fault (text e.0)) rows ≡ map (λ e. e.1) r
 
 -- no line has a fault
 sound_configs : HaveFaults (
+    (codes "" ∷ [], None) ∷
+    (codes "# a" ∷ codes " " ∷ [], None) ∷
     (codes "[v]" ∷ codes "mode=ubi" ∷ codes "vol_id=1" ∷ codes "vol_name=a" ∷ codes "vol_size=9" ∷ [], None) ∷ (
       codes "  [ v ] " ∷ codes "" ∷ codes "# a" ∷ codes " Mode = ubi ; a" ∷ codes "VOL_ID=1" ∷ codes "vol_name=a"
           ∷ codes "vol_size=9 KiB" ∷ [],
@@ -35,7 +37,6 @@ sound_configs = refl
 
 -- a line that is none, or none of its kind
 wrong_lines : HaveFaults (
-    (codes "" ∷ [], Some (1, cause.NoSection)) ∷
     (codes "mode=ubi" ∷ codes "[v]" ∷ [], Some (1, cause.NoSection)) ∷
     (codes "[v:w]" ∷ [], Some (1, cause.Form)) ∷
     (codes "[v] # a" ∷ [], Some (1, cause.Form)) ∷

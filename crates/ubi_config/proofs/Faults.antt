@@ -1,16 +1,13 @@
--- The first fault of a text: of a line, or else of a section, or else that there is none.
-use Rattle.ubi_config.proofs.Prelude.{◌≡◌, ℕ, Bool, List, length, refl, ap, sym, ◌∙◌, Option, Some, None, ◌==◌, then_some, option_or, Fault, IsFault, first_fault, groups, groups_of, line_fault, lines, no_section_fault, sayings, section_fault, sections_in, sections_of, Line, Section, ConfigError}
-use Rattle.ubi_config.specs.declared.errors.ConfigCause.TheVariants as cause
+-- The first fault of a text: of a line, or else of a section.
+use Rattle.ubi_config.proofs.Prelude.{◌≡◌, ℕ, List, ap, refl, sym, ◌∙◌, Option, Some, None, option_or, Fault, IsFault, first_fault, groups, groups_of, line_fault, lines, sayings, section_fault, sections_in, sections_of, Line, Section, ConfigError}
 use Rattle.ubi_config.specs.declared.errors.ConfigError.TheVariants as error
 
-by_parts : (text : List ℕ) (lines sections : Option Fault) → line_fault text ≡ lines
-    → section_fault (groups_of text) ≡ sections
-    → first_fault text ≡ option_or lines (option_or sections (option_or (no_section_fault (sections_of text)) None))
+pub by_parts : (text : List ℕ) (lines sections : Option Fault) → line_fault text ≡ lines
+    → section_fault (groups_of text) ≡ sections → first_fault text ≡ option_or lines (option_or sections None)
 unfolding first_fault
 by_parts text lines sections l s =
-    ap (λ (o : Option Fault). option_or o (option_or (section_fault (groups_of text))
-    (option_or (no_section_fault (sections_of text)) None))) l
-    ∙ ap (λ (o : Option Fault). option_or lines (option_or o (option_or (no_section_fault (sections_of text)) None))) s
+    ap (λ (o : Option Fault). option_or o (option_or (section_fault (groups_of text)) None)) l
+    ∙ ap (λ (o : Option Fault). option_or lines (option_or o None)) s
 
 -- a line has a fault
 pub line_refused : (text : List ℕ) (e : ConfigError) → IsFault (line_fault text) e → IsFault (first_fault text) e
@@ -24,23 +21,11 @@ section_refused text said (error.Refused n c) is l h =
     by_parts text None (Some (n, c)) l (ap (λ ls. section_fault (groups ls)) (sym is) ∙ h)
 section_refused text said error.Memory is l h = tt
 
-none_left : (o : Option Fault) → option_or o None ≡ o
-none_left (Some fault) = refl
-none_left None = refl
-
--- the fault of a text that gives no section
-abbrev pub fault_if : Bool → Option Fault
-fault_if b = then_some b (1, cause.NoSection)
-
 module _ (text : List ℕ) (said : List Line) (made : List Section) (is : said ≡ sayings (lines text))
     (l : line_fault text ≡ None) (h : (section_fault (groups said) ≡ None) × (made ≡ sections_in (groups said))) where
   pub made_is : made ≡ sections_of text
   made_is = h.1 ∙ ap (λ ls. sections_in (groups ls)) is
 
   -- neither a line nor a section has a fault
-  pub fault_last : (b : Bool) → b ≡ (length made == 0) → first_fault text ≡ fault_if b
-  fault_last b e =
-      by_parts text None None l (ap (λ ls. section_fault (groups ls)) (sym is) ∙ h.0)
-      ∙ none_left (no_section_fault (sections_of text))
-      ∙ ap no_section_fault (sym made_is)
-      ∙ ap fault_if (sym e)
+  pub no_fault : first_fault text ≡ None
+  no_fault = by_parts text None None l (ap (λ ls. section_fault (groups ls)) (sym is) ∙ h.0)

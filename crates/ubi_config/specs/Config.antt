@@ -1,13 +1,11 @@
 -- A config: its sections, or the first fault.
-use Rattle.std.specs.Prelude.{◌≡◌, ℕ, ◌+◌, ◌==◌, min, List, [], ◌∷◌, ◌++◌, filter_map, length, map, take, Option, Some, None, Result, Ok, Err, option_and_then, option_map}
-use Rattle.std.specs.Bool.{then_some}
+use Rattle.std.specs.Prelude.{◌≡◌, ℕ, ◌+◌, ◌==◌, min, List, [], ◌∷◌, ◌++◌, filter_map, map, take, Option, Some, None, Result, Ok, Err, option_and_then, option_map}
 use Rattle.std.specs.List.{before_first, enumerate_from, slice_split}
 use Rattle.std.specs.Result.{result_ok, result_err, result_unwrap_or}
 use Rattle.ubi_config.specs.Above.{first_some, is_heading, later_cause}
 use Rattle.ubi_config.specs.Lines.{line_of}
 use Rattle.ubi_config.specs.Sections.{draft_of, finished}
 use Rattle.ubi_config.specs.declared.errors.ConfigCause.{ConfigCause}
-use Rattle.ubi_config.specs.declared.errors.ConfigCause.TheVariants as cause
 use Rattle.ubi_config.specs.declared.errors.ConfigError.{ConfigError}
 use Rattle.ubi_config.specs.declared.errors.ConfigError.TheVariants as error
 use Rattle.ubi_config.specs.declared.line.Line.{Line}
@@ -89,14 +87,9 @@ sections_in gs = filter_map (λ g. result_ok (section_of g)) gs
 abbrev pub sections_of : List ℕ → List Section
 sections_of text = sections_in (groups_of text)
 
--- the fault of a text that gives no section, told of its first line
-abbrev pub no_section_fault : List Section → Option Fault
-no_section_fault sections = then_some (length sections == 0) (1, cause.NoSection)
-
--- the first fault: of a line, or else of a section, or else that there is none
+-- the first fault: of a line, or else of a section
 unfoldable pub first_fault : List ℕ → Option Fault
-first_fault text =
-    first_some (line_fault text ∷ section_fault (groups_of text) ∷ no_section_fault (sections_of text) ∷ [])
+first_fault text = first_some (line_fault text ∷ section_fault (groups_of text) ∷ [])
 
 -- the error tells the first fault, or that memory ran out
 abbrev pub IsFault : Option Fault → ConfigError → Type 0

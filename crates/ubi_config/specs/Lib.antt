@@ -5,6 +5,8 @@ pub mod Above
 pub mod Sections
 pub mod Config
 pub mod Records
+pub mod Written
+pub mod WrittenLaws
 pub mod Laws
 pub mod ErrorTexts
 pub mod inner

@@ -1,8 +1,8 @@
 -- The words of a config: blanks, numbers, and sizes with a unit.
-use Rattle.std.specs.Prelude.{ℕ, ◌+◌, ◌-◌, ◌*◌, ◌==◌, ◌&&◌, ◌||◌, Bool, not, nat_le, if◌then◌else◌, List, codes, drop, fold, length, Option, Some, None, option_and_then, slice_index, take}
+use Rattle.std.specs.Prelude.{ℕ, ◌-◌, ◌*◌, ◌==◌, ◌&&◌, ◌||◌, Bool, not, nat_le, if◌then◌else◌, List, codes, drop, length, Option, Some, None, option_and_then, slice_index, take}
 use Rattle.std.specs.Bool.{then_some}
 use Rattle.std.specs.Char.{is_ascii_digit}
-use Rattle.std.specs.List.{list_all, position_or_len, suffix_len}
+use Rattle.std.specs.List.{position_or_len, suffix_len}
 use Rattle.ubi_media.specs.Fields.{same_bytes}
 use Rattle.ubi_words.specs.Words.{number_within}
 

@@ -30,10 +30,14 @@ mod parsing;
 mod section;
 mod text;
 mod value;
+mod volume;
 mod words;
+mod written;
 
 pub use errors::{ConfigCause, ConfigError};
 pub use key::Key;
 pub use parsing::parse_config;
 pub use section::Section;
 pub use text::Text;
+pub use volume::{ConfigVolume, LeftOut};
+pub use written::write_config;

@@ -2,13 +2,13 @@
 
 ghost use Rattle.std.specs.Prelude.{◌≡◌, ◌++◌, None, IfErr, IfOk, MatchResult, option_to_list};
 ghost use Rattle.std.specs.Result.{result_unwrap_or};
-ghost use Rattle.ubi_config.specs.Config.{IsFault, cause_after, first_fault, group_of, groups, line_fault, lines, no_section_fault, sayings, section_fault, sections_in, sections_of};
+ghost use Rattle.ubi_config.specs.Config.{IsFault, cause_after, first_fault, group_of, groups, line_fault, lines, sayings, section_fault, sections_in, sections_of};
 ghost use Rattle.ubi_config.specs.inner.Reading.{IsCause};
 ghost use Rattle.ubi_config.specs.Lines.{line_of};
 
 use crate::above::later_cause;
 use crate::drafts::section_of;
-use crate::errors::{ConfigCause, ConfigError, LineError};
+use crate::errors::{ConfigError, LineError};
 use crate::line::{Line, line_of};
 use crate::section::Section;
 use std::alloc::Global;
@@ -76,18 +76,12 @@ fn sections_of(alloc: Global, said: &[Line]) -> Result<Vec<Section>, ConfigError
 ///
 /// Its first fault: the first line that something is wrong with, by itself or by the lines above it, and of several
 /// causes of the line the first in the order of [`ConfigCause`]; or else the first section that lacks a key, by the line
-/// that begins it; or else that there is no section, by line 1. Memory where memory ran out.
+/// that begins it. Memory where memory ran out.
 pub fn parse_config(alloc: Global, text: &[u8]) -> Result<Vec<Section>, ConfigError>
     ensures sections { IfOk result (λ out. (first_fault text.now ≡ None) × (out.items ≡ sections_of text.now)) }
     ensures refused { IfErr result (IsFault (first_fault text.now)) }
 {
     let said = read_lines(alloc, text)?;
     let sections = sections_of(alloc, said.as_slice())?;
-    if sections.is_empty() {
-        return Err(ConfigError::Refused {
-            line: 1,
-            cause: ConfigCause::NoSection,
-        });
-    }
     Ok(sections)
 }

@@ -52,7 +52,7 @@ fn plain_value(text: &[u8]) -> Option<&[u8]>
 }
 
 /// Whether bytes may stand in quotes: there are some, and the last is no blank.
-fn is_quotable(bytes: &[u8]) -> bool
+pub(crate) fn is_quotable(bytes: &[u8]) -> bool
     ensures { result ≡ is_quotable bytes.now }
 {
     !bytes.is_empty() && !is_blank(bytes[bytes.len() - 1])

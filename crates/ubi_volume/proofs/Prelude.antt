@@ -19,7 +19,7 @@ pub use Rattle.std.proofs.lemmas.Map.Lookups.{exact_unsigned}
 pub use Rattle.std.proofs.lemmas.Map.Made.{filter_same_pairs}
 pub use Rattle.std.proofs.lemmas.Nat.{div_below, mul-le}
 pub use Rattle.std.proofs.lemmas.Option.{IfSome_then, get_or_from_slice_get, none-some, same_Some, slice_get-get_or, slice_get-map, slice_get_past, slice_get_read, slice_get_within}
-pub use Rattle.std.proofs.lemmas.Result.{err_from_is_err_and}
+pub use Rattle.std.proofs.lemmas.Result.{IfOk-weaker, err_from_is_err_and}
 pub use Rattle.std.proofs.lemmas.Slice.Eq.{slice_eq-Decides}
 pub use Rattle.std.specs.BTreeMap.{BTreeMap}
 pub use Rattle.std.specs.Bool.{then_some}
@@ -113,7 +113,7 @@ pub use Rattle.ubi_volume.specs.MeantCoded.{AreVolumes}
 pub use Rattle.ubi_volume.specs.PageLaws.{LesserPage, image_with_page, meaning_with_page}
 pub use Rattle.ubi_volume.specs.Places.{AreListed, ArePlaces, ArePlacesError, ArePlacesOf, AreWithin, CaseFits, Placed, case_of}
 pub use Rattle.ubi_volume.specs.Reading.{leb_text, lebs_text, volume_len, volume_read}
-pub use Rattle.ubi_volume.specs.Survey.{IsAttachedOf, IsSurvey, IsSurveyOf}
+pub use Rattle.ubi_volume.specs.Survey.{IsAttachedOf, IsSurvey, IsSurveyOf, Seen}
 pub use Rattle.ubi_volume.specs.Wrote.{All, First, IsWroteError, NotAll, Wanted, Wrote}
 pub use Rattle.ubi_volume.specs.declared.attached.BlockState.{BlockState}
 pub use Rattle.ubi_volume.specs.declared.content.Content.{Content}

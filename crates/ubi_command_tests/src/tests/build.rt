@@ -82,7 +82,11 @@ fn tells_which_of_two_files_fails(rt: HostRuntime) -> Result<(), Fail> {
 
 /// Configs, what `new.bin` holds, and what is answered. Nothing is written.
 static REFUSED: [(&[u8], Contents, (&str, u8)); 14] = [
-    (b"", EMPTY, ("refused I6 NoSection line=1\n", 1)),
+    (
+        b"mode=ubi\n[a]\n",
+        EMPTY,
+        ("refused I6 NoSection line=1\n", 1),
+    ),
     (
         b"\n[a]\nmode=ubi\nvol_name=root\nvol_size=1\n",
         EMPTY,

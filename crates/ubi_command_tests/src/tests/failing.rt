@@ -3,6 +3,7 @@
 use super::answers::assert_over;
 use super::contents::{Contents, EMPTY};
 use super::fake::Broken;
+use super::folder_configs::ROOT_CONFIG;
 use super::geometry::SMALL;
 use super::rename::LINES;
 use super::shown::{BLANK_SHOWN, CHANGED};
@@ -39,6 +40,17 @@ const UNWRITTEN: (&str, u8) = ("cannot write b.img\n", 1);
 const UNPACKED: (&str, u8) = ("volume 0 bytes=7680 name=root\n", 0);
 
 const UNPACKED_NOT: (&str, u8) = ("cannot write made/0-root\n", 1);
+
+const CONFIG_NOT: (&str, u8) = ("cannot write made/ubi.ini\n", 1);
+
+/// What it writes: the volume, and its config.
+const UNPACKED_BYTES: Contents = Contents::Runs(&[
+    (b"A", 384),
+    (b"B", 384),
+    (b"C", 384),
+    (b"\xFF", 6528),
+    (ROOT_CONFIG, 1),
+]);
 
 /// What `check`, `list` and `show` answer of blank eraseblocks.
 const CHECKED: (&str, u8) = (
@@ -215,9 +227,9 @@ static WRITERS: [Failing; 12] = [
         image: Contents::Root,
         line: "unpack a.img --out made",
         ways: &[
-            (Broken::Nothing, UNPACKED, 7680),
-            (Broken::Short(100), UNPACKED, 7680),
-            (Broken::Places, UNPACKED, 7680),
+            (Broken::Nothing, UNPACKED, 7891),
+            (Broken::Short(100), UNPACKED, 7891),
+            (Broken::Places, UNPACKED, 7891),
             (Broken::OpenRead, UNREAD, 0),
             (Broken::Read(ErrorKind::Other, 2048 + 128), UNREAD, 768),
             (Broken::Read(ErrorKind::Other, 2048 + 127), UNREAD, 0),
@@ -225,8 +237,10 @@ static WRITERS: [Failing; 12] = [
             (Broken::OpenWrite, UNPACKED_NOT, 0),
             (Broken::Write(500), UNPACKED_NOT, 500),
             (Broken::WriteOnce(500), UNPACKED_NOT, 500),
+            (Broken::Write(7700), CONFIG_NOT, 7700),
+            (Broken::WriteOnce(7700), CONFIG_NOT, 7700),
         ],
-        output: Contents::RootText,
+        output: UNPACKED_BYTES,
     },
     Failing {
         image: Contents::Root,

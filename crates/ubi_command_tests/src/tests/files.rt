@@ -2,10 +2,12 @@
 
 use super::answers::SMALL_SIZES;
 use super::contents::{Contents, EMPTY};
+use super::folder_configs::ROOT_CONFIG;
 use super::geometry::SMALL;
 use super::rename::LINES;
 use super::sessions::{Session, assert_session};
 use super::shown::{CHANGED, DATA_LISTED, ROOT_CHECKED, ROOT_LISTED, TWO_LISTED, TWO_RENAMED};
+use std::fs;
 use std::test::Fail;
 use ubi_probe::header_bytes::{COPY_OF_64, ERASED_EC, OTHER_EC};
 use ubi_probe::pebs::{
@@ -150,6 +152,52 @@ const LONG_NAMES: Contents = Contents::Runs(&[
     (b"ab\nbytes 1 64\n", 1),
 ]);
 
+/// The configs that are written of these, and of the volume `boot` without bytes, without its bytes, and with the marker.
+const PATH_CONFIG: Contents = Contents::Runs(&[(
+    b"# ubi_tool build ubi.ini --out IMAGE --peb 512 --page 64 --vid 64 --data 128 --pebs 32 --seq 0\n\
+        \n[volume-0]\nmode=ubi\nvol_id=0\nvol_type=static\nvol_name=\"../../x\"\nvol_size=384\n\
+        vol_alignment=1\nimage=\"0-..\\x2f..\\x2fx\"\n\
+        \n[volume-1]\nmode=ubi\nvol_id=1\nvol_type=dynamic\nvol_name=\"a \\b\"\nvol_size=384\n\
+        vol_alignment=1\nimage=\"1-a\\x20\\x5cb\"\n",
+    1,
+)]);
+
+const LONG_CONFIG: Contents = Contents::Runs(&[
+    (
+        b"# ubi_tool build ubi.ini --out IMAGE --peb 512 --page 64 --vid 64 --data 128 --pebs 32 --seq 0\n\
+            \n[volume-0]\nmode=ubi\nvol_id=0\nvol_type=static\nvol_name=\"",
+        1,
+    ),
+    (b"\x80", 63),
+    (b"a\"\nvol_size=384\nvol_alignment=1\nimage=\"0-", 1),
+    (b"\\x80", 63),
+    (
+        b"a\"\n\n[volume-1]\nmode=ubi\nvol_id=1\nvol_type=static\nvol_name=\"",
+        1,
+    ),
+    (b"\x80", 63),
+    (b"ab\"\nvol_size=384\nvol_alignment=1\nimage=\"1\"\n", 1),
+]);
+
+const EMPTY_CONFIG: Contents = Contents::Runs(&[(
+    b"# ubi_tool build ubi.ini --out IMAGE --peb 512 --page 64 --vid 64 --data 128 --pebs 32 --seq 0\n\
+        \n[volume-0]\nmode=ubi\nvol_id=0\nvol_type=static\nvol_name=\"boot\"\nvol_size=1152\n\
+        vol_alignment=1\nimage=\"0-boot\"\n",
+    1,
+)]);
+
+const DAMAGED_CONFIG: Contents = Contents::Runs(&[(
+    b"# ubi_tool build ubi.ini --out IMAGE --peb 512 --page 64 --vid 64 --data 128 --pebs 32 --seq 0\n\
+        \n# volume 0 is left out: it is damaged\n",
+    1,
+)]);
+
+const MARKED_CONFIG: Contents = Contents::Runs(&[(
+    b"# ubi_tool build ubi.ini --out IMAGE --peb 512 --page 64 --vid 64 --data 128 --pebs 32 --seq 0\n\
+        \n# volume 0 is left out: its update didn't end\n",
+    1,
+)]);
+
 /// Folders that are made, that are there, and that can't be made.
 static UNPACKED: Session = Session {
     sizes: SMALL_SIZES,
@@ -168,7 +216,12 @@ static UNPACKED: Session = Session {
             "volume 0 bytes=7680 name=root\n",
             0,
         ),
-        // There is a file in it now.
+        (
+            "build unpack_made/ubi.ini --out unpack_again.img --seq 305419896",
+            "blocks 5\n",
+            0,
+        ),
+        // There are files in it now.
         (
             "unpack unpack_none.img --out unpack_made",
             "cannot write unpack_made\n",
@@ -186,7 +239,7 @@ static UNPACKED: Session = Session {
         ),
         // The folder is there, and empty.
         (
-            "unpack unpack_boot.img --out unpack_marked",
+            "unpack unpack_boot.img --out unpack_boot",
             "volume 0 damaged name=boot\n",
             1,
         ),
@@ -233,7 +286,14 @@ static UNPACKED: Session = Session {
     ],
     after: &[
         ("unpack_made/0-root", Contents::RootText),
+        ("unpack_made/ubi.ini", Contents::Runs(&[(ROOT_CONFIG, 1)])),
+        ("unpack_again.img", Contents::Root),
         ("unpack_none/0-boot", EMPTY),
+        ("unpack_none/ubi.ini", EMPTY_CONFIG),
+        ("unpack_marked/ubi.ini", MARKED_CONFIG),
+        ("unpack_boot/ubi.ini", DAMAGED_CONFIG),
+        ("unpack_paths/ubi.ini", PATH_CONFIG),
+        ("unpack_long/ubi.ini", LONG_CONFIG),
         (
             "unpack_paths/0-..\\x2f..\\x2fx",
             Contents::Runs(&[(b"ab", 1)]),
@@ -626,6 +686,7 @@ static RENAMED: Session = Session {
 fn writes_what_is_asked_for(rt: HostRuntime) -> Result<(), Fail> {
     assert_session(&rt, rt.alloc(), &NORMALISED)?;
     assert_session(&rt, rt.alloc(), &EXTRACTED)?;
+    let _ = fs::create_dir(&rt, "unpack_boot");
     assert_session(&rt, rt.alloc(), &UNPACKED)?;
     assert_session(&rt, rt.alloc(), &COMPOSED)?;
     assert_session(&rt, rt.alloc(), &CHANGES)?;

@@ -181,7 +181,8 @@ static WORDS: [(&str, usize, &str, usize); 11] = [
         "unpack a --out made --peb 512 --page 64",
         2560,
         "volume 0 bytes=7680 name=root\n",
-        7680,
+        // The volume, and its config.
+        7680 + 216,
     ),
     (
         "normalise a --out b --peb 512 --page 64",

@@ -36,7 +36,7 @@ fn are_outputs(line: &str, is_done: bool, opened: &str) -> bool {
     is_first && is_second && paths.next().is_none()
 }
 
-/// Whether they are files of the folder behind `--out`, and as many as lines were printed where the work is done.
+/// Whether they are files of the folder behind `--out`, and as many as lines were printed, and the config, where the work is done.
 fn are_unpacked(line: &str, outcome: &Outcome, opened: &str) -> bool {
     let Some(folder) = value(line, "--out") else {
         return opened.is_empty();
@@ -55,7 +55,7 @@ fn are_unpacked(line: &str, outcome: &Outcome, opened: &str) -> bool {
             printed = printed.saturating_add(1);
         }
     }
-    outcome.status != 0 || count == printed
+    outcome.status != 0 || count == printed.saturating_add(1)
 }
 
 /// Whether a line opened the files that its outcome may have been written to, in their order, and none else. The paths stand a

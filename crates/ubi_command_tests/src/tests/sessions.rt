@@ -36,14 +36,18 @@ fn remove_files(rt: &impl Files, files: &[(&str, Contents)]) {
     }
 }
 
-/// Whether files hold what they should.
-fn hold<R: Files + Alloc>(rt: &R, alloc: Global, files: &[(&str, Contents)]) -> Result<bool, Fail> {
-    let mut hold = true;
+/// Asserts that files hold what they should.
+fn assert_held<R: Files + Alloc + Abort>(
+    rt: &R,
+    alloc: Global,
+    files: &[(&str, Contents)],
+) -> Result<(), Fail> {
     for (path, contents) in files {
         let want = contents.bytes(alloc)?;
-        hold = hold && fs::read(rt, path)?.as_slice() == want.as_slice();
+        let held = fs::read(rt, path)?;
+        assert!(*rt; held.as_slice() == want.as_slice(), "in {path}");
     }
-    Ok(hold)
+    Ok(())
 }
 
 /// Asserts what each line of a session prints, and which files are there then.
@@ -60,8 +64,12 @@ where
         let line = with_sizes(alloc, line, session.sizes)?;
         assert_line(rt, alloc, line.as_str(), (text, *status))?;
     }
-    let hold = hold(rt, alloc, session.after)? && !fs::exists(rt, session.absent)?;
-    assert!(*rt; hold, "where {} isn't there", session.absent);
+    assert_held(rt, alloc, session.after)?;
+    assert!(*rt;
+        !fs::exists(rt, session.absent)?,
+        "{} is there",
+        session.absent
+    );
     remove_files(rt, session.before);
     remove_files(rt, session.after);
     Ok(())

@@ -6,6 +6,7 @@ ghost use Rattle.std.specs.Prelude.{Some, option_map, refl};
 use super::answers::{SMALL_SIZES, is_answer, run_on, with_sizes};
 use super::build::CONTENT;
 use super::contents::Contents;
+use super::folder_configs::ROOT_CONFIG;
 use super::geometry::SMALL;
 use super::opened::opens_right;
 use std::alloc::Global;
@@ -28,13 +29,16 @@ const OUT: &str = "kept.img";
 /// The path of its folder.
 const FOLDER: &str = "made";
 
-/// The path of the file that its folder has room for.
+/// The path of the file of a volume that its folder has room for.
 const UNPACKED: &str = "made/0-root";
+
+/// And that of the config.
+const WRITTEN: &str = "made/ubi.ini";
 
 /// The path of its flash memory, of which nothing is known.
 const FLASH: &str = "/dev/mtd0";
 
-/// A disk with one image, and room for one output and for a folder with one file.
+/// A disk with one image, and room for one output and for a folder with one volume and its config.
 #[derive(Drop)]
 struct Telling<'a> {
     alloc: Global,
@@ -42,6 +46,7 @@ struct Telling<'a> {
     config: Option<&'a [u8]>,
     out: Option<Vec<u8>>,
     unpacked: Option<Vec<u8>>,
+    written: Option<Vec<u8>>,
     /// The paths that were to be opened to be written, a line each.
     opened: String,
 }
@@ -77,7 +82,7 @@ impl<'a> Disk for Telling<'a> {
 
     ghost opens = { λ disk path. opens_image (option_map (λ bytes. bytes.now) disk.image) path };
 
-    ghost files = { λ disk. telling (option_map (λ bytes. bytes.now) disk.image) (option_map (λ bytes. bytes.now) disk.config) (option_map (λ bytes. bytes.items) disk.out) (option_map (λ bytes. bytes.items) disk.unpacked) };
+    ghost files = { λ disk. telling (option_map (λ bytes. bytes.now) disk.image) (option_map (λ bytes. bytes.now) disk.config) (option_map (λ bytes. bytes.items) disk.out) (option_map (λ bytes. bytes.items) disk.unpacked) (option_map (λ bytes. bytes.items) disk.written) };
 
     fn placed_at(&self, path: &str) -> Option<SizedFile<KnownFile<'a>>> {
         match self.image {
@@ -135,6 +140,9 @@ impl<'a> Disk for Telling<'a> {
         if path == UNPACKED && self.unpacked.is_none() {
             self.unpacked = Some(Vec::new(self.alloc));
             Ok(OutputFile::new(path, Vec::new(self.alloc)))
+        } else if path == WRITTEN && self.written.is_none() {
+            self.written = Some(Vec::new(self.alloc));
+            Ok(OutputFile::new(path, Vec::new(self.alloc)))
         } else {
             Err(io::Error::from(ErrorKind::PermissionDenied))
         }
@@ -149,12 +157,14 @@ impl<'a> Disk for Telling<'a> {
     }
 
     fn keep(&mut self, file: OutputFile<'_, Vec<u8>>)
-        ensures { IsKept (telling (option_map (λ bytes. bytes.now) self.old.image) (option_map (λ bytes. bytes.now) self.old.config) (option_map (λ bytes. bytes.items) self.old.out) (option_map (λ bytes. bytes.items) self.old.unpacked)) (telling (option_map (λ bytes. bytes.now) self.new.image) (option_map (λ bytes. bytes.now) self.new.config) (option_map (λ bytes. bytes.items) self.new.out) (option_map (λ bytes. bytes.items) self.new.unpacked)) file.entry.path.now (Some file.entry.writer.items) }
+        ensures { IsKept (telling (option_map (λ bytes. bytes.now) self.old.image) (option_map (λ bytes. bytes.now) self.old.config) (option_map (λ bytes. bytes.items) self.old.out) (option_map (λ bytes. bytes.items) self.old.unpacked) (option_map (λ bytes. bytes.items) self.old.written)) (telling (option_map (λ bytes. bytes.now) self.new.image) (option_map (λ bytes. bytes.now) self.new.config) (option_map (λ bytes. bytes.items) self.new.out) (option_map (λ bytes. bytes.items) self.new.unpacked) (option_map (λ bytes. bytes.items) self.new.written)) file.entry.path.now (Some file.entry.writer.items) }
     {
         if file.path() == OUT {
             self.out = Some(file.writer);
         } else if file.path() == UNPACKED {
             self.unpacked = Some(file.writer);
+        } else if file.path() == WRITTEN {
+            self.written = Some(file.writer);
         } else if file.path() == IMAGE {
             self.image = None;
         } else if file.path() == CONFIG {
@@ -173,7 +183,10 @@ impl Eprint for Telling<'_> {
     }
 }
 
-/// What a line leaves: nothing, an output, or a file in the folder.
+/// The config of the volume that is unpacked.
+const CONFIG_WRITTEN: Contents = Contents::Runs(&[(ROOT_CONFIG, 1)]);
+
+/// What a line leaves: nothing, an output, or the file of a volume in the folder, and its config.
 #[derive(Clone, Copy)]
 enum Kept {
     Nothing,
@@ -278,7 +291,7 @@ static LINES: [Line; 19] = [
 ];
 
 /// The config of `root`, whose contents are those of the image file.
-const ROOT_CONFIG: &[u8] =
+const TOLD_CONFIG: &[u8] =
     b"[root]\nmode=ubi\nvol_id=0\nvol_name=root\nvol_size=7680\nimage=told.img\n";
 
 /// Lines over that config.
@@ -327,14 +340,15 @@ fn is_told(
         config,
         out: None,
         unpacked: None,
+        written: None,
         opened: String::new(alloc),
     };
     let whole = with_sizes(alloc, line, SMALL_SIZES)?;
     let outcome = run_on(&mut disk, alloc, whole.as_str(), false)?;
-    let (out, unpacked) = match *kept {
-        Kept::Nothing => (None, None),
-        Kept::Out(contents) => (Some(contents), None),
-        Kept::Unpacked(contents) => (None, Some(contents)),
+    let (out, unpacked, written) = match *kept {
+        Kept::Nothing => (None, None, None),
+        Kept::Out(contents) => (Some(contents), None, None),
+        Kept::Unpacked(contents) => (None, Some(contents), Some(CONFIG_WRITTEN)),
     };
     let is_unwritten = disk.out.is_none() && disk.unpacked.is_none();
     let is_there = disk.image.is_some() && disk.config.is_some() == config.is_some();
@@ -342,6 +356,7 @@ fn is_told(
         is_answer(&outcome, *answer)
             && holds(alloc, &disk.out, out)?
             && holds(alloc, &disk.unpacked, unpacked)?
+            && holds(alloc, &disk.written, written)?
             && opens_right(line, &outcome, is_unwritten, disk.opened.as_str())
             && is_there,
     )
@@ -360,7 +375,7 @@ fn answers_and_builds_of_the_named_files(rt: HostRuntime) -> Result<(), Fail> {
     }
     let content = CONTENT.bytes(alloc)?;
     for line in &BUILDS {
-        let is_told = is_told(alloc, content.as_slice(), Some(ROOT_CONFIG), line)?;
+        let is_told = is_told(alloc, content.as_slice(), Some(TOLD_CONFIG), line)?;
         assert!(rt; is_told, "of {}", line.0);
     }
     Ok(())

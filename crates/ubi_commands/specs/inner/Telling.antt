@@ -11,21 +11,26 @@ image_path = codes "told.img"
 abbrev pub out_path : List ℕ
 out_path = codes "kept.img"
 
--- the path of the one file that its folder has room for
+-- the path of the file of a volume that its folder has room for
 abbrev pub unpacked_path : List ℕ
 unpacked_path = codes "made/0-root"
+
+-- and that of the config
+abbrev pub written_path : List ℕ
+written_path = codes "made/ubi.ini"
 
 -- the path of its config
 abbrev pub config_path : List ℕ
 config_path = codes "told.ini"
 
--- it tells what its image, its config, its output and the file in its folder hold, if they are there, and nothing of other paths
-abbrev pub telling : Option (List ℕ) → Option (List ℕ) → Option (List ℕ) → Option (List ℕ) → Files
-telling image config out unpacked = record {
+-- it tells what its image, its config, its output and the files in its folder hold, if they are there, and nothing of other paths
+abbrev pub telling : Option (List ℕ) → Option (List ℕ) → Option (List ℕ) → Option (List ℕ) → Option (List ℕ) → Files
+telling image config out unpacked written = record {
   tells = true;
   holds = λ path. if bytes_eq path out_path then out
       else (if bytes_eq path unpacked_path then unpacked
-      else (if bytes_eq path image_path then image else (if bytes_eq path config_path then config else None)));
+      else (if bytes_eq path written_path then written
+      else (if bytes_eq path image_path then image else (if bytes_eq path config_path then config else None))));
 }
 
 -- its image can be opened, if it is there

@@ -1,7 +1,7 @@
-use Rattle.ubi_commands.proofs.Prelude.{ℕ, ◌<◌, ◌∙◌, List, ap, arith, length, refl, subst, sym, IfSome, Option, Records, places_narrowed, OutsideStay, Listed, no_folder, AreFilesOf}
+use Rattle.ubi_commands.proofs.Prelude.{ℕ, ◌<◌, ◌∙◌, List, ap, arith, length, refl, subst, sym, IfSome, Option, Records, places_narrowed, IsWritten, OutsideStay, Listed, no_folder, AreFilesOf}
 use Rattle.std.specs.FinMap as finite
 use Rattle.ubi_commands.specs.Unpack.{told}
-use Rattle.ubi_commands.proofs.Unpacked.{all_done, files_count, some_line, stopped_at}
+use Rattle.ubi_commands.proofs.Unpacked.{all_done, config_failed, files_count, outside_config, some_line, stopped_at}
 use Rattle.ubi_commands.proofs.unpack.unpack_places.Goals as goal
 
 pub returns-then-is_err-clause-ok : goal.returns-then-is_err-clause-ok
@@ -22,22 +22,58 @@ swap_remove-requires g c =
     c.in_ok-unpack_volumes.ensures.place in
     omega (arith, count, len, place, ap length entries)
 
-pub returns-in-None-clause-ok : goal.returns-in-None-clause-ok
-returns-in-None-clause-ok g c =
+pub returns-in-Ok-clause-ok : goal.returns-in-Ok-clause-ok
+returns-in-Ok-clause-ok g c =
     told c.args.places.now _ _
     (places_narrowed c.args.geometry.now _ _ _ c.args.places.now c.in_ok-unpack_volumes.ensures.narrows c.requires.places)
     c.in_ok-outcome.ensures
 
-pub returns-in-None-clause-image : goal.returns-in-None-clause-image
-returns-in-None-clause-image g c = λ bytes holds.
+pub returns-in-Ok-clause-image : goal.returns-in-Ok-clause-image
+returns-in-Ok-clause-image g c = λ bytes holds.
+    let s = c.args.geometry.now in
     let p = c.requires.places.held bytes (c.in_ok-unpack_volumes.ensures.narrows bytes holds) in
-    all_done _ c.args.places.now p _ c.requires.places.within c.args.dir.now c.in_ok-folder.folder.path.now _ _ c.in_ok-outcome.outcome
-    c.in_ok-folder.ensures.path (rw c.in-None.is at (c.in_ok-unpack_volumes.ensures.ends bytes holds p)) c.in_ok-outcome.ensures
+    let config = c.in_ok-config.ensures in
+    let old = g.D.Disk.files c.unpack_volumes.new.disk in
+    let new = g.D.Disk.files c.write_new.new.disk in
+    let text = c.as_slice.ensures.value ∙ config.text_is in
+    all_done _ c.args.places.now p _ c.requires.places.within c.args.dir.now c.in_ok-folder.folder.path.now _ old c.in_ok-outcome.outcome
+    c.in_ok-folder.ensures.path new s c.as_str.result.now c.requires.places.sizes (c.as_str.ensures.value ∙ config.path)
+    (rw c.in-None.is at (c.in_ok-unpack_volumes.ensures.ends bytes holds p))
+    (subst (λ (t : List ℕ). IsWritten t c.as_str.result.now old new) text c.in-Ok.ensures.written) c.in_ok-outcome.ensures
 
-pub returns-in-None-clause-outside : goal.returns-in-None-clause-outside
-returns-in-None-clause-outside g c =
-    subst (λ (dir : List ℕ). OutsideStay (g.D.Disk.files c.args.disk.now) (g.D.Disk.files c.unpack_volumes.new.disk) dir)
-    c.in_ok-folder.ensures.path c.in_ok-unpack_volumes.ensures.outside
+pub returns-in-Ok-clause-outside : goal.returns-in-Ok-clause-outside
+returns-in-Ok-clause-outside g c =
+    let old = g.D.Disk.files c.args.disk.now in
+    let between = g.D.Disk.files c.unpack_volumes.new.disk in
+    outside_config c.args.dir.now c.as_str.result.now old between (g.D.Disk.files c.write_new.new.disk)
+    (c.as_str.ensures.value ∙ c.in_ok-config.ensures.path)
+    (subst (λ (dir : List ℕ). OutsideStay old between dir) c.in_ok-folder.ensures.path c.in_ok-unpack_volumes.ensures.outside)
+    c.in-Ok.ensures.others
+
+pub returns-in-Err-clause-ok : goal.returns-in-Err-clause-ok
+returns-in-Err-clause-ok g c =
+    told c.args.places.now _ 1
+    (places_narrowed c.args.geometry.now _ _ _ c.args.places.now c.in_ok-unpack_volumes.ensures.narrows c.requires.places)
+    c.in_ok-config.ensures.unwritten
+
+pub returns-in-Err-clause-image : goal.returns-in-Err-clause-image
+returns-in-Err-clause-image g c = λ bytes holds.
+    let p = c.requires.places.held bytes (c.in_ok-unpack_volumes.ensures.narrows bytes holds) in
+    let config = c.in_ok-config.ensures in
+    let old = g.D.Disk.files c.unpack_volumes.new.disk in
+    config_failed _ c.args.places.now p _ c.requires.places.within c.args.dir.now c.in_ok-folder.folder.path.now _ old
+    c.in_ok-config.config.unwritten c.in_ok-folder.ensures.path (g.D.Disk.files c.write_new.new.disk) c.as_str.result.now
+    (c.as_str.ensures.value ∙ config.path) (rw c.in-None.is at (c.in_ok-unpack_volumes.ensures.ends bytes holds p))
+    c.in-Err.ensures.others config.unwritten
+
+pub returns-in-Err-clause-outside : goal.returns-in-Err-clause-outside
+returns-in-Err-clause-outside g c =
+    let old = g.D.Disk.files c.args.disk.now in
+    let between = g.D.Disk.files c.unpack_volumes.new.disk in
+    outside_config c.args.dir.now c.as_str.result.now old between (g.D.Disk.files c.write_new.new.disk)
+    (c.as_str.ensures.value ∙ c.in_ok-config.ensures.path)
+    (subst (λ (dir : List ℕ). OutsideStay old between dir) c.in_ok-folder.ensures.path c.in_ok-unpack_volumes.ensures.outside)
+    c.in-Err.ensures.others
 
 pub returns-in-Some-clause-ok : goal.returns-in-Some-clause-ok
 returns-in-Some-clause-ok g c =

@@ -90,8 +90,6 @@ static FAULTS: [(&[u8], Option<(u32, ConfigCause)>); 56] = [
         Some((4, ConfigCause::Again)),
     ),
     // What a section lacks.
-    (b"", Some((1, ConfigCause::NoSection))),
-    (b"# a\n\n", Some((1, ConfigCause::NoSection))),
     (b"\n[v]\n[w]\n", Some((2, ConfigCause::Missing(Key::Mode)))),
     (b"\n[v]\nmode=ubi", Some((2, ConfigCause::Missing(Key::Id)))),
     (
@@ -119,7 +117,9 @@ static FAULTS: [(&[u8], Option<(u32, ConfigCause)>); 56] = [
         b"[v]\nvol_flags=skip-check\nmode=ubi\nvol_id=1\nvol_name=a",
         Some((1, ConfigCause::Missing(Key::Image))),
     ),
-    // What is read.
+    // What is read: also a text without a section.
+    (b"", None),
+    (b"# a\n\n", None),
     (b"[v]\nmode=ubi\nvol_id=1\nvol_name=a\nvol_size=9", None),
     (
         b"[v]\nmode=ubi\nvol_id=4294967295\nvol_name=a\nimage=a",
@@ -133,7 +133,7 @@ static FAULTS: [(&[u8], Option<(u32, ConfigCause)>); 56] = [
 
 /// The same of texts that are bytes, each so many times: the longest lines and names of sections.
 static LONG: [(&[(&[u8], usize)], Option<(u32, ConfigCause)>); 4] = [
-    (&[(b"#", 1022)], Some((1, ConfigCause::NoSection))),
+    (&[(b"#", 1022)], None),
     (&[(b"\n", 1), (b" ", 1023)], Some((2, ConfigCause::Line))),
     (
         &[(b"[", 1), (b"v", 128), (b"]\n", 1)],

@@ -1,5 +1,4 @@
-use Rattle.std.proofs.lemmas.Result.{IfOk-weaker}
-use Rattle.ubi_volume.proofs.Prelude.{sym, subst, blocks_of, NoMismatch}
+use Rattle.ubi_volume.proofs.Prelude.{IfOk-weaker, sym, subst, blocks_of, NoMismatch}
 use Rattle.ubi_volume.proofs.OfSurvey.{survey_alike, tells_case}
 use Rattle.ubi_volume.proofs.cases.case_from.Goals as goal
 
