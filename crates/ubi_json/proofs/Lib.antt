@@ -1,0 +1,3 @@
+pub mod ListedWhole
+pub mod GeometriesWhole
+pub mod Alike

@@ -1,0 +1,7 @@
+use Rattle.std.proofs.Common.{◌≡◌, take}
+use Rattle.std.specs.Prelude.{count_by}
+use Rattle.ubi_json.specs.Words.{same_state}
+use Rattle.ubi_json.proofs.check.count_of.Given as goal
+
+abbrev pub invariant-loop-state : goal.invariant-loop-state
+invariant-loop-state l = l.found ≡ count_by (λ s. same_state s l.of) (take l.state-index l.states)

@@ -1,0 +1,7 @@
+use Rattle.std.proofs.Common.{◌≡◌, map, take}
+use Rattle.serde_json.specs.View.{view}
+use Rattle.ubi_json.specs.Geometry.{detected_data}
+use Rattle.ubi_json.proofs.geometry.detected_values.Given as goal
+
+abbrev pub invariant-loop-told : goal.invariant-loop-told
+invariant-loop-told l = map view l.values.items ≡ map (detected_data l.part) (take l.told-index l.found)

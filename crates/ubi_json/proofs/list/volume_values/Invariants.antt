@@ -1,0 +1,7 @@
+use Rattle.std.proofs.Common.{◌≡◌, map, take}
+use Rattle.serde_json.specs.View.{view}
+use Rattle.ubi_json.specs.List.{volume_data}
+use Rattle.ubi_json.proofs.list.volume_values.Given as goal
+
+abbrev pub invariant-loop-volume : goal.invariant-loop-volume
+invariant-loop-volume l = map view l.values.items ≡ map (volume_data l.geometry) (take l.volume-index l.volumes)
