@@ -14,6 +14,7 @@ mod faults;
 mod files;
 mod found;
 mod geometry;
+mod json;
 mod large;
 mod lines;
 mod list;

@@ -2,7 +2,7 @@
 
 ghost use Rattle.std.specs.Bool.{Decides};
 ghost use Rattle.std.specs.Option.{ForSome};
-ghost use Rattle.std.specs.Prelude.{◌≡◌, IfErr, IfOk, codes};
+ghost use Rattle.std.specs.Prelude.{◌≡◌, Err, IfErr, IfOk, codes};
 ghost use Rattle.ubi_scan.specs.Source.{Narrows};
 ghost use Rattle.ubi_files.specs.AfterRun.{IsNoWrite, after_run};
 ghost use Rattle.ubi_commands.specs.inner.Ended.{IsToldOfSides, Works};
@@ -95,11 +95,14 @@ impl Reading {
 fn done_over(alloc: Global, work: Result<Outcome, ToolError>, path: &str) -> Result<Outcome, Unread>
     requires { IfErr work IsNoWrite }
     ensures done { IfOk result (λ o. work ≡ Ok o) }
-    ensures unread { IfErr result (Tells (λ o. Gives o (says (file_line (codes "cannot read ") path.now) 1))) }
+    ensures unread { IfErr result (Tells (λ o. (work ≡ Err ToolError.Read) × Gives o (says (file_line (codes "cannot read ") path.now) 1))) }
 {
     match work {
         Ok(outcome) => Ok(outcome),
-        Err(error) => Err(unread_file(alloc, path, error)),
+        Err(ToolError::Read) => Err(unread_file(alloc, path, ToolError::Read)),
+        Err(ToolError::Memory) => Err(Unread::Memory),
+        // Nothing is written.
+        Err(ToolError::Write) => unreachable!(),
     }
 }
 

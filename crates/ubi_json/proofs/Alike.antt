@@ -1,13 +1,7 @@
 -- The printed lines of causes and their objects tell the same.
-use Rattle.std.proofs.Common.{◌≡◌, ◌++◌, [], append-nil, append_assoc, refl}
-use Rattle.std.specs.Prelude.{decimal}
-use Rattle.ubi_media.specs.ErrorTexts.{refusal_text}
-use Rattle.ubi_media.specs.declared.refusal.Refusal.{Refusal}
+use Rattle.ubi_json.proofs.Prelude.{◌≡◌, ◌++◌, [], append-nil, append_assoc, refl, decimal, refusal_text, Refusal, undetected_text, Undetected, told_of, told_text, undetected_told}
 use Rattle.ubi_media.specs.declared.refusal.Refusal.TheVariants as cause
-use Rattle.ubi_detect.specs.ErrorTexts.{undetected_text}
-use Rattle.ubi_detect.specs.declared.detect.Undetected.{Undetected}
 use Rattle.ubi_detect.specs.declared.detect.Undetected.TheVariants as unknown
-use Rattle.ubi_json.specs.Told.{told_of, told_text, undetected_told}
 
 pub refusals : (c : Refusal) → refusal_text c ≡ told_text (told_of c)
 refusals cause.Length = refl

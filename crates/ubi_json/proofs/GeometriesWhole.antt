@@ -1,12 +1,5 @@
 -- What is told of geometries has no float, and nests little.
-use Rattle.std.proofs.Common.{◌≡◌, ◌+◌, ◌^◌, ◌≤◌, Bool, List, [], ◌∷◌, arith, cond, false, map, nat_lt, refl, true, ℕ}
-use Rattle.std.specs.Prelude.{decimal}
-use Rattle.serde_json.specs.Data.{depth, items_depth, number, string, unsigned}
-use Rattle.serde_json.specs.View.{items_of}
-use Rattle.serde_json.specs.Written.{has_float, items_have_float}
-use Rattle.ubi_detect.specs.declared.detect.Detected.{Detected}
-use Rattle.ubi_files.specs.declared.view.FilePart.{FilePart}
-use Rattle.ubi_json.specs.Geometry.{detected_data, geometries_data, place_data}
+use Rattle.ubi_json.proofs.Prelude.{◌≡◌, ◌+◌, ◌^◌, ◌≤◌, Bool, List, [], ◌∷◌, arith, cond, false, map, nat_lt, refl, true, ℕ, decimal, depth, items_depth, number, string, unsigned, items_of, has_float, items_have_float, Detected, FilePart, detected_data, geometries_data, place_data}
 
 either_whole : (b : Bool) (n : ℕ) → has_float (cond b (number (unsigned n)) (string (decimal n))) ≡ false
 either_whole true n = refl

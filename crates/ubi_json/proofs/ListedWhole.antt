@@ -1,17 +1,6 @@
 -- What is listed has no float, and nests little.
-use Rattle.std.proofs.Common.{◌≡◌, ◌≤◌, List, [], ◌∷◌, arith, false, map, refl}
-use Rattle.serde_json.specs.Data.{depth, items_depth}
-use Rattle.serde_json.specs.View.{items_of}
-use Rattle.serde_json.specs.Written.{has_float, items_have_float}
-use Rattle.ubi_media.specs.Geometry.{Sizes}
-use Rattle.ubi_media.specs.declared.record.VolumeRecord.{VolumeRecord}
-use Rattle.ubi_volume.specs.declared.block.Amount.{Amount}
+use Rattle.ubi_json.proofs.Prelude.{◌≡◌, ◌≤◌, List, [], ◌∷◌, arith, false, map, refl, depth, items_depth, items_of, has_float, items_have_float, Sizes, VolumeRecord, Amount, listed_data, record_members, volume_data, with_amount, ListedVolume, ℕ, members_depth, members_have_float}
 use Rattle.ubi_volume.specs.declared.block.Amount.TheVariants as amount
-use Rattle.ubi_json.specs.List.{listed_data, record_members, volume_data, with_amount}
-use Rattle.ubi_json.specs.declared.list.ListedVolume.{ListedVolume}
-use Rattle.std.proofs.Common.{ℕ}
-use Rattle.serde_json.specs.Data.{members_depth}
-use Rattle.serde_json.specs.Written.{members_have_float}
 
 volume_whole : (s : Sizes) (id : ℕ) (r : VolumeRecord) (a : Amount) → members_have_float (with_amount a (record_members s id r)) ≡ false
 volume_whole s id r amount.Updating = refl

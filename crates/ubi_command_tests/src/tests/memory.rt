@@ -9,7 +9,9 @@ use super::fake::{Broken, FakeFiles, Left};
 use super::geometry::SMALL;
 use super::opened::opens_right;
 use super::rename::LINES;
-use super::shown::{CHANGED, ROOT_CHECKED, ROOT_LISTED, ROOT_SHOWN};
+use super::shown::{
+    CHANGED, ROOT_CHECKED, ROOT_COUNTS, ROOT_LISTED, ROOT_SHOWN, ROOT_VOLUMES, SMALL_OBJECT,
+};
 use std::alloc::{AllocError, Global};
 use std::process::Abort;
 use std::test::Fail;
@@ -142,8 +144,21 @@ fn tells_all_or_runs_out_of_memory(rt: HostRuntime) -> Result<(), Fail> {
 }
 
 /// The words of a command, how many bytes of the image they are over, what is answered, and how many bytes are written.
-static WORDS: [(&str, usize, &str, usize); 10] = [
+static WORDS: [(&str, usize, &str, usize); 13] = [
     ("geometry a", 2560, SMALL, 0),
+    ("geometry a --format json", 2560, SMALL_OBJECT, 0),
+    (
+        "check a --format json --peb 512 --page 64",
+        2560,
+        ROOT_COUNTS,
+        0,
+    ),
+    (
+        "list a --format json --peb 512 --page 64 --pebs 32",
+        2560,
+        ROOT_VOLUMES,
+        0,
+    ),
     ("list a --peb 512 --page 64 --pebs 32", 2560, ROOT_LISTED, 0),
     ("show a --block 4 --peb 512 --page 64", 2560, ROOT_SHOWN, 0),
     (

@@ -22,7 +22,7 @@ returns-in-AtPlaces-clause-unread g c =
     let dump = c.args.known.dump in
     let d = g.D.Disk.files c.args.disk.now in
     let h = rw (c.in_ok-frame.ensures.dump, c.in-AtPlaces.is) at c.in_ok-file.ensures.opened in
-    tells_less c.done_over.result _ _ (λ o line. no_read d dump c.args.image.now o h.1 line) c.done_over.ensures.unread
+    tells_less c.done_over.result _ _ (λ o failed. no_read d dump c.args.image.now o h.1 failed.1) c.done_over.ensures.unread
 
 pub returns-clause-answer : goal.returns-clause-answer
 returns-clause-answer g c =
@@ -39,5 +39,5 @@ returns-clause-unread g c =
     let dump = c.args.known.dump in
     let d = g.D.Disk.files c.args.disk.now in
     let h = rw (c.in_ok-frame.ensures.dump, c.in-Whole.is) at c.in_ok-file.ensures.opened in
-    tells_less c.done_over-in-Whole.result _ _ (λ o line. no_read d dump c.args.image.now o h.1.limits line)
+    tells_less c.done_over-in-Whole.result _ _ (λ o failed. no_read d dump c.args.image.now o h.1.limits failed.1)
     c.done_over-in-Whole.ensures.unread

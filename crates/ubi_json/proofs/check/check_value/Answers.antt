@@ -1,7 +1,4 @@
-use Rattle.std.proofs.Common.{◌≡◌, ap, ◌∙◌, refl}
-use Rattle.std.proofs.lemmas.Result.{IfOk-weaker}
-use Rattle.serde_json.specs.View.{view}
-use Rattle.ubi_json.specs.Check.{states_data}
+use Rattle.ubi_json.proofs.Prelude.{◌≡◌, ap, ◌∙◌, refl, IfOk-weaker, view, states_data}
 use Rattle.ubi_json.proofs.check.check_value.Goals as goal
 
 pub returns : goal.returns

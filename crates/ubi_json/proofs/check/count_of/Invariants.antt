@@ -1,6 +1,4 @@
-use Rattle.std.proofs.Common.{◌≡◌, take}
-use Rattle.std.specs.Prelude.{count_by}
-use Rattle.ubi_json.specs.Words.{same_state}
+use Rattle.ubi_json.proofs.Prelude.{◌≡◌, take, count_by, same_state}
 use Rattle.ubi_json.proofs.check.count_of.Given as goal
 
 abbrev pub invariant-loop-state : goal.invariant-loop-state

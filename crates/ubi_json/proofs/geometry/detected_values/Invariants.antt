@@ -1,6 +1,4 @@
-use Rattle.std.proofs.Common.{◌≡◌, map, take}
-use Rattle.serde_json.specs.View.{view}
-use Rattle.ubi_json.specs.Geometry.{detected_data}
+use Rattle.ubi_json.proofs.Prelude.{◌≡◌, map, take, view, detected_data}
 use Rattle.ubi_json.proofs.geometry.detected_values.Given as goal
 
 abbrev pub invariant-loop-told : goal.invariant-loop-told

@@ -1,6 +1,4 @@
-use Rattle.std.proofs.Common.{◌≡◌, ◌≤◌, false, subst, sym}
-use Rattle.serde_json.specs.Data.{Data, depth}
-use Rattle.serde_json.specs.Written.{has_float}
+use Rattle.ubi_json.proofs.Prelude.{◌≡◌, ◌≤◌, false, subst, sym, Data, depth, has_float}
 use Rattle.ubi_json.proofs.GeometriesWhole.{geometries_flat, geometries_whole}
 use Rattle.ubi_json.proofs.geometry.geometry_line.Goals as goal
 

@@ -1,6 +1,4 @@
-use Rattle.std.proofs.Common.{◌≡◌, ◌≤◌, sym, subst, false}
-use Rattle.serde_json.specs.Data.{Data, depth}
-use Rattle.serde_json.specs.Written.{has_float}
+use Rattle.ubi_json.proofs.Prelude.{◌≡◌, ◌≤◌, sym, subst, false, Data, depth, has_float}
 use Rattle.ubi_json.proofs.ListedWhole.{listed_flat, listed_whole}
 use Rattle.ubi_json.proofs.list.list_line.Goals as goal
 

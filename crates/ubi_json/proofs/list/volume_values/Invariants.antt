@@ -1,6 +1,4 @@
-use Rattle.std.proofs.Common.{◌≡◌, map, take}
-use Rattle.serde_json.specs.View.{view}
-use Rattle.ubi_json.specs.List.{volume_data}
+use Rattle.ubi_json.proofs.Prelude.{◌≡◌, map, take, view, volume_data}
 use Rattle.ubi_json.proofs.list.volume_values.Given as goal
 
 abbrev pub invariant-loop-volume : goal.invariant-loop-volume

@@ -1,5 +1,4 @@
-use Rattle.std.proofs.Common.{◌≡◌, take, string_bytes}
-use Rattle.ubi_json.specs.Words.{shown}
+use Rattle.ubi_json.proofs.Prelude.{◌≡◌, take, string_bytes, shown}
 use Rattle.ubi_json.proofs.shown.shown_text.Given as goal
 
 abbrev pub invariant-loop-byte : goal.invariant-loop-byte

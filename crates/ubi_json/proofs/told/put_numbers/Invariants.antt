@@ -1,6 +1,4 @@
-use Rattle.std.proofs.Common.{◌≡◌, map, take}
-use Rattle.serde_json.specs.View.{members_view}
-use Rattle.ubi_json.specs.Told.{with_numbers}
+use Rattle.ubi_json.proofs.Prelude.{◌≡◌, map, take, members_view, with_numbers}
 use Rattle.ubi_json.proofs.told.put_numbers.Given as goal
 
 abbrev pub invariant-loop-word : goal.invariant-loop-word
