@@ -16,6 +16,7 @@ mod files;
 mod folder_configs;
 mod found;
 mod geometry;
+mod json;
 mod large;
 mod lines;
 mod list;

@@ -1,6 +1,5 @@
 -- Each volume of a built image reads the file that its section names.
-use Rattle.ubi_commands.proofs.Prelude.{◌≡◌, ℕ, ◌+◌, ◌*◌, ◌≤◌, List, [], ◌∷◌, ◌++◌, drop, length, map, take, zero, suc, ap, arith, refl, subst, sym, ◌∙◌, drop-append-add, length-append, take-append-le, take_all, get_or_from_slice_get, same_Some, slice_get_within, Appends, AllByRecursion, cons_option, option_map_or, IfSome, IsSome, MatchOption, Ok, Option, if◌then◌else◌, option_map, sum_by, unwrap_or, Sizes, usable, image_of, known_by, Accepts, Meant, read_volume, All, Wrote, sections_of, record_in, Section, image_built, Parts, Reaches, text_of, text_read, composed, Part, built_reads, built_accepted, all_from, AreGathered, ArePartsOf, HaveImage, IsNoVolume, IsSized, Sized, built, faulty, gathered, image_path, image_paths, len_of, no_image, no_path, no_record, numbered, part_at, ungathered, unwritten, AreTold, BuildReads, ReadsItsFile, file_of, Files, Holds, fresh, row_bytes, Outcome, sum_cons}
-use Rattle.std.specs.Prelude.{None}
+use Rattle.ubi_commands.proofs.Prelude.{◌≡◌, ℕ, ◌+◌, ◌*◌, ◌≤◌, List, [], ◌∷◌, ◌++◌, drop, length, map, take, zero, suc, ap, arith, refl, subst, sym, ◌∙◌, drop-append-add, length-append, take-append-le, take_all, get_or_from_slice_get, same_Some, slice_get_within, Appends, AllByRecursion, cons_option, option_map_or, IfSome, IsSome, MatchOption, Ok, Option, if◌then◌else◌, option_map, sum_by, unwrap_or, Sizes, usable, image_of, known_by, Accepts, Meant, read_volume, All, Wrote, sections_of, record_in, Section, image_built, Parts, Reaches, text_of, text_read, composed, Part, built_reads, built_accepted, all_from, AreGathered, ArePartsOf, HaveImage, IsNoVolume, IsSized, Sized, built, faulty, gathered, image_path, image_paths, len_of, no_image, no_path, no_record, numbered, part_at, ungathered, unwritten, AreTold, BuildReads, ReadsItsFile, file_of, Files, Holds, fresh, row_bytes, Outcome, sum_cons, None}
 use Rattle.std.proofs.lemmas.List.{append_assoc}
 use Rattle.std.specs.Prelude.{Some, true}
 use Rattle.ubi_compose.specs.Built.{built as meant}

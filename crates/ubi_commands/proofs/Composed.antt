@@ -2,6 +2,7 @@
 use Rattle.ubi_commands.proofs.Prelude.{◌≡◌, ℕ, List, Some, ap, sym, subst, ◌∙◌, arith, Ok, option_map, same_Some, Sizes, Image, image_of, Accepts, Meant, MeaningCause, one_first, Accepts-unique, never_accepted_and_refused, volumes_of, ComesTo, SpecCause, Answer, Gives, says, Composes, ComposesOf, crowded, fits, meaning_line, spec_line, unmade, unread, Lists, list_lines, Outcome}
 use Rattle.ubi_commands.specs.Compose.{described}
 use Rattle.ubi_commands.specs.List.{accepted, refused}
+use Rattle.ubi_commands.specs.declared.format.Format.TheVariants as way
 
 same_sizes : (s z : Sizes) (bytes : List ℕ) → s ≡ z → ◌≡◌ {A = Image} (image_of s bytes) (image_of z bytes)
 same_sizes s z bytes e = ap (λ (t : Sizes). record { sizes = t; bytes = bytes }) e
@@ -14,7 +15,7 @@ file_accepted m spares o bytes (fits room a gives) e = subst (λ b. Accepts (ima
     (search (sym gives.file ∙ e)) a
 file_accepted m spares o bytes (crowded many gives) e = absurd (let h = sym gives.file ∙ e in cc)
 
-listed : (image : Image) (m : Meant) (p : Outcome) → Accepts image m → Lists image p → Gives p (says (list_lines m) 0)
+listed : (image : Image) (m : Meant) (p : Outcome) → Accepts image m → Lists way.Text image p → Gives p (says (list_lines m) 0)
 listed image m p a (accepted n b gives) = subst (λ k. Gives p (says (list_lines k) 0))
     (Accepts-unique image n m b a) gives
 listed image m p a (refused c b gives) = absurd (never_accepted_and_refused image m c a b)
@@ -53,7 +54,7 @@ one_composed s text spares seq o p a (unmade c is h) (unmade b other k) g =
     one_text o p a _ g h (subst (λ (x : MeaningCause). Gives p (says (meaning_line x) 1)) (sym one) k)
 
 pub lists_composed : (s : Sizes) (text bytes : List ℕ) (spares seq : ℕ) (o p : Outcome)
-    → Composes s text spares seq o → option_map (λ v. v.items) o.file ≡ Some bytes → Lists (image_of s bytes) p
+    → Composes s text spares seq o → option_map (λ v. v.items) o.file ≡ Some bytes → Lists way.Text (image_of s bytes) p
     → (m : Meant) × ComesTo s seq text (Ok m) × Gives p (says (list_lines m) 0)
 lists_composed s text bytes spares seq o p (described m d of_m) e l =
     let sizes : m.sizes ≡ s = ap (λ k. k.sizes) d.2 in

@@ -1,16 +1,16 @@
 -- What is told of a part of a file, of whatever the source over it may hold.
-use Rattle.ubi_commands.proofs.Prelude.{List, ℕ, subst, sym, AreDetectedOf, IsDetectError, Agreed, IsSource, Source, Detected, Undetected, Gives, says, Detects, detected, options_lines, undetected, undetected_line, Outcome, FilePart}
+use Rattle.ubi_commands.proofs.Prelude.{List, ℕ, subst, sym, AreDetectedOf, IsDetectError, Agreed, IsSource, Source, Detected, Undetected, Gives, says, Detects, detected, undetected, Outcome, FilePart, undetected_told, geometry_told, Format}
 use Rattle.ubi_detect.specs.declared.detect.DetectError.TheVariants as error
 
-module _ (part : FilePart) (k : Source) (agrees : Agreed) (bytes : List ℕ) (holds : agrees bytes) (o : Outcome) where
+module _ (format : Format) (part : FilePart) (k : Source) (agrees : Agreed) (bytes : List ℕ) (holds : agrees bytes) (o : Outcome) where
   -- of bytes that it may hold the same is told
   pub of_found : IsSource k agrees → (found : List Detected) → AreDetectedOf agrees found
-      → Gives o (says (options_lines part k.size found) 0) → Detects part bytes o
+      → Gives o (says (geometry_told format part k.size found) 0) → Detects format part bytes o
   of_found sized found are lines =
       let size = sym (sized.sized bytes holds) in
-      detected found (are bytes holds) (subst (λ n. Gives o (says (options_lines part n found) 0)) size lines)
+      detected found (are bytes holds) (subst (λ n. Gives o (says (geometry_told format part n found) 0)) size lines)
 
   -- or the cause for which nothing is
-  pub of_cause : (c : Undetected) → IsDetectError k agrees (error.Undetected c) → Gives o (says (undetected_line c) 1)
-      → Detects part bytes o
+  pub of_cause : (c : Undetected) → IsDetectError k agrees (error.Undetected c) → Gives o (says (undetected_told format c) 1)
+      → Detects format part bytes o
   of_cause c stands line = undetected c (stands bytes holds) line

@@ -1,5 +1,6 @@
 -- The config of an accepted image's volumes is read as their sections.
-use Rattle.ubi_commands.proofs.Prelude.{◌≡◌, ℕ, ◌<◌, ◌^◌, ◌==◌, List, [], ◌∷◌, false, ap, arith, get_or, length, refl, subst, suc, sym, ◌∙◌, None, Option, Some, entries, Sizes, AreRecords, Records, ReadError, Listed, Result, all_described, Bool, Less, cond, map, true, nat_cmp-IsAntisymmetric, nat_tests, nat_cmp_total, ranked, All-map, AllByRecursion, IsDistinct, option_map_or, nat_cmp, written_reads, AreVolumes, same_bytes, IsGeometry, slots, rising_at, few_kept, entries_kept, AreKept, first_named, twice, records_are, records_of, volume_len, FolderConfigReads, described, listed}
+use Rattle.ubi_commands.proofs.Prelude.{◌≡◌, ℕ, ◌<◌, ◌^◌, ◌==◌, List, [], ◌∷◌, false, ap, arith, get_or, length, refl, subst, suc, sym, ◌∙◌, Option, Some, entries, Sizes, AreRecords, Records, ReadError, Listed, Result, all_described, Bool, Less, cond, map, true, nat_cmp-IsAntisymmetric, nat_tests, nat_cmp_total, ranked, All-map, AllByRecursion, IsDistinct, option_map_or, nat_cmp, written_reads, AreVolumes, same_bytes, IsGeometry, slots, rising_at, few_kept, entries_kept, AreKept, first_named, twice, records_are, records_of, volume_len, FolderConfigReads, described, listed}
+use Rattle.std.proofs.Common.{None}
 use Rattle.std.specs.FinMap as finite
 use Rattle.std.specs.Prelude.{All}
 use Rattle.ubi_commands.proofs.FolderConfigs.{sound_described}

@@ -1,5 +1,6 @@
 -- The lines of what is told of files, and of why nothing is, on literals.
-use Rattle.ubi_commands.proofs.Prelude.{◌≡◌, [], ◌∷◌, Some, refl, digits, Sizes, first_broken, options, options_lines, sizes_options, undetected_line, greatest, whole_file, None}
+use Rattle.ubi_commands.proofs.Prelude.{◌≡◌, [], ◌∷◌, Some, refl, digits, Sizes, first_broken, options, options_lines, sizes_options, undetected_line, greatest, whole_file}
+use Rattle.std.proofs.Common.{None}
 use Rattle.std.proofs.Common.{codes}
 use Rattle.ubi_detect.specs.declared.detect.Undetected.TheVariants as cause
 use Rattle.ubi_files.specs.Numbers as numbers

@@ -1,6 +1,8 @@
 -- What the words of a request say: the volume that they name, what they list as bad, and what they keep.
-use Rattle.ubi_commands.proofs.Prelude.{◌≡◌, ◌∙◌, ◌&&◌, ◌||◌, Bool, List, Some, ap, ap₂, false, not, refl, subst, sym, true, true≢false, ℕ, Bor, ForSome, same_Some, find, is_some, option_and_then, option_map, slice_get, bytes_eq, without_leading_plus, Row, Text, first_of, one_of, is_block_list, Asks, AsksAsked, AsksBlank, AsksDump, AsksKey, AsksPlan, HasNumber, HasText, IsRequest, MayHaveText, command_name, gives, gives_no_geometry, HasOneVolume, Mean, finds, plans, reads_dump, Asked, Dump, Plan, Request, VolumeKey, reading_command, None}
-use Rattle.std.proofs.Common.{Option, codes}
+use Rattle.ubi_commands.proofs.Prelude.{◌≡◌, ◌∙◌, ◌&&◌, ◌||◌, Bool, List, Some, ap, ap₂, false, not, refl, subst, sym, true, true≢false, ℕ, Bor, ForSome, same_Some, find, is_some, option_and_then, option_map, slice_get, bytes_eq, without_leading_plus, Row, Text, first_of, one_of, is_block_list, Asks, AsksAsked, AsksBlank, AsksDump, AsksKey, AsksPlan, HasNumber, HasText, IsRequest, MayHaveText, command_name, gives, gives_no_geometry, HasOneVolume, Mean, finds, plans, reads_dump, Asked, Dump, Plan, Request, VolumeKey, reading_command, inl, inr, ◌⊎◌, AsksFormat, format_word, formats, Format}
+use Rattle.std.proofs.Common.{None}
+use Rattle.std.proofs.Common.{Option, codes, unwrap_or}
+use Rattle.ubi_commands.specs.declared.format.Format.TheVariants as told
 use Rattle.ubi_commands.specs.declared.asked.Asked.TheVariants as way
 use Rattle.ubi_commands.specs.declared.readers.Reading.TheVariants as reading
 use Rattle.ubi_commands.specs.declared.requests.Request.TheVariants as request
@@ -74,7 +76,7 @@ request_names_one named r asked words is = go r asked.1 asked.2
         → is_some (first_of (codes "name") words) ≡ not (is_some (first_of (codes "id") words))
     go (request.Extract n x) at asks =
         rw (← (same (request.Extract n x) at).1) (one_volume asked.0 x.key asks.1.1)
-    go (request.Tell d image reading.List) at asks = absurd (apart _ _ refl (same (request.Tell d image reading.List) at).0)
+    go (request.Tell d image (reading.List format)) at asks = absurd (apart _ _ refl (same (request.Tell d image (reading.List format)) at).0)
     go q at asks = absurd (apart _ _ refl (same q at).0)
 
 -- what the words of a request list as bad is a list
@@ -103,6 +105,15 @@ blank_given : (rows : List Row) (keeps : Bool) → AsksBlank rows keeps → ForS
 blank_given rows true is word at = same_Some word (codes "keep") (sym at ∙ is)
 blank_given rows false is word at = absurd (let none : Some word ≡ None = sym at ∙ is in cc)
 
+-- and what they name as a format is one
+format_given : (rows : List Row) (f : Format) → AsksFormat rows f
+    → ForSome (first_of (codes "format") rows) (λ word. (word ≡ codes "text") ⊎ (word ≡ codes "json"))
+format_given rows f is word at = by f (ap (λ (o : Option Text). unwrap_or o (codes "text")) (sym at) ∙ is)
+  where
+    by : (f : Format) → word ≡ format_word f → (word ≡ codes "text") ⊎ (word ≡ codes "json")
+    by told.Text e = inl e
+    by told.Json e = inr e
+
 -- a request that is named is what its words say
 pub request_means : (named : Option (Text × List Row)) (r : Request) → IsRequest named r → Mean named
 request_means named r asked = record {
@@ -110,6 +121,7 @@ request_means named r asked = record {
   list = λ name words is dumps. lists r asked.1 asked.2 name words is dumps;
   blank = λ name words is planned. keeps r asked.1 asked.2 name words is planned;
   geometry = λ name words is found. sizes r asked.1 asked.2 name words is found;
+  format = λ name words is holds. tells r asked.1 asked.2 name words is holds;
 }
   where
     same : (a : Text) (rows : List Row) → named ≡ Some (a, rows) → (name : Text) (words : List Row) → named ≡ Some (name, words)
@@ -175,6 +187,23 @@ request_means named r asked = record {
     keeps (request.Rename d rename) at asks name words is holds = kept (codes "rename") rename.plan at asks.1.0 name words is
     keeps (request.Tell d image (reading.Show block)) at asks name words is holds = other plans (codes "show") refl at name words is holds
     keeps _ at asks name words is holds = other plans _ refl at name words is holds
+
+    in_format : (a : Text) (f : Format) → named ≡ Some (a, asked.0) → AsksFormat asked.0 f → (name : Text) (words : List Row)
+        → named ≡ Some (name, words)
+        → ForSome (first_of (codes "format") words) (λ word. (word ≡ codes "text") ⊎ (word ≡ codes "json"))
+    in_format a f at asks name words is =
+        subst (λ (rows : List Row). ForSome (first_of (codes "format") rows) (λ word. (word ≡ codes "text") ⊎ (word ≡ codes "json")))
+        (same a asked.0 at name words is).1 (format_given asked.0 f asks)
+
+    tells : (q : Request) → named ≡ Some (command_name q, asked.0) → Asks asked.0 q → (name : Text) (words : List Row)
+        → named ≡ Some (name, words) → formats name ≡ true
+        → ForSome (first_of (codes "format") words) (λ word. (word ≡ codes "text") ⊎ (word ≡ codes "json"))
+    tells (request.Geometry part image f) at asks name words is holds = in_format (codes "geometry") f at asks.2 name words is
+    tells (request.Tell d image (reading.List f)) at asks name words is holds = in_format (codes "list") f at asks.2 name words is
+    tells (request.Tell d image (reading.Check f)) at asks name words is holds = in_format (codes "check") f at asks.2 name words is
+    tells (request.Tell d image (reading.Geometry part f)) at asks name words is holds = absurd asks.2
+    tells (request.Tell d image (reading.Show block)) at asks name words is holds = other formats (codes "show") refl at name words is holds
+    tells _ at asks name words is holds = other formats _ refl at name words is holds
 
 -- words that name just one volume name it by a number or by a text
 module _ (rows : List Row) (each : EachRow rows) where

@@ -15,6 +15,7 @@ pub mod GatheredParts
 pub mod GeometryVectors
 pub mod GivenKey
 pub mod GivenWords
+pub mod InFormat
 pub mod Into
 pub mod KeptPart
 pub mod Lacking

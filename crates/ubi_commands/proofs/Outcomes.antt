@@ -1,5 +1,6 @@
 -- What outcomes tell.
-use Rattle.ubi_commands.proofs.Prelude.{◌≡◌, ℕ, ◌≤◌, ◌∙◌, List, Some, ap, length, refl, subst, sym, Appends, ForSome, IsSome, MatchResult, Ok, Err, Option, Result, IfOk, option_map, AllocError, Global, Vec, Sizes, first_broken, Meant, HasRoom, ComesTo, Composes, ComposesInto, ComposesOf, crowded, fits, unmade, unread, sizes_of, WritesFile, OfText, Tells, text_limit, Files, Holds, IsKept, IsTextOf, OthersStay, Receives, fresh, contents_of, Unread, Memory, Told, Numbers, Outcome, None}
+use Rattle.ubi_commands.proofs.Prelude.{◌≡◌, ℕ, ◌≤◌, ◌∙◌, List, Some, ap, length, refl, subst, sym, Appends, ForSome, IsSome, MatchResult, Ok, Err, Option, Result, IfOk, option_map, AllocError, Global, Vec, Sizes, first_broken, Meant, HasRoom, ComesTo, Composes, ComposesInto, ComposesOf, crowded, fits, unmade, unread, sizes_of, WritesFile, OfText, Tells, text_limit, Files, Holds, IsKept, IsTextOf, OthersStay, Receives, fresh, contents_of, Unread, Memory, Told, Numbers, Outcome}
+use Rattle.std.proofs.Common.{None}
 use Rattle.ubi_commands.specs.Compose.{described}
 use Rattle.ubi_commands.specs.Compose as compose
 use Rattle.ubi_commands.specs.Program as program

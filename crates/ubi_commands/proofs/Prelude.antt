@@ -1,5 +1,5 @@
 -- The names that the proofs of this crate speak of, and where they come from.
-pub use Rattle.std.proofs.Common.{Bool, Less, List, None, Some, [], ap, append-nil, append_assoc, ap₂, arith, cond, drop, false, get_or, inl, inr, length, lit<, lit≤, map, not, refl, string_bytes, subst, suc, sym, take, true, true≢false, vec_items, zero, zero-add, ℕ, ◌&&◌, ◌*◌, ◌++◌, ◌+◌, ◌-◌, ◌/◌, ◌<◌, ◌==◌, ◌^◌, ◌||◌, ◌↔◌, ◌∙◌, ◌∷◌, ◌≡◌, ◌≢◌, ◌≤◌, ◌⊎◌}
+pub use Rattle.std.proofs.Common.{Bool, Less, List, Some, [], ap, append-nil, append_assoc, ap₂, arith, cond, drop, false, get_or, inl, inr, length, lit<, lit≤, map, not, refl, string_bytes, subst, suc, sym, take, true, true≢false, vec_items, zero, zero-add, ℕ, ◌&&◌, ◌*◌, ◌++◌, ◌+◌, ◌-◌, ◌/◌, ◌<◌, ◌==◌, ◌^◌, ◌||◌, ◌↔◌, ◌∙◌, ◌∷◌, ◌≡◌, ◌≢◌, ◌≤◌, ◌⊎◌}
 pub use Rattle.std.proofs.KnownBytes.{Keeps-refl}
 pub use Rattle.std.proofs.Math.Nat.{mod-add-div', mul-le-mul_right}
 pub use Rattle.std.proofs.Math.Seq.{drop-append-add}
@@ -9,7 +9,7 @@ pub use Rattle.std.proofs.lemmas.Cmp.{nat_cmp_total, ranked}
 pub use Rattle.std.proofs.lemmas.Grind.{common_steps, flat_map-append}
 pub use Rattle.std.proofs.lemmas.Int.{ints}
 pub use Rattle.std.proofs.lemmas.List.{drop-drop, drop-take, length-append, length-drop, length-take, map-append, take-append-le, take-take, take_all, take_more}
-pub use Rattle.std.proofs.lemmas.List.Elements.{All-map, filter_map-append}
+pub use Rattle.std.proofs.lemmas.List.Elements.{All-append, All-map, filter_map-append}
 pub use Rattle.std.proofs.lemmas.List.Folds.{list_all_more}
 pub use Rattle.std.proofs.lemmas.List.FromFn.{length-range_with_len}
 pub use Rattle.std.proofs.lemmas.List.Sums.{fold_more, prefix_len-le-length, sum_by-append}
@@ -27,7 +27,7 @@ unfoldable pub use Rattle.std.specs.List.{IsDistinct}
 pub use Rattle.std.specs.Option.{ForSome, IsSomeAnd, option_map_or}
 pub use Rattle.std.specs.Ordering.{nat_cmp}
 unfoldable pub use Rattle.std.specs.Path.{path_with_file_name}
-pub use Rattle.std.specs.Prelude.{Contains, Err, IfErr, IfOk, IfSome, IsErr, IsOk, IsSome, MatchOption, MatchResult, Ok, OnErr, OnOk, Option, Result, codes, count_by, decimal, fold, if◌then◌else◌, is_ok, is_some, nat_lt, option_and_then, option_map, pos, slice_get, slice_index_or, sum_by, unwrap_or}
+pub use Rattle.std.specs.Prelude.{Contains, Err, IfErr, IfOk, IfSome, IsErr, IsOk, IsSome, MatchOption, MatchResult, None, Ok, OnErr, OnOk, Option, Result, codes, decimal, fold, if◌then◌else◌, is_ok, is_some, nat_lt, option_and_then, option_map, pos, slice_get, slice_index_or, sum_by, unwrap_or}
 pub use Rattle.std.specs.Result.{result_map_both}
 pub use Rattle.std.specs.Str.{bytes_eq}
 unfoldable pub use Rattle.std.specs.Str.{chars}
@@ -137,6 +137,9 @@ pub use Rattle.ubi_files.specs.declared.outcome.Outcome.{Outcome}
 pub use Rattle.ubi_files.specs.declared.outcome.SidesError.{SidesError}
 pub use Rattle.ubi_files.specs.declared.outcome.ToolError.{ToolError}
 pub use Rattle.ubi_files.specs.declared.view.FilePart.{FilePart}
+pub use Rattle.ubi_json.specs.Line.{json_line}
+pub use Rattle.ubi_json.specs.List.{list_data, listed_data, listed_volume}
+pub use Rattle.ubi_json.specs.declared.list.ListedVolume.{ListedVolume}
 pub use Rattle.ubi_media.specs.Fields.{same_bytes}
 pub use Rattle.ubi_media.specs.Geometry.{IsGeometry, Sizes, slots}
 unfoldable pub use Rattle.ubi_media.specs.Limits.{first_broken}
@@ -183,30 +186,32 @@ pub use Rattle.ubi_volume.specs.declared.places.PlaceContent.{PlaceContent}
 pub use Rattle.ubi_commands.specs.Build.{AreBesideOut, AreGathered, ArePartsOf, Builds, BuildsParts, HaveImage, IsNoVolume, IsSized, IsUngathered, IsUnreadLine, Sized, built, faulty, gathered, image_path, image_paths, len_of, no_image, no_path, no_record, numbered, part_at, ungathered, unwritten}
 pub use Rattle.ubi_commands.specs.BuildLaws.{AreTold, BuildReads, ReadsItsFile, file_of}
 pub use Rattle.ubi_commands.specs.Change.{Changes, ChangesFrom, CutMeans, HasPlan, IsChangeFault, not_blank_from, unplanned_from}
-pub use Rattle.ubi_commands.specs.Check.{same_state, state_line, surveyed, unsurveyed}
+pub use Rattle.ubi_commands.specs.Check.{state_line, surveyed, unsurveyed}
 unfoldable pub use Rattle.ubi_commands.specs.Check.{printed_states}
-pub use Rattle.ubi_commands.specs.CommandLine.{AsksAsked, AsksBlank, AsksChange, AsksDump, AsksExtract, AsksKey, AsksNewImage, AsksNumbers, AsksPart, AsksPaths, AsksPlan, AsksRename, HasBelow, HasNumber, HasText, MayHaveBelow, MayHaveLong, MayHaveNumber, MayHaveText, gives, gives_no_geometry}
+pub use Rattle.ubi_commands.specs.CommandLine.{AsksAsked, AsksBlank, AsksChange, AsksDump, AsksExtract, AsksFormat, AsksKey, AsksNewImage, AsksNumbers, AsksPart, AsksPaths, AsksPlan, AsksRename, HasBelow, HasNumber, HasText, MayHaveBelow, MayHaveLong, MayHaveNumber, MayHaveText, gives, gives_no_geometry}
 pub use Rattle.ubi_commands.specs.Commands.{Asks, IsAllElse, IsAnswer, IsAnswerTo, IsRequest, Takes, command_name, reading_command, wrong_words}
 unfoldable pub use Rattle.ubi_commands.specs.Commands.{tool}
 pub use Rattle.ubi_commands.specs.Comparisons.{compared, compared_from, left_refused, left_refused_from, right_refused, right_refused_from}
 pub use Rattle.ubi_commands.specs.Compose.{Composes, ComposesInto, ComposesOf, crowded, fits, meaning_line, spec_line, unmade, unread}
 pub use Rattle.ubi_commands.specs.Extract.{Extracts, HasTextIn, IsExtractError, ReadsVolume, accepted, read, read_key, refused_from, unread_from, wrote}
 pub use Rattle.ubi_commands.specs.FolderLaws.{FolderConfigReads}
-pub use Rattle.ubi_commands.specs.Geometry.{Detects, detected, detected_from, options_lines, undetected, undetected_from}
+pub use Rattle.ubi_commands.specs.Formats.{format_word, undetected_told}
+pub use Rattle.ubi_commands.specs.Geometry.{Detects, detected, detected_from, geometry_told, options_lines, undetected, undetected_from}
 unfoldable pub use Rattle.ubi_commands.specs.Geometry.{options, sizes_options}
+pub use Rattle.ubi_commands.specs.InFormat.{IsUnreadOfAsked, OfAskedIn, OfFileIn, OfRead, OfReadAsked, failed}
 pub use Rattle.ubi_commands.specs.Key.{number_in}
 pub use Rattle.ubi_commands.specs.Lines.{blocks_line, bytes_line, no_block_line, undetected_line}
 unfoldable pub use Rattle.ubi_commands.specs.Lines.{layout_words}
-pub use Rattle.ubi_commands.specs.List.{Lists, list_lines, record_line, shown, unlisted, volume_line}
+pub use Rattle.ubi_commands.specs.List.{Lists, list_lines, record_line, unlisted, volume_line}
 unfoldable pub use Rattle.ubi_commands.specs.List.{room_words, sizes_line}
 pub use Rattle.ubi_commands.specs.Normalise.{HasMeaning, IsNormaliseError, Normalises, wrote_nothing}
 pub use Rattle.ubi_commands.specs.PageLaws.{AreOfFirst, LeastTold}
 pub use Rattle.ubi_commands.specs.Plan.{CutAccepts, IsCarryFault, cut_bytes, cut_text, plan_answer, plan_lines, step_line, steps_done}
-pub use Rattle.ubi_commands.specs.Program.{IsDump, IsToldFirst, OfText, TellsNothing, WritesInto, WritesPlan, alike, avoided, given, no_left, no_list, no_pages, no_right, no_text, of_dump, planned, text_limit, told, told_dump, unlike, untold, with_list, written}
-pub use Rattle.ubi_commands.specs.Reads.{reads}
+pub use Rattle.ubi_commands.specs.Program.{IsDump, IsToldFirst, OfAsked, OfText, TellsNothing, WritesInto, WritesPlan, alike, avoided, given, no_left, no_list, no_pages, no_right, no_text, of_dump, planned, text_limit, told, told_dump, unlike, untold, with_list, written}
+pub use Rattle.ubi_commands.specs.Reads.{format_of, reads}
 pub use Rattle.ubi_commands.specs.Rename.{CutIsNamed, HasRename, IsRenameFault, Renames, RenamesFrom, nameless_from}
-pub use Rattle.ubi_commands.specs.Show.{Shows, block_lines, no_block, no_block_from, no_size, shown_from}
-pub use Rattle.ubi_commands.specs.Tool.{HasOneVolume, Mean, finds, plans, reads_dump}
+pub use Rattle.ubi_commands.specs.Show.{Shows, block_lines, no_block, no_block_from, no_size, shown, shown_from}
+pub use Rattle.ubi_commands.specs.Tool.{HasOneVolume, Mean, finds, formats, plans, reads_dump}
 pub use Rattle.ubi_commands.specs.Unpack.{AreUnpacked, AreUnpackedUntil, IsUnpacked, IsWritten, Listed, Unpacks, UnpacksOf, all_described, config_path, described, file_byte, file_path, folder_config, listed, no_config, no_folder, unpacked, unpacked_line, unpacked_lines, unpacked_status}
 unfoldable pub use Rattle.ubi_commands.specs.Unpack.{file_name}
 pub use Rattle.ubi_commands.specs.declared.asked.Asked.{Asked}
@@ -220,6 +225,7 @@ pub use Rattle.ubi_commands.specs.declared.asked.Sought.{Sought}
 pub use Rattle.ubi_commands.specs.declared.build.Answers.{Answers}
 pub use Rattle.ubi_commands.specs.declared.command_line.Argument.{Argument}
 pub use Rattle.ubi_commands.specs.declared.command_line.CommandRow.{CommandRow}
+pub use Rattle.ubi_commands.specs.declared.format.Format.{Format}
 pub use Rattle.ubi_commands.specs.declared.requests.Request.{Request}
 pub use Rattle.ubi_commands.specs.declared.unpack.VolumeFile.{VolumeFile}
 pub use Rattle.ubi_commands.specs.declared.volume_key.VolumeKey.{VolumeKey}
@@ -230,6 +236,7 @@ pub use Rattle.ubi_commands.specs.inner.Ended.{IsEnded, IsToldOfSides, Works, an
 pub use Rattle.ubi_commands.specs.inner.Extracting.{HasFirst, IsExtractFault}
 pub use Rattle.ubi_commands.specs.inner.FileAnswers.{WritesFile, kept, lost}
 pub use Rattle.ubi_commands.specs.inner.Folder.{AreFilesOf, Ends, IsFileOf, config_in}
+pub use Rattle.ubi_commands.specs.inner.Formatted.{IsLineIn, IsToldIn, its_own, printed}
 pub use Rattle.ubi_commands.specs.inner.Gathering.{AreSoFar, AreUnread, IsFound, IsPartOf}
 pub use Rattle.ubi_commands.specs.inner.Planning.{AreCut, HasFile, IsCut, refused_file}
 pub use Rattle.ubi_commands.specs.inner.Writes.{HasWork, writes}

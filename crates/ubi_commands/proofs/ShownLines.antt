@@ -1,6 +1,6 @@
 -- What is shown of a source, of whatever it may hold.
-use Rattle.ubi_commands.proofs.Prelude.{◌≡◌, ℕ, ◌<◌, ◌≤◌, List, length, subst, sym, Sizes, Refusal, IsLengthFault, IsWholeSize, block, image_of, Agreed, IsSource, Source, blocks_in, blocks_of, count_blocks, Gives, says, no_block_line, refusal_line, Shows, block_lines, no_block, Outcome}
-use Rattle.ubi_commands.specs.Show.{no_image, shown}
+use Rattle.ubi_commands.proofs.Prelude.{◌≡◌, ℕ, ◌<◌, ◌≤◌, List, length, subst, sym, Sizes, Refusal, IsLengthFault, IsWholeSize, block, image_of, Agreed, IsSource, Source, blocks_in, blocks_of, count_blocks, Gives, says, no_block_line, refusal_line, Shows, block_lines, no_block, Outcome, shown}
+use Rattle.ubi_commands.specs.Show.{no_image}
 
 module _ (s : Sizes) (k : Source) (agrees : Agreed) (is : IsSource k agrees) (bytes : List ℕ) (holds : agrees bytes) (p : ℕ)
     (o : Outcome) where

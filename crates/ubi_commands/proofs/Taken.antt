@@ -1,6 +1,8 @@
 -- Words that the command line takes are a request.
-use Rattle.ubi_commands.proofs.Prelude.{◌≡◌, ◌∙◌, ◌&&◌, ◌||◌, ◌∷◌, [], Bool, List, Some, ap, cond, false, refl, sym, subst, true, true≢false, ℕ, Bor, then_some, ForSome, is_some, option_and_then, option_map, slice_get, unwrap_or, find, list_all, bytes_eq, same_Some, bytes_eq-Decides, fault_of, level_fault, Shape, argument_words, label_of, subcommand_of, Row, Text, answers_to, first_of, nothing_held, rows_after, both, is_block_list, Asks, AsksAsked, AsksBlank, AsksDump, AsksNewImage, AsksNumbers, AsksPart, AsksPaths, AsksPlan, IsRequest, HasNumber, HasText, MayHaveNumber, MayHaveText, command_name, gives, gives_no_geometry, Mean, Takes, finds, plans, reads_dump, tool, Asked, Change, Dump, Extract, NewImage, Paths, Plan, Rename, Request, Sought, Numbers, FilePart, None}
+use Rattle.ubi_commands.proofs.Prelude.{◌≡◌, ◌∙◌, ◌&&◌, ◌||◌, ◌∷◌, [], Bool, List, Some, ap, cond, false, refl, sym, subst, true, true≢false, ℕ, Bor, then_some, ForSome, is_some, option_and_then, option_map, slice_get, unwrap_or, find, list_all, bytes_eq, same_Some, bytes_eq-Decides, fault_of, level_fault, Shape, argument_words, label_of, subcommand_of, Row, Text, answers_to, first_of, nothing_held, rows_after, both, is_block_list, Asks, AsksAsked, AsksBlank, AsksDump, AsksNewImage, AsksNumbers, AsksPart, AsksPaths, AsksPlan, IsRequest, HasNumber, HasText, MayHaveNumber, MayHaveText, command_name, gives, gives_no_geometry, Mean, Takes, finds, plans, reads_dump, tool, Asked, Change, Dump, Extract, NewImage, Paths, Plan, Rename, Request, Sought, Numbers, FilePart, inl, inr, ◌⊎◌, AsksFormat, format_word, formats, Format}
+use Rattle.std.proofs.Common.{None}
 use Rattle.std.proofs.Common.{Option, codes}
+use Rattle.ubi_commands.specs.declared.format.Format.TheVariants as told
 use Rattle.clap.specs.Simple.{built}
 use Rattle.ubi_commands.specs.declared.asked.Asked.TheVariants as way
 use Rattle.ubi_commands.specs.declared.readers.Reading.TheVariants as reading
@@ -135,6 +137,14 @@ module _ (s : Shape) (rows : List Row) (given : AreGiven s rows) where
       go None each = (false, refl)
       go (Some word) each = (true, ap (λ (x : Text). Some x) (each word refl))
 
+  format : (name : Text) → formats name ≡ true → Mean (Some (name, rows)) → (f : Format) × AsksFormat rows f
+  format name tells mean = go (first_of (codes "format") rows) (mean.format name rows refl tells)
+    where
+      go : (o : Option Text) → ForSome o (λ word. (word ≡ codes "text") ⊎ (word ≡ codes "json"))
+          → (f : Format) × (unwrap_or o (codes "text") ≡ format_word f)
+      go None each = (told.Text, refl)
+      go (Some word) each = elim (each word refl) [ inl e ↦ (told.Text, e) | inr e ↦ (told.Json, e) ]
+
   plan : (name : Text) → plans name ≡ true → Mean (Some (name, rows)) → Needs s (codes "IMAGE") → Needs s (codes "out")
       → (p : Plan) × AsksPlan rows p
   plan name planned mean image out =
@@ -166,22 +176,25 @@ module _ (s : Shape) (rows : List Row) (given : AreGiven s rows) where
         (t.1, o.1, (spares.0, spares.1, refl), (seq.0, seq.1, refl)),
       )
 
-  geometry_asked : Needs s (codes "IMAGE") → IsAsked (codes "geometry") rows
-  geometry_asked image =
+  geometry_asked : Mean (Some (codes "geometry", rows)) → Needs s (codes "IMAGE") → IsAsked (codes "geometry") rows
+  geometry_asked mean image =
       let i = text (codes "IMAGE") image in
-      (request.Geometry part.0 i.0, refl, (part.1, i.1))
+      let f = format (codes "geometry") refl mean in
+      (request.Geometry part.0 i.0 f.0, refl, (part.1, i.1, f.1))
 
   list_asked : Mean (Some (codes "list", rows)) → Needs s (codes "IMAGE") → IsAsked (codes "list") rows
   list_asked mean image =
       let n = asked_dump (codes "list") refl refl mean in
       let i = text (codes "IMAGE") image in
-      (request.Tell n.0 i.0 reading.List, refl, (n.1, i.1, tt))
+      let f = format (codes "list") refl mean in
+      (request.Tell n.0 i.0 (reading.List f.0), refl, (n.1, i.1, f.1))
 
   check_asked : Mean (Some (codes "check", rows)) → Needs s (codes "IMAGE") → IsAsked (codes "check") rows
   check_asked mean image =
       let n = asked_dump (codes "check") refl refl mean in
       let i = text (codes "IMAGE") image in
-      (request.Tell n.0 i.0 reading.Check, refl, (n.1, i.1, tt))
+      let f = format (codes "check") refl mean in
+      (request.Tell n.0 i.0 (reading.Check f.0), refl, (n.1, i.1, f.1))
 
   show_asked : Mean (Some (codes "show", rows)) → Needs s (codes "IMAGE") → Needs s (codes "block")
       → IsAsked (codes "show") rows
@@ -319,7 +332,7 @@ help_asks s is alone name words named no_help fault mean =
 each_asks : EachAsks (built tool).subs
 unfolding tool
 each_asks =
-    also (asks_it _ refl refl refl (λ rows given mean. geometry_asked _ rows given refl))
+    also (asks_it _ refl refl refl (λ rows given mean. geometry_asked _ rows given mean refl))
     (also (asks_it _ refl refl refl (λ rows given mean. list_asked _ rows given mean refl))
     (also (asks_it _ refl refl refl (λ rows given mean. check_asked _ rows given mean refl))
     (also (asks_it _ refl refl refl (λ rows given mean. show_asked _ rows given mean refl refl))

@@ -1,5 +1,6 @@
 -- Which words the command line takes.
-use Rattle.ubi_commands.proofs.Prelude.{◌≡◌, ◌&&◌, ◌||◌, ◌∷◌, ◌∙◌, [], List, Some, ap, false, refl, subst, sym, true, true≢false, ForSome, same_Some, bytes_eq, fault_of, Row, Text, first_of, clap_on_literals, is_block_list, gives, gives_no_geometry, HasOneVolume, Mean, Takes, tool, None}
+use Rattle.ubi_commands.proofs.Prelude.{◌≡◌, ◌&&◌, ◌||◌, ◌∷◌, ◌∙◌, [], List, Some, ap, false, refl, subst, sym, true, true≢false, ForSome, same_Some, bytes_eq, fault_of, Row, Text, first_of, clap_on_literals, is_block_list, gives, gives_no_geometry, HasOneVolume, Mean, Takes, tool, inl, inr, ◌⊎◌}
+use Rattle.std.proofs.Common.{None}
 use Rattle.std.proofs.Common.{Option, codes}
 use Rattle.clap.specs.declared.error.kind.ErrorKind.TheVariants as kind
 use Rattle.ubi_commands.proofs.Lacking.{apart}
@@ -11,18 +12,21 @@ of_another named name rows is other behind same =
     let both : Some (name, rows) ≡ Some (codes "extract", behind) = sym is ∙ same in
     absurd (apart name (codes "extract") other (ap (λ (e : Text × List Row). e.0) (same_Some _ _ both)))
 
--- another command than `extract`, with a list of bad eraseblocks or none, with nothing but `keep` said of Blank ones, and with both
--- sizes or nothing of a geometry
+-- another command than `extract`, with a list of bad eraseblocks or none, with nothing but `keep` said of Blank ones, with the word of a
+-- format or none, and with both sizes or nothing of a geometry
 means : (name : Text) (rows : List Row) → bytes_eq name (codes "extract") ≡ false
     → ForSome (first_of (codes "bad") rows) (λ list. is_block_list list ≡ true)
     → ForSome (first_of (codes "blank") rows) (λ word. word ≡ codes "keep")
+    → ForSome (first_of (codes "format") rows) (λ word. (word ≡ codes "text") ⊎ (word ≡ codes "json"))
     → ((gives rows (codes "peb") && gives rows (codes "page")) || gives_no_geometry rows) ≡ true → Mean (Some (name, rows))
-means name rows other listed kept whole = record {
+means name rows other listed kept told whole = record {
   volume = of_another (Some (name, rows)) name rows refl other;
   list = λ named words is reads. subst (λ ws. ForSome (first_of (codes "bad") ws) (λ list. is_block_list list ≡ true)) (rows_of named words is) listed;
   blank = λ named words is plans. subst (λ ws. ForSome (first_of (codes "blank") ws) (λ word. word ≡ codes "keep")) (rows_of named words is) kept;
   geometry = λ named words is found.
       subst (λ ws. ((gives ws (codes "peb") && gives ws (codes "page")) || gives_no_geometry ws) ≡ true) (rows_of named words is) whole;
+  format = λ named words is tells.
+      subst (λ ws. ForSome (first_of (codes "format") ws) (λ word. (word ≡ codes "text") ⊎ (word ≡ codes "json"))) (rows_of named words is) told;
 }
   where
     rows_of : (named : Text) (words : List Row) → ◌≡◌ {A = Option (Text × List Row)} (Some (name, rows)) (Some (named, words)) → rows ≡ words
@@ -45,7 +49,7 @@ words behind = codes "ubi_tool" ∷ codes "list" ∷ codes "a.img" ∷ codes "--
 
 taken : Takes (words (codes "--page=64" ∷ []))
 unfolding clap_on_literals tool
-taken = (refl, means (codes "list") _ refl (not_given _ _ refl) (not_given _ _ refl) refl)
+taken = (refl, means (codes "list") _ refl (not_given _ _ refl) (not_given _ _ refl) (not_given _ _ refl) refl)
 
 -- a line of `extract`, with the options that name the volume
 abbrev extract_words : List Text → List Text
@@ -66,7 +70,7 @@ no_volume takes = let neither : false ≡ true = takes.1.volume _ refl in true�
 -- eraseblocks that are listed as bad, and a word that is no list
 bad_taken : Takes (words (codes "--page=64" ∷ codes "--bad=1,4-9" ∷ []))
 unfolding clap_on_literals tool
-bad_taken = (refl, means (codes "list") _ refl (given _ _ (codes "1,4-9") refl refl) (not_given _ _ refl) refl)
+bad_taken = (refl, means (codes "list") _ refl (given _ _ (codes "1,4-9") refl refl) (not_given _ _ refl) (not_given _ _ refl) refl)
 
 no_list : Takes (words (codes "--page=64" ∷ codes "--bad=3,,4" ∷ [])) → ⊥
 unfolding clap_on_literals tool
@@ -83,11 +87,11 @@ of_list behind = codes "ubi_tool" ∷ codes "list" ∷ codes "a.img" ∷ behind
 
 nothing_taken : Takes (of_list [])
 unfolding clap_on_literals tool
-nothing_taken = (refl, means (codes "list") _ refl (not_given _ _ refl) (not_given _ _ refl) refl)
+nothing_taken = (refl, means (codes "list") _ refl (not_given _ _ refl) (not_given _ _ refl) (not_given _ _ refl) refl)
 
 pebs_taken : Takes (of_list (codes "--pebs=32" ∷ codes "--start=64" ∷ codes "--bad=3" ∷ []))
 unfolding clap_on_literals tool
-pebs_taken = (refl, means (codes "list") _ refl (given _ _ (codes "3") refl refl) (not_given _ _ refl) refl)
+pebs_taken = (refl, means (codes "list") _ refl (given _ _ (codes "3") refl refl) (not_given _ _ refl) (not_given _ _ refl) refl)
 
 oob_alone : Takes (of_list (codes "--oob=64" ∷ [])) → ⊥
 unfolding clap_on_literals tool
@@ -115,12 +119,12 @@ help = refl
 options_taken : Takes (codes "ubi_tool" ∷ codes "list" ∷ codes "a.img" ∷ codes "--peb" ∷ codes "131072" ∷ codes "--page" ∷ codes "2048"
     ∷ codes "--vid" ∷ codes "2048" ∷ codes "--data" ∷ codes "4096" ∷ [])
 unfolding clap_on_literals tool
-options_taken = (refl, means (codes "list") _ refl (not_given _ _ refl) (not_given _ _ refl) refl)
+options_taken = (refl, means (codes "list") _ refl (not_given _ _ refl) (not_given _ _ refl) (not_given _ _ refl) refl)
 
 -- a part of a file, with out-of-band bytes
 view_taken : Takes (words (codes "--page=64" ∷ codes "--start" ∷ codes "9223372036854775807" ∷ codes "--length=+00" ∷ codes "--oob=64" ∷ []))
 unfolding clap_on_literals tool
-view_taken = (refl, means (codes "list") _ refl (not_given _ _ refl) (not_given _ _ refl) refl)
+view_taken = (refl, means (codes "list") _ refl (not_given _ _ refl) (not_given _ _ refl) (not_given _ _ refl) refl)
 
 far_start : fault_of tool (words (codes "--page=64" ∷ codes "--start" ∷ codes "9223372036854775808" ∷ [])) ≡ kind.ValueValidation ∷ []
 unfolding clap_on_literals tool
@@ -132,11 +136,11 @@ of_geometry behind = codes "ubi_tool" ∷ codes "geometry" ∷ behind
 
 file_taken : Takes (of_geometry (codes "a.img" ∷ []))
 unfolding clap_on_literals tool
-file_taken = (refl, means (codes "geometry") _ refl (not_given _ _ refl) (not_given _ _ refl) refl)
+file_taken = (refl, means (codes "geometry") _ refl (not_given _ _ refl) (not_given _ _ refl) (not_given _ _ refl) refl)
 
 part_taken : Takes (of_geometry (codes "a.img" ∷ codes "--start=512" ∷ codes "--length" ∷ codes "1024" ∷ []))
 unfolding clap_on_literals tool
-part_taken = (refl, means (codes "geometry") _ refl (not_given _ _ refl) (not_given _ _ refl) refl)
+part_taken = (refl, means (codes "geometry") _ refl (not_given _ _ refl) (not_given _ _ refl) (not_given _ _ refl) refl)
 
 no_oob_taken : fault_of tool (of_geometry (codes "a.img" ∷ codes "--oob" ∷ codes "64" ∷ [])) ≡ kind.UnknownArgument ∷ []
 unfolding clap_on_literals tool
@@ -149,3 +153,21 @@ no_file = refl
 no_number_taken : fault_of tool (of_geometry (codes "a.img" ∷ codes "--peb" ∷ codes "512" ∷ [])) ≡ kind.UnknownArgument ∷ []
 unfolding clap_on_literals tool
 no_number_taken = refl
+
+-- the word of a format, and one that is none
+json_taken : Takes (of_geometry (codes "a.img" ∷ codes "--format" ∷ codes "json" ∷ []))
+unfolding clap_on_literals tool
+json_taken = (refl, means (codes "geometry") _ refl (not_given _ _ refl) (not_given _ _ refl) (given _ _ (codes "json") refl (inr refl)) refl)
+
+text_taken : Takes (of_list (codes "--format=text" ∷ []))
+unfolding clap_on_literals tool
+text_taken = (refl, means (codes "list") _ refl (not_given _ _ refl) (not_given _ _ refl) (given _ _ (codes "text") refl (inl refl)) refl)
+
+no_word : Takes (of_list (codes "--format=JSON" ∷ [])) → ⊥
+unfolding clap_on_literals tool
+no_word takes = elim (takes.1.format (codes "list") _ refl refl (codes "JSON") refl) [ inl e ↦ apart _ _ refl e | inr e ↦ apart _ _ refl e ]
+
+show_in_lines : fault_of tool (codes "ubi_tool" ∷ codes "show" ∷ codes "a.img" ∷ codes "--block=0" ∷ codes "--format=json" ∷ [])
+    ≡ kind.UnknownArgument ∷ []
+unfolding clap_on_literals tool
+show_in_lines = refl

@@ -1,5 +1,5 @@
 -- What is counted of the eraseblocks of an image.
-use Rattle.std.specs.Prelude.{ℕ, Bool, true, false, List, [], ◌∷◌, ◌++◌, codes, count_by, decimal, length}
+use Rattle.std.specs.Prelude.{ℕ, List, [], ◌∷◌, ◌++◌, codes, decimal, length}
 use Rattle.std.specs.List.{flat_map}
 use Rattle.ubi_media.specs.declared.refusal.Refusal.{Refusal}
 use Rattle.ubi_media.specs.Geometry.{Sizes}
@@ -12,21 +12,13 @@ use Rattle.ubi_volume.specs.Survey.{IsSurvey, IsSurveyOf, Seen}
 use Rattle.ubi_volume.specs.declared.attached.BlockState.{BlockState}
 use Rattle.ubi_volume.specs.declared.attached.BlockState.TheVariants as state
 use Rattle.ubi_files.specs.Answer.{Gives, says}
-use Rattle.ubi_files.specs.Lines.{refusal_line}
+use Rattle.ubi_json.specs.Check.{check_data}
+use Rattle.ubi_json.specs.Line.{json_line}
+use Rattle.ubi_json.specs.Words.{count_of}
+use Rattle.ubi_commands.specs.Formats.{refusal_told}
+use Rattle.ubi_commands.specs.declared.format.Format.{Format}
+use Rattle.ubi_commands.specs.declared.format.Format.TheVariants as format
 use Rattle.ubi_files.specs.declared.outcome.Outcome.{Outcome}
-
--- whether two states are the same
-abbrev pub same_state : BlockState → BlockState → Bool
-same_state state.Blank state.Blank = true
-same_state state.Free state.Free = true
-same_state state.Garbage state.Garbage = true
-same_state state.Corrupt state.Corrupt = true
-same_state state.Dropped state.Dropped = true
-same_state state.Orphan state.Orphan = true
-same_state state.Table state.Table = true
-same_state state.Used state.Used = true
-same_state state.Stale state.Stale = true
-same_state _ _ = false
 
 -- a number behind its word
 abbrev pub number_line : List ℕ → ℕ → List ℕ
@@ -46,7 +38,7 @@ state_word state.Stale = codes "stale "
 
 -- how many eraseblocks have a state
 abbrev pub state_line : List BlockState → BlockState → List ℕ
-state_line states of = number_line (state_word of) (count_by (λ s. same_state s of) states)
+state_line states of = number_line (state_word of) (count_of states of)
 
 -- the states, in the order in which they are printed
 unfoldable pub printed_states : List BlockState
@@ -61,17 +53,23 @@ check_lines a =
     ++ number_line (codes "top sqnum ") a.scan.top_sqnum ++ number_line (codes "image seq ") a.scan.image_seq
     ++ number_line (codes "mean counter ") a.scan.mean_ec ++ codes "accepted\n"
 
--- what the command answers of an image: those lines, or the line of its refusal
-pub data Checks (image : Image) : Outcome → Type 0 where
-  accepted : {o : Outcome} (a : Seen) → IsSurvey image a → Gives o (says (check_lines a) 0) → Checks image o
-  refused : {o : Outcome} (c : Refusal) → Refuses image c → Gives o (says (refusal_line c) 1) → Checks image o
+-- what is told of it in a format: those lines, or the line of its object
+abbrev pub check_told : Format → Seen → List ℕ
+check_told format.Text a = check_lines a
+check_told format.Json a = json_line (check_data a)
 
--- what it answers of any source: the lines of what surveying it gives, or the line of its refusal
-pub data ChecksFrom (s : Sizes) (k : Source) (agrees : Agreed) : Outcome → Type 0 where
-  surveyed : {o : Outcome} (a : Seen) → IsSurveyOf s k agrees a → Gives o (says (check_lines a) 0) → ChecksFrom s k agrees o
-  unsurveyed : {o : Outcome} (c : Refusal) → ArePlacesError s k agrees (stream.Refused c) → Gives o (says (refusal_line c) 1)
-      → ChecksFrom s k agrees o
+-- what the command answers of an image: that, or the cause of its refusal
+pub data Checks (format : Format) (image : Image) : Outcome → Type 0 where
+  accepted : {o : Outcome} (a : Seen) → IsSurvey image a → Gives o (says (check_told format a) 0) → Checks format image o
+  refused : {o : Outcome} (c : Refusal) → Refuses image c → Gives o (says (refusal_told format c) 1) → Checks format image o
+
+-- what it answers of any source: what is told of what surveying it gives, or the cause of its refusal
+pub data ChecksFrom (format : Format) (s : Sizes) (k : Source) (agrees : Agreed) : Outcome → Type 0 where
+  surveyed : {o : Outcome} (a : Seen) → IsSurveyOf s k agrees a → Gives o (says (check_told format a) 0)
+      → ChecksFrom format s k agrees o
+  unsurveyed : {o : Outcome} (c : Refusal) → ArePlacesError s k agrees (stream.Refused c)
+      → Gives o (says (refusal_told format c) 1) → ChecksFrom format s k agrees o
 
 -- what it answers of a source: whatever that may hold, it is what it answers of that image
-abbrev pub ChecksOf : Sizes → Source → Agreed → Outcome → Type 0
-ChecksOf s k agrees o = ChecksFrom s k agrees o × WhereHeld agrees (λ bytes. Checks (image_of s bytes) o)
+abbrev pub ChecksOf : Format → Sizes → Source → Agreed → Outcome → Type 0
+ChecksOf format s k agrees o = ChecksFrom format s k agrees o × WhereHeld agrees (λ bytes. Checks format (image_of s bytes) o)

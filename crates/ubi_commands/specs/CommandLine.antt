@@ -6,6 +6,8 @@ use Rattle.std.specs.Prelude.{◌≡◌, ◌↔◌, ◌<◌, ◌^◌, ◌&&◌, 
 use Rattle.std.specs.Str.Parse.{IsNumeral, digits_value, without_leading_plus}
 use Rattle.clap.specs.Walk.{Row, first_of, one_of}
 use Rattle.ubi_files.specs.BadBlocks.{is_block_list}
+use Rattle.ubi_commands.specs.Formats.{format_word}
+use Rattle.ubi_commands.specs.declared.format.Format.{Format}
 use Rattle.ubi_commands.specs.declared.asked.Asked.{Asked}
 use Rattle.ubi_commands.specs.declared.asked.Asked.TheVariants as asked
 use Rattle.ubi_commands.specs.declared.asked.Change.{Change}
@@ -122,6 +124,10 @@ AsksNewImage words name new = HasText words name new.from × HasText words (code
 -- the words say this of Blank eraseblocks: that they are kept, or nothing
 abbrev pub AsksBlank : List Row → Bool → Type 0
 AsksBlank words keeps = first_of (codes "blank") words ≡ then_some keeps (codes "keep")
+
+-- they name this format, which is that of lines where they name none
+abbrev pub AsksFormat : List Row → Format → Type 0
+AsksFormat words format = unwrap_or (first_of (codes "format") words) (codes "text") ≡ format_word format
 
 -- the words give this plan
 abbrev pub AsksPlan : List Row → Plan → Type 0

@@ -1,12 +1,12 @@
 -- The commands: a row for each, with what it takes, what its words ask, what it can be answered, and which files it leaves alone.
-use Rattle.std.specs.Prelude.{◌≡◌, ◌∷◌, [], List, Option, Some, codes, false, true, ℕ}
+use Rattle.std.specs.Prelude.{◌≡◌, ◌∷◌, ◌++◌, [], List, Option, Some, codes, false, true, ℕ}
 use Rattle.clap.specs.Faults.{fault_of}
 use Rattle.clap.specs.Simple.{App, Shape, new_rule, new_shape, subcommand_of}
 use Rattle.clap.specs.Walk.{Row, Text}
 use Rattle.ubi_files.specs.Answer.{Gives, says}
 use Rattle.ubi_commands.specs.Build.{Builds}
 use Rattle.ubi_commands.specs.Change.{ChangesFrom, HasPlan}
-use Rattle.ubi_commands.specs.CommandLine.{AsksAsked, AsksChange, AsksDump, AsksExtract, AsksNewImage, AsksNumbers, AsksPart, AsksPaths, AsksRename, HasNumber, HasText}
+use Rattle.ubi_commands.specs.CommandLine.{AsksAsked, AsksChange, AsksDump, AsksExtract, AsksFormat, AsksNewImage, AsksNumbers, AsksPart, AsksPaths, AsksRename, HasNumber, HasText}
 use Rattle.ubi_commands.specs.Comparisons.{ComparesOf}
 use Rattle.ubi_commands.specs.Compose.{ComposesInto}
 use Rattle.ubi_files.specs.Disk.{AllStay, Files, OthersStay, OutsideStay, Stays}
@@ -16,9 +16,10 @@ use Rattle.ubi_commands.specs.Geometry.{DetectsOf}
 use Rattle.ubi_commands.specs.Normalise.{HasMeaning, NormalisesOf}
 use Rattle.ubi_commands.specs.Program.{OfAsked, OfBoth, OfText, PlanStays, WithList, WritesInto, WritesPlan, avoided}
 use Rattle.ubi_files.specs.OverFile.{OfFile, OfImage}
-use Rattle.ubi_commands.specs.Reads.{reads}
+use Rattle.ubi_commands.specs.InFormat.{OfAskedIn, OfFileIn}
+use Rattle.ubi_commands.specs.Reads.{format_of, reads}
 use Rattle.ubi_commands.specs.Rename.{HasRename, RenamesFrom}
-use Rattle.ubi_commands.specs.Tool.{Mean, command as takes, image_part, needed, number, on_image, option, output, plan_options, volume}
+use Rattle.ubi_commands.specs.Tool.{Mean, answer_format, command as takes, image_part, needed, number, on_image, option, output, plan_options, volume}
 use Rattle.ubi_commands.specs.Unpack.{UnpacksOf}
 use Rattle.ubi_files.specs.declared.outcome.Outcome.{Outcome}
 use Rattle.ubi_commands.specs.declared.comparison.Comparison.{Comparison}
@@ -28,17 +29,17 @@ use Rattle.ubi_commands.specs.declared.readers.Reading.TheVariants as reading
 use Rattle.ubi_commands.specs.declared.requests.Request.{Request}
 use Rattle.ubi_commands.specs.declared.requests.Request.TheVariants as request
 
--- `geometry`, over an image alone
+-- `geometry`, over an image alone, with the format of the answer
 abbrev pub geometry : Shape
-geometry = record (new_shape (codes "geometry")) { rules = image_part }
+geometry = record (new_shape (codes "geometry")) { rules = image_part ++ answer_format ∷ [] }
 
--- `list`, over an image
+-- `list`, over an image, with the format of the answer
 abbrev pub list : Shape
-list = on_image false (codes "list") []
+list = on_image false (codes "list") (answer_format ∷ [])
 
--- `check`, over an image
+-- `check`, over an image, with the format of the answer
 abbrev pub check : Shape
-check = on_image false (codes "check") []
+check = on_image false (codes "check") (answer_format ∷ [])
 
 -- `show`, over an image, with the eraseblock to show
 abbrev pub show : Shape
@@ -99,9 +100,9 @@ tool = record {
 
 -- the command that reads one image, and writes no file
 abbrev pub reading_command : Reading → Shape
-reading_command (reading.Geometry part) = geometry
-reading_command reading.List = list
-reading_command reading.Check = check
+reading_command (reading.Geometry part format) = geometry
+reading_command (reading.List format) = list
+reading_command (reading.Check format) = check
 reading_command (reading.Show block) = show
 
 -- the command that compares two images so
@@ -111,9 +112,10 @@ comparing_command comparison.Diff = diff
 
 -- what its words say beside the dump and the image. A geometry is asked for by a request of its own
 abbrev pub AsksReading : List Row → Reading → Type 0
-AsksReading words (reading.Geometry part) = ⊥
+AsksReading words (reading.Geometry part format) = ⊥
+AsksReading words (reading.List format) = AsksFormat words format
+AsksReading words (reading.Check format) = AsksFormat words format
 AsksReading words (reading.Show block) = HasNumber words (codes "block") block
-AsksReading words _ = Unit {0}
 
 -- what is said of a request: by which command it is made; that the words give what it says; what it can be answered, of the files
 -- before and after; and which of them hold what they held
@@ -125,16 +127,16 @@ pub record Said : Type 1 where
 
 -- of each
 abbrev pub said : Request → Said
-said (request.Geometry part image) = record {
+said (request.Geometry part image format) = record {
   command = geometry;
-  asks = λ words. AsksPart words part × HasText words (codes "IMAGE") image;
-  answers = λ d e. OfFile d (greatest_dump part) image.now (λ _. DetectsOf part);
+  asks = λ words. AsksPart words part × HasText words (codes "IMAGE") image × AsksFormat words format;
+  answers = λ d e. OfFileIn format d (greatest_dump part) image.now (λ _. DetectsOf format part);
   leaves = AllStay;
 }
 said (request.Tell dump image what) = record {
   command = reading_command what;
   asks = λ words. AsksAsked words dump × HasText words (codes "IMAGE") image × AsksReading words what;
-  answers = λ d e. OfAsked d e dump image.now (reads what);
+  answers = λ d e. OfAskedIn (format_of what) d e dump image.now (reads what);
   leaves = AllStay;
 }
 said (request.Extract dump extract_it) =
@@ -228,7 +230,8 @@ abbrev pub IsRequest : Option (Text × List Row) → Request → Type 0
 IsRequest named r = (words : List Row) × (named ≡ Some (command_name r, words)) × Asks words r
 
 -- the command line takes the words, the program's name first: nothing is wrong with them, they ask for no help, those of
--- `extract` name one volume, what lists bad eraseblocks is a list, `--blank` has the word `keep`, and a geometry is whole or left out
+-- `extract` name one volume, what lists bad eraseblocks is a list, `--blank` has the word `keep`, a geometry is whole or left out, and
+-- `--format` has the word `text` or `json`
 abbrev pub Takes : List Text → Type 0
 Takes words = (fault_of tool words ≡ []) × Mean (subcommand_of tool words)
 

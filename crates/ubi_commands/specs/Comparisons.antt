@@ -19,7 +19,7 @@ use Rattle.ubi_compare.specs.declared.difference.Side.{Side}
 use Rattle.ubi_compare.specs.declared.difference.Side.TheVariants as side
 use Rattle.ubi_files.specs.Answer.{Gives, says}
 use Rattle.ubi_commands.specs.Lines.{comparison_line, side_line}
-use Rattle.ubi_commands.specs.List.{kind_word, shown}
+use Rattle.ubi_json.specs.Words.{kind_word, shown}
 use Rattle.ubi_files.specs.declared.outcome.Outcome.{Outcome}
 use Rattle.ubi_commands.specs.declared.comparison.Comparison.{Comparison}
 use Rattle.ubi_commands.specs.declared.comparison.Comparison.TheVariants as comparison

@@ -8,7 +8,11 @@ use Rattle.ubi_detect.specs.declared.detect.DetectError.TheVariants as error
 use Rattle.ubi_detect.specs.declared.detect.Detected.{Detected}
 use Rattle.ubi_detect.specs.declared.detect.Undetected.{Undetected}
 use Rattle.ubi_files.specs.Answer.{Gives, says}
-use Rattle.ubi_commands.specs.Lines.{undetected_line}
+use Rattle.ubi_json.specs.Geometry.{geometries_data}
+use Rattle.ubi_json.specs.Line.{json_line}
+use Rattle.ubi_commands.specs.Formats.{undetected_told}
+use Rattle.ubi_commands.specs.declared.format.Format.{Format}
+use Rattle.ubi_commands.specs.declared.format.Format.TheVariants as format
 use Rattle.ubi_files.specs.declared.outcome.Outcome.{Outcome}
 use Rattle.ubi_files.specs.declared.view.FilePart.{FilePart}
 
@@ -45,21 +49,25 @@ options_line part n told = options part n told ++ codes "\n"
 abbrev pub options_lines : FilePart → ℕ → List Detected → List ℕ
 options_lines part n found = flat_map (options_line part n) found
 
--- what the command answers of the bytes of a part of a file: the lines of what is told of them, or that of the cause for which
--- nothing is
-pub data Detects (part : FilePart) (bytes : List ℕ) : Outcome → Type 0 where
-  detected : {o : Outcome} (found : List Detected) → AreDetected bytes found → Gives o (says (options_lines part (length bytes) found) 0)
-      → Detects part bytes o
-  undetected : {o : Outcome} (c : Undetected) → IsUndetected bytes c → Gives o (says (undetected_line c) 1) → Detects part bytes o
+-- what is told in a format of all of it: those lines, or the line of its object
+abbrev pub geometry_told : Format → FilePart → ℕ → List Detected → List ℕ
+geometry_told format.Text part n found = options_lines part n found
+geometry_told format.Json part n found = json_line (geometries_data part found)
 
--- what it answers of any source: some lines, which are those of what is told of whatever it may hold; or the line of a cause, which
--- stands in whatever it may hold
-pub data DetectsFrom (part : FilePart) (k : Source) (agrees : Agreed) : Outcome → Type 0 where
+-- what the command answers of the bytes of a part of a file: what is told of them, or the cause for which nothing is
+pub data Detects (format : Format) (part : FilePart) (bytes : List ℕ) : Outcome → Type 0 where
+  detected : {o : Outcome} (found : List Detected) → AreDetected bytes found
+      → Gives o (says (geometry_told format part (length bytes) found) 0) → Detects format part bytes o
+  undetected : {o : Outcome} (c : Undetected) → IsUndetected bytes c → Gives o (says (undetected_told format c) 1)
+      → Detects format part bytes o
+
+-- what it answers of any source: what is told of whatever it may hold; or a cause, which stands in whatever it may hold
+pub data DetectsFrom (format : Format) (part : FilePart) (k : Source) (agrees : Agreed) : Outcome → Type 0 where
   detected_from : {o : Outcome} (found : List Detected) → AreDetectedOf agrees found → found ≢ []
-      → Gives o (says (options_lines part k.size found) 0) → DetectsFrom part k agrees o
+      → Gives o (says (geometry_told format part k.size found) 0) → DetectsFrom format part k agrees o
   undetected_from : {o : Outcome} (c : Undetected) → IsDetectError k agrees (error.Undetected c)
-      → Gives o (says (undetected_line c) 1) → DetectsFrom part k agrees o
+      → Gives o (says (undetected_told format c) 1) → DetectsFrom format part k agrees o
 
 -- what it answers of a source: whatever that may hold, it is what it answers of those bytes
-abbrev pub DetectsOf : FilePart → Source → Agreed → Outcome → Type 0
-DetectsOf part k agrees o = DetectsFrom part k agrees o × WhereHeld agrees (λ bytes. Detects part bytes o)
+abbrev pub DetectsOf : Format → FilePart → Source → Agreed → Outcome → Type 0
+DetectsOf format part k agrees o = DetectsFrom format part k agrees o × WhereHeld agrees (λ bytes. Detects format part bytes o)

@@ -8,6 +8,7 @@ use Rattle.ubi_files.specs.Answer.{Answer, Gives, says}
 use Rattle.ubi_commands.specs.Compose.{Composes}
 use Rattle.ubi_commands.specs.List.{Lists, list_lines}
 use Rattle.ubi_files.specs.declared.outcome.Outcome.{Outcome}
+use Rattle.ubi_commands.specs.declared.format.Format.TheVariants as format
 
 -- what composing answers is a function of the text, the number of spares and the image
 -- sequence number: what one run gives, each gives
@@ -18,5 +19,5 @@ OneComposed = (s : Sizes) (text : List ℕ) (spares seq : ℕ) (o p : Outcome) (
 -- what is listed of a composed image is the meaning that the text comes to
 abbrev pub ListsComposed : Type 0
 ListsComposed = (s : Sizes) (text bytes : List ℕ) (spares seq : ℕ) (o p : Outcome)
-    → Composes s text spares seq o → option_map (λ v. v.items) o.file ≡ Some bytes → Lists (image_of s bytes) p
+    → Composes s text spares seq o → option_map (λ v. v.items) o.file ≡ Some bytes → Lists format.Text (image_of s bytes) p
     → (m : Meant) × ComesTo s seq text (Ok m) × Gives p (says (list_lines m) 0)

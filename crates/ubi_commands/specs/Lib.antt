@@ -7,8 +7,10 @@ pub mod Commands
 pub mod Comparisons
 pub mod Compose
 pub mod Extract
+pub mod Formats
 pub mod Geometry
 pub mod Headline
+pub mod InFormat
 pub mod Key
 pub mod Laws
 pub mod Lines

@@ -1,5 +1,5 @@
 -- What is listed of the volumes of an image.
-use Rattle.std.specs.Prelude.{ℕ, ◌==◌, ◌&&◌, not, nat_le, if◌then◌else◌, List, [], ◌∷◌, ◌++◌, codes, decimal, length}
+use Rattle.std.specs.Prelude.{ℕ, List, [], ◌∷◌, ◌++◌, codes, decimal, length}
 use Rattle.std.specs.FinMap.{entries}
 use Rattle.std.specs.List.{flat_map}
 use Rattle.hex.specs.Hex.{encode_lower}
@@ -7,8 +7,6 @@ use Rattle.ubi_media.specs.Geometry.{Sizes, leb_size, slots}
 use Rattle.ubi_media.specs.Record.{usable}
 use Rattle.ubi_media.specs.declared.record.VolumeRecord.{VolumeRecord}
 use Rattle.ubi_media.specs.declared.refusal.Refusal.{Refusal}
-use Rattle.ubi_media.specs.declared.vid.VolKind.{VolKind}
-use Rattle.ubi_media.specs.declared.vid.VolKind.TheVariants as kind
 use Rattle.ubi_scan.specs.Image.{Image, image_of}
 use Rattle.ubi_scan.specs.Source.{Agreed, Source, WhereHeld}
 use Rattle.ubi_scan.specs.declared.errors.StreamError.TheVariants as stream
@@ -21,21 +19,13 @@ use Rattle.ubi_volume.specs.declared.block.Amount.TheVariants as amount
 use Rattle.ubi_volume.specs.declared.content.Volume.{Volume}
 use Rattle.ubi_files.specs.Answer.{Gives, says}
 use Rattle.ubi_commands.specs.Lines.{layout_words}
-use Rattle.ubi_files.specs.Lines.{refusal_line}
+use Rattle.ubi_json.specs.Line.{json_line}
+use Rattle.ubi_json.specs.List.{list_data}
+use Rattle.ubi_json.specs.Words.{kind_word, shown}
+use Rattle.ubi_commands.specs.Formats.{refusal_told}
+use Rattle.ubi_commands.specs.declared.format.Format.{Format}
+use Rattle.ubi_commands.specs.declared.format.Format.TheVariants as format
 use Rattle.ubi_files.specs.declared.outcome.Outcome.{Outcome}
-
--- a byte of a name as it is shown: a printable one but the backslash as it is, and any other by its two digits
-abbrev pub shown_byte : ℕ → List ℕ
-shown_byte b = if nat_le 0x21 b && nat_le b 0x7E && not (b == 0x5C) then b ∷ [] else codes "\\x" ++ encode_lower (b ∷ [])
-
--- a name as it is shown
-abbrev pub shown : List ℕ → List ℕ
-shown name = flat_map shown_byte name
-
--- the word for the kind of a volume
-abbrev pub kind_word : VolKind → List ℕ
-kind_word kind.Dynamic = codes "dynamic"
-kind_word kind.Static = codes "static"
 
 -- how much a volume reads, or why it can't be read
 abbrev pub amount_word : Amount → List ℕ
@@ -74,17 +64,23 @@ list_lines m =
     sizes_line m.sizes ++ flat_map (volume_line m.sizes) (entries m.volumes)
     ++ codes "volumes " ++ decimal (length (entries m.volumes)) ++ codes "\n"
 
--- what the command answers of an image: the lines of its meaning, or the line of its refusal
-pub data Lists (image : Image) : Outcome → Type 0 where
-  accepted : {o : Outcome} (m : Meant) → Accepts image m → Gives o (says (list_lines m) 0) → Lists image o
-  refused : {o : Outcome} (c : Refusal) → Refuses image c → Gives o (says (refusal_line c) 1) → Lists image o
+-- what is told of a meaning in a format: those lines, or the line of its object
+abbrev pub list_told : Format → Meant → List ℕ
+list_told format.Text m = list_lines m
+list_told format.Json m = json_line (list_data m)
 
--- what it answers of any source: some lines, of one whose places were found; or the line of its refusal
-pub data ListsFrom (s : Sizes) (k : Source) (agrees : Agreed) : Outcome → Type 0 where
-  listed : {o : Outcome} (p : Placed) (text : List ℕ) → ArePlacesOf s k agrees p → Gives o (says text 0) → ListsFrom s k agrees o
-  unlisted : {o : Outcome} (c : Refusal) → ArePlacesError s k agrees (stream.Refused c) → Gives o (says (refusal_line c) 1)
-      → ListsFrom s k agrees o
+-- what the command answers of an image: what is told of its meaning, or the cause of its refusal
+pub data Lists (format : Format) (image : Image) : Outcome → Type 0 where
+  accepted : {o : Outcome} (m : Meant) → Accepts image m → Gives o (says (list_told format m) 0) → Lists format image o
+  refused : {o : Outcome} (c : Refusal) → Refuses image c → Gives o (says (refusal_told format c) 1) → Lists format image o
+
+-- what it answers of any source: some text, of one whose places were found; or the cause of its refusal
+pub data ListsFrom (format : Format) (s : Sizes) (k : Source) (agrees : Agreed) : Outcome → Type 0 where
+  listed : {o : Outcome} (p : Placed) (text : List ℕ) → ArePlacesOf s k agrees p → Gives o (says text 0)
+      → ListsFrom format s k agrees o
+  unlisted : {o : Outcome} (c : Refusal) → ArePlacesError s k agrees (stream.Refused c)
+      → Gives o (says (refusal_told format c) 1) → ListsFrom format s k agrees o
 
 -- what it answers of a source: whatever that may hold, it is what it answers of that image
-abbrev pub ListsOf : Sizes → Source → Agreed → Outcome → Type 0
-ListsOf s k agrees o = ListsFrom s k agrees o × WhereHeld agrees (λ bytes. Lists (image_of s bytes) o)
+abbrev pub ListsOf : Format → Sizes → Source → Agreed → Outcome → Type 0
+ListsOf format s k agrees o = ListsFrom format s k agrees o × WhereHeld agrees (λ bytes. Lists format (image_of s bytes) o)

@@ -6,12 +6,21 @@ use Rattle.ubi_commands.specs.Geometry.{DetectsOf}
 use Rattle.ubi_commands.specs.List.{ListsOf}
 use Rattle.ubi_commands.specs.Show.{ShowsOf}
 use Rattle.ubi_files.specs.declared.outcome.Outcome.{Outcome}
+use Rattle.ubi_commands.specs.declared.format.Format.{Format}
+use Rattle.ubi_commands.specs.declared.format.Format.TheVariants as format
 use Rattle.ubi_commands.specs.declared.readers.Reading.{Reading}
 use Rattle.ubi_commands.specs.declared.readers.Reading.TheVariants as reading
 
 -- what a command answers of a source
 abbrev pub reads : Reading → Sizes → Source → Agreed → Outcome → Type 0
-reads (reading.Geometry part) s = DetectsOf part
-reads reading.List s = ListsOf s
-reads reading.Check s = ChecksOf s
+reads (reading.Geometry part format) s = DetectsOf format part
+reads (reading.List format) s = ListsOf format s
+reads (reading.Check format) s = ChecksOf format s
 reads (reading.Show block) s = ShowsOf block s
+
+-- the format in which it answers
+abbrev pub format_of : Reading → Format
+format_of (reading.Geometry part format) = format
+format_of (reading.List format) = format
+format_of (reading.Check format) = format
+format_of (reading.Show block) = format.Text

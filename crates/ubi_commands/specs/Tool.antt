@@ -1,5 +1,5 @@
 -- What commands take, and what their words have to say beside that.
-use Rattle.std.specs.Prelude.{◌≡◌, ◌∷◌, ◌++◌, ◌&&◌, ◌||◌, [], Bool, List, Option, Some, codes, is_some, not, pos, true}
+use Rattle.std.specs.Prelude.{◌≡◌, ◌∷◌, ◌++◌, ◌&&◌, ◌||◌, ◌⊎◌, [], Bool, List, Option, Some, codes, is_some, not, pos, true}
 use Rattle.std.specs.List.{list_any}
 use Rattle.std.specs.Option.{ForSome}
 use Rattle.std.specs.Str.{bytes_eq}
@@ -45,6 +45,10 @@ volume = needed (number (codes "id"))
 -- a command, with what it takes beside the numbers
 abbrev pub command : Bool → Text → List Rule → Shape
 command need name rules = record (new_shape name) { rules = numbers need ++ rules }
+
+-- the option that names the format of the answer
+abbrev pub answer_format : Rule
+answer_format = option (codes "format")
 
 -- the word that names an image file
 abbrev pub image_file : Rule
@@ -99,9 +103,19 @@ abbrev pub HasBlankWord : Option (Text × List Row) → Type 0
 HasBlankWord named = (name : Text) (words : List Row) → named ≡ Some (name, words) → plans name ≡ true
     → ForSome (first_of (codes "blank") words) (λ word. word ≡ codes "keep")
 
+-- the commands that answer in a format
+abbrev pub formats : Text → Bool
+formats name = list_any (bytes_eq name) (codes "geometry" ∷ codes "list" ∷ codes "check" ∷ [])
+
+-- of the words of such a command, what names the format is the word of one
+abbrev pub HasFormatWord : Option (Text × List Row) → Type 0
+HasFormatWord named = (name : Text) (words : List Row) → named ≡ Some (name, words) → formats name ≡ true
+    → ForSome (first_of (codes "format") words) (λ word. (word ≡ codes "text") ⊎ (word ≡ codes "json"))
+
 -- the words say what their command can do, beside what the command line knows
 pub record Mean (named : Option (Text × List Row)) : Type 0 where
   pub volume : HasOneVolume named
   pub list : HasBlockList named
   pub blank : HasBlankWord named
   pub geometry : HasGeometryOrNone named
+  pub format : HasFormatWord named

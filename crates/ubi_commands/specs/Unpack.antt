@@ -23,7 +23,8 @@ use Rattle.ubi_config.specs.declared.volume.ConfigVolume.{ConfigVolume}
 use Rattle.ubi_files.specs.Answer.{Gives, says}
 use Rattle.ubi_files.specs.Disk.{AllStay, Files, IsKept, OthersStay, fresh}
 use Rattle.ubi_files.specs.Lines.{file_line, refusal_line}
-use Rattle.ubi_commands.specs.List.{amount_word, shown, shown_byte}
+use Rattle.ubi_json.specs.Words.{shown, shown_byte}
+use Rattle.ubi_commands.specs.List.{amount_word}
 use Rattle.ubi_files.specs.declared.outcome.Outcome.{Outcome}
 
 -- a record of a volume table, behind the number of its volume

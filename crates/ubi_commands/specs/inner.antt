@@ -9,3 +9,4 @@ pub mod Gathering
 pub mod Planning
 pub mod Telling
 pub mod Writes
+pub mod Formatted

@@ -3,16 +3,23 @@
 ghost use Rattle.std.specs.Option.{ForSome};
 ghost use Rattle.std.specs.Prelude.{◌≡◌, ◌↔◌, IsTrue, true};
 ghost use Rattle.ubi_files.specs.BadBlocks.{is_block_list};
-ghost use Rattle.ubi_commands.specs.CommandLine.{AsksAsked, AsksBlank, AsksChange, AsksDump, AsksExtract, AsksKey, AsksNewImage, AsksNumbers, AsksPart, AsksPaths, AsksPlan, AsksRename, AsksSought, HasNumber, HasText, MayHaveLong, MayHaveNumber, MayHaveText, gives, gives_no_geometry};
+ghost use Rattle.ubi_commands.specs.CommandLine.{AsksAsked, AsksBlank, AsksChange, AsksDump, AsksExtract, AsksFormat, AsksKey, AsksNewImage, AsksNumbers, AsksPart, AsksPaths, AsksPlan, AsksRename, AsksSought, HasNumber, HasText, MayHaveLong, MayHaveNumber, MayHaveText, gives, gives_no_geometry};
 ghost use Rattle.ubi_commands.specs.inner.CommandLine.{IsOneOf};
 ghost use Rattle.ubi_commands.specs.inner.CommandLine.{words_in};
 
+use crate::format::Format;
 use crate::volume_key::VolumeKey;
 use clap::ArgMatches;
 use ubi_files::{Dump, FilePart, Numbers, is_block_list};
 
 /// The one word that `--blank` takes.
 const KEEP: &str = "keep";
+
+/// The word for a format: lines for people.
+const TEXT: &str = "text";
+
+/// The word for another: JSON.
+const JSON: &str = "json";
 
 /// The paths of a command that reads one image and writes a file, or the files of a folder.
 #[derive(Clone, Copy)]
@@ -181,6 +188,18 @@ pub fn blank_of(matches: &ArgMatches<'_>) -> Option<bool>
     match may_text_of(matches, "blank") {
         None => Some(false),
         Some(word) if word == KEEP => Some(true),
+        Some(_) => None,
+    }
+}
+
+/// The format of the answer, which is that of lines where the words name none. None where they name another.
+pub fn format_of(matches: &ArgMatches<'_>) -> Option<Format>
+    ensures { IsOneOf (AsksFormat (words_in matches.now)) result }
+{
+    match may_text_of(matches, "format") {
+        None => Some(Format::Text),
+        Some(word) if word == TEXT => Some(Format::Text),
+        Some(word) if word == JSON => Some(Format::Json),
         Some(_) => None,
     }
 }

@@ -1,36 +1,19 @@
 //! The command `check`: the states of the eraseblocks of an image.
 
-ghost use Rattle.std.specs.Prelude.{◌≡◌, ◌++◌, IfErr, IfOk, OnOk, codes, count_by};
+ghost use Rattle.std.specs.Prelude.{◌≡◌, ◌++◌, IfErr, IfOk, OnOk, codes};
 ghost use Rattle.std.specs.List.{flat_map};
 ghost use Rattle.ubi_scan.specs.Image.{image_of};
 ghost use Rattle.ubi_scan.specs.Source.{Narrows, WhereHeld};
 ghost use Rattle.ubi_files.specs.AfterRun.{IsNoWrite, after_run};
-ghost use Rattle.ubi_commands.specs.Check.{Checks, ChecksFrom, check_lines, number_line, printed_states, same_state, state_line, state_word};
+ghost use Rattle.ubi_commands.specs.Check.{Checks, ChecksFrom, check_lines, check_told, number_line, printed_states, state_line, state_word};
 
+use crate::format::{Format, refusal_told};
 use std::alloc::{AllocError, Global};
-use ubi_files::{DONE, FAILED, Outcome, ToolError, in_memory, put_number, put_word, refusal_line};
+use ubi_files::{DONE, FAILED, Outcome, ToolError, in_memory, put_number, put_word};
+use ubi_json::count_of;
 use ubi_media::Geometry;
 use ubi_scan::{BlockSource, MemorySource, StreamError};
 use ubi_volume::{BlockState, Surveyed, survey_from};
-
-fn is_same(state: BlockState, of: BlockState) -> bool
-    ensures { result ≡ same_state state of }
-{
-    state == of
-}
-
-/// How many eraseblocks have a state.
-fn count(states: &[BlockState], of: BlockState) -> usize
-    ensures { result ≡ count_by (λ s. same_state s of) states.now }
-{
-    let mut found = 0;
-    for state in states {
-        if is_same(*state, of) {
-            found += 1;
-        }
-    }
-    found
-}
 
 /// Adds the line of a number.
 fn put_line(text: &mut Vec<u8>, word: &str, number: u64) -> Result<(), AllocError>
@@ -66,7 +49,7 @@ fn put_counts(
     ensures { OnOk result (text.new.items ≡ text.old.items ++ flat_map (state_line states.now) named.now) }
 {
     for state in named {
-        put_line(text, state_word(*state), count(states, *state) as u64)?;
+        put_line(text, state_word(*state), count_of(states, *state) as u64)?;
     }
     Ok(())
 }
@@ -107,7 +90,17 @@ fn check_lines(alloc: Global, surveyed: &Surveyed) -> Result<Vec<u8>, AllocError
     Ok(text)
 }
 
-/// Counts the states of the eraseblocks of a source, or answers the line of its refusal. One eraseblock is held at a time; of
+/// What is told in a format of an image that is surveyed.
+fn check_told(alloc: Global, format: Format, surveyed: &Surveyed) -> Result<Vec<u8>, AllocError>
+    ensures { IfOk result (λ text. text.items ≡ check_told format surveyed.now) }
+{
+    match format {
+        Format::Text => check_lines(alloc, surveyed),
+        Format::Json => ubi_json::check_line(alloc, surveyed),
+    }
+}
+
+/// Counts the states of the eraseblocks of a source, or answers the cause of its refusal. One eraseblock is held at a time; of
 /// the contents of volumes only copied data are read, and the volume table.
 ///
 /// # Errors
@@ -117,17 +110,18 @@ pub fn run_check_from<S: BlockSource>(
     alloc: Global,
     geometry: &Geometry,
     source: &mut S,
+    format: Format,
 ) -> Result<Outcome, ToolError>
     ensures known { S.known source.new ≡ after_run (S.known source.old) result }
     ensures narrows { Narrows (S.agrees source.old) (S.agrees source.new) }
-    ensures checked { IfOk result (ChecksFrom geometry.now (S.known source.old) (S.agrees source.new)) }
-    ensures checks { IfOk result (λ o. WhereHeld (S.agrees source.new) (λ bytes. Checks (image_of geometry.now bytes) o)) }
+    ensures checked { IfOk result (ChecksFrom format geometry.now (S.known source.old) (S.agrees source.new)) }
+    ensures checks { IfOk result (λ o. WhereHeld (S.agrees source.new) (λ bytes. Checks format (image_of geometry.now bytes) o)) }
     ensures failed { IfErr result IsNoWrite }
 {
     match survey_from(alloc, geometry, source) {
-        Ok(surveyed) => Ok(Outcome::saying(check_lines(alloc, &surveyed)?, DONE)),
+        Ok(surveyed) => Ok(Outcome::saying(check_told(alloc, format, &surveyed)?, DONE)),
         Err(StreamError::Refused(cause)) => {
-            let line = refusal_line(alloc, cause)?;
+            let line = refusal_told(alloc, format, cause)?;
             Ok(Outcome::saying(line, FAILED))
         }
         Err(StreamError::Read(_, _)) => Err(ToolError::Read),
@@ -137,13 +131,13 @@ pub fn run_check_from<S: BlockSource>(
     }
 }
 
-/// Counts the states of the eraseblocks of an image, as [`run_check_from`] does of a source.
+/// Counts the states of the eraseblocks of an image in lines, as [`run_check_from`] does of a source.
 ///
 /// # Errors
 ///
 /// Memory ran out.
 pub fn run_check(alloc: Global, geometry: &Geometry, image: &[u8]) -> Result<Outcome, AllocError>
-    ensures { IfOk result (Checks (image_of geometry.now image.now)) }
+    ensures { IfOk result (Checks Format.Text (image_of geometry.now image.now)) }
 {
-    in_memory(run_check_from(alloc, geometry, &mut MemorySource::new(image)))
+    in_memory(run_check_from(alloc, geometry, &mut MemorySource::new(image), Format::Text))
 }

@@ -44,17 +44,17 @@ static COMMANDS: [CommandRow; 13] = [
     CommandRow {
         name: "geometry",
         about: "Prints the geometry that the headers of a dump give and where the image lies, as options of the other commands",
-        arguments: &[IMAGE_PART],
+        arguments: &[IMAGE_PART, &[FORMAT]],
     },
     CommandRow {
         name: "list",
         about: "Prints the volumes of an image: kind, size, flags, name",
-        arguments: &[FOUND, IMAGE_PART, IMAGE_PAGES],
+        arguments: &[FOUND, IMAGE_PART, IMAGE_PAGES, &[FORMAT]],
     },
     CommandRow {
         name: "check",
         about: "Says why an image is refused, or counts what its eraseblocks are",
-        arguments: &[FOUND, IMAGE_PART, IMAGE_PAGES],
+        arguments: &[FOUND, IMAGE_PART, IMAGE_PAGES, &[FORMAT]],
     },
     CommandRow {
         name: "show",
@@ -205,6 +205,13 @@ const BAD: Argument = Argument(
     "bad",
     Text("LIST"),
     "Bad eraseblocks, as 3,9,28-31: they read 0xFF [default: none]",
+);
+
+const FORMAT: Argument = Argument(
+    Optional,
+    "format",
+    Text("WORD"),
+    "How the answer is told: text, or json, one object on one line [default: text]",
 );
 
 const OTHER: Argument = Argument(

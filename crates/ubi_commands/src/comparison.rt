@@ -25,9 +25,7 @@ use crate::finding::{KnownDump, find_dump, open_known};
 use crate::lines::{put_comparison, side_line, unlike_line};
 use std::alloc::{AllocError, Global};
 use ubi_compare::{CompareFault, Difference, diff_from, same_from};
-use ubi_files::{
-    DONE, Disk, Dump, FAILED, OpenImage, Outcome, SidesError, frame_of, unread_line,
-};
+use ubi_files::{DONE, Disk, Dump, FAILED, OpenImage, Outcome, SidesError, frame_of, unread_line};
 use ubi_media::Geometry;
 use ubi_scan::{BlockSource, MemorySource, StreamError};
 

@@ -3,12 +3,13 @@
 ghost use Rattle.std.specs.Prelude.{◌≡◌, ◌++◌, ◌∷◌, [], OnOk, decimal};
 ghost use Rattle.hex.specs.Hex.{encode_lower};
 ghost use Rattle.ubi_commands.specs.Comparisons.{condition_word, difference_line, range_words, side_word, side_words, volume_words};
-ghost use Rattle.ubi_commands.specs.List.{shown};
+ghost use Rattle.ubi_json.specs.Words.{shown};
 
-use crate::list::{kind_word, put_digits, put_shown};
+use crate::list::{put_digits, put_shown};
 use std::alloc::{AllocError, Global};
 use ubi_compare::{Condition, Difference, Side};
 use ubi_files::{put_number, put_word};
+use ubi_json::kind_word;
 use ubi_media::VolName;
 
 fn side_word(side: Side) -> &'static str

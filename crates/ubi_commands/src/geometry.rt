@@ -3,10 +3,10 @@
 ghost use Rattle.std.specs.Prelude.{◌≡◌, ◌+◌, ◌++◌, IfErr, IfOk, OnOk, codes, decimal};
 ghost use Rattle.ubi_scan.specs.Source.{Narrows, WhereHeld};
 ghost use Rattle.ubi_files.specs.AfterRun.{IsNoWrite, after_run};
-ghost use Rattle.ubi_commands.specs.Geometry.{Detects, DetectsFrom, is_whole_file, oob_option, options, options_line, options_lines, part_options, sizes_options};
+ghost use Rattle.ubi_commands.specs.Geometry.{Detects, DetectsFrom, geometry_told, is_whole_file, oob_option, options, options_line, options_lines, part_options, sizes_options};
 ghost use Rattle.ubi_files.specs.Views.{whole_file};
 
-use crate::lines::undetected_line;
+use crate::format::{Format, undetected_told};
 use itoa::Buffer;
 use std::alloc::{AllocError, Global};
 use ubi_detect::{DetectError, Detected, detect_from};
@@ -107,8 +107,24 @@ fn options_lines(
     Ok(text)
 }
 
-/// Tells the geometries that the headers of a part of a file give, and which part of the file the image is, each as the options of the
-/// other commands; or answers the line of the cause for which none is told. The source is over that part.
+/// What is told in a format of all that is told of a part of `len` bytes.
+fn geometry_told(
+    alloc: Global,
+    format: Format,
+    part: FilePart,
+    len: u64,
+    found: &[Detected],
+) -> Result<Vec<u8>, AllocError>
+    ensures { IfOk result (λ text. text.items ≡ geometry_told format part len found.now) }
+{
+    match format {
+        Format::Text => options_lines(alloc, part, len, found),
+        Format::Json => ubi_json::geometry_line(alloc, part, found),
+    }
+}
+
+/// Tells the geometries that the headers of a part of a file give, and which part of the file the image is, in lines each as the options
+/// of the other commands; or answers the cause for which none is told. The source is over that part.
 ///
 /// # Errors
 ///
@@ -117,34 +133,41 @@ pub fn run_geometry_from<S: BlockSource>(
     alloc: Global,
     source: &mut S,
     part: FilePart,
+    format: Format,
 ) -> Result<Outcome, ToolError>
     ensures known { S.known source.new ≡ after_run (S.known source.old) result }
     ensures narrows { Narrows (S.agrees source.old) (S.agrees source.new) }
-    ensures detected { IfOk result (DetectsFrom part (S.known source.old) (S.agrees source.new)) }
-    ensures detects { IfOk result (λ o. WhereHeld (S.agrees source.new) (λ bytes. Detects part bytes o)) }
+    ensures detected { IfOk result (DetectsFrom format part (S.known source.old) (S.agrees source.new)) }
+    ensures detects { IfOk result (λ o. WhereHeld (S.agrees source.new) (λ bytes. Detects format part bytes o)) }
     ensures failed { IfErr result IsNoWrite }
 {
     let len = source.len();
     match detect_from(alloc, source) {
         Ok(found) => {
-            let text = options_lines(alloc, part, len, found.as_slice())?;
+            let text = geometry_told(alloc, format, part, len, found.as_slice())?;
             Ok(Outcome::saying(text, DONE))
         }
         Err(DetectError::Undetected(cause)) => {
-            Ok(Outcome::saying(undetected_line(alloc, cause)?, FAILED))
+            let line = undetected_told(alloc, format, cause)?;
+            Ok(Outcome::saying(line, FAILED))
         }
         Err(DetectError::Read(_)) => Err(ToolError::Read),
         Err(DetectError::Memory) => Err(ToolError::Memory),
     }
 }
 
-/// Tells the geometries that the headers of a file give, as [`run_geometry_from`] does of a source.
+/// Tells in lines the geometries that the headers of a file give, as [`run_geometry_from`] does of a source.
 ///
 /// # Errors
 ///
 /// Memory ran out.
 pub fn run_geometry(alloc: Global, bytes: &[u8]) -> Result<Outcome, AllocError>
-    ensures { IfOk result (Detects whole_file bytes.now) }
+    ensures { IfOk result (Detects Format.Text whole_file bytes.now) }
 {
-    in_memory(run_geometry_from(alloc, &mut MemorySource::new(bytes), WHOLE_FILE))
+    in_memory(run_geometry_from(
+        alloc,
+        &mut MemorySource::new(bytes),
+        WHOLE_FILE,
+        Format::Text,
+    ))
 }

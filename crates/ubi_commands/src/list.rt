@@ -1,6 +1,6 @@
 //! The command `list`: the volumes of an image.
 
-ghost use Rattle.std.specs.Prelude.{◌≡◌, ◌++◌, ◌∷◌, [], IfErr, IfOk, None, OnOk, codes, length};
+ghost use Rattle.std.specs.Prelude.{◌≡◌, ◌++◌, ◌∷◌, [], All, IfErr, IfOk, None, OnOk, codes, length, map};
 ghost use Rattle.std.specs.FinMap as finite;
 ghost use Rattle.std.specs.List.{flat_map};
 ghost use Rattle.hex.specs.Hex.{encode_lower};
@@ -9,14 +9,17 @@ ghost use Rattle.ubi_scan.specs.Image.{image_of};
 ghost use Rattle.ubi_scan.specs.Source.{Narrows, WhereHeld};
 ghost use Rattle.ubi_volume.specs.Places.{ArePlaces, ArePlacesOf};
 ghost use Rattle.ubi_files.specs.AfterRun.{IsNoWrite, after_run};
-ghost use Rattle.ubi_commands.specs.List.{Lists, ListsFrom, amount_word, kind_word, list_lines, record_line, record_words, room_words, shown, shown_byte, sizes_line, volume_line};
+ghost use Rattle.ubi_commands.specs.List.{Lists, ListsFrom, amount_word, list_lines, list_told, record_line, record_words, room_words, sizes_line, volume_line};
+ghost use Rattle.ubi_json.specs.List.{list_data, listed_volume};
+ghost use Rattle.ubi_json.specs.Line.{json_line};
+ghost use Rattle.ubi_json.specs.Words.{shown};
 
+use crate::format::{Format, refusal_told};
 use crate::lines::put_layout;
 use std::alloc::{AllocError, Global};
-use ubi_files::{
-    DONE, FAILED, Numbers, Outcome, ToolError, in_memory, put_number, put_word, refusal_line,
-};
-use ubi_media::{Geometry, VolKind, VolumeRecord};
+use ubi_files::{DONE, FAILED, Numbers, Outcome, ToolError, in_memory, put_number, put_word};
+use ubi_json::{ListedVolume, kind_word, list_line, shown_text};
+use ubi_media::{Geometry, VolumeRecord};
 use ubi_scan::{BlockSource, MemorySource, StreamError};
 use ubi_volume::{Amount, Places, amount_of, attach_places};
 
@@ -28,36 +31,12 @@ pub fn put_digits(alloc: Global, text: &mut Vec<u8>, byte: u8) -> Result<(), All
     put_word(text, digits.as_str())
 }
 
-/// Adds a byte of a name as it is shown.
-fn put_shown_byte(alloc: Global, text: &mut Vec<u8>, byte: u8) -> Result<(), AllocError>
-    ensures { OnOk result (text.new.items ≡ text.old.items ++ shown_byte byte) }
-{
-    if byte >= 0x21 && byte <= 0x7E && byte != b'\\' {
-        text.push(byte)?;
-        return Ok(());
-    }
-    put_word(text, "\\x")?;
-    put_digits(alloc, text, byte)
-}
-
 /// Adds a name as it is shown.
 pub fn put_shown(alloc: Global, text: &mut Vec<u8>, name: &[u8]) -> Result<(), AllocError>
     ensures { OnOk result (text.new.items ≡ text.old.items ++ shown name.now) }
 {
-    for byte in name {
-        put_shown_byte(alloc, text, *byte)?;
-    }
-    Ok(())
-}
-
-/// The word of a kind.
-pub fn kind_word(kind: VolKind) -> &'static str
-    ensures { result.now ≡ kind_word kind }
-{
-    match kind {
-        VolKind::Dynamic => "dynamic",
-        VolKind::Static => "static",
-    }
+    let shown = shown_text(alloc, name)?;
+    put_word(text, shown.as_str())
 }
 
 /// Adds how much a volume reads, or why it can't be read.
@@ -198,7 +177,89 @@ fn list_lines<S: BlockSource>(
     Ok(text)
 }
 
-/// Lists the volumes of a source, or answers the line of its refusal. One eraseblock of contents is held at a time.
+/// Keeps what is listed of the volumes of a source, by rising number. The buffer has the size of an eraseblock.
+///
+/// # Errors
+///
+/// Read where a read failed. Memory where memory ran out.
+fn keep_volumes<S: BlockSource>(
+    listed: &mut Vec<ListedVolume>,
+    geometry: &Geometry,
+    source: &mut S,
+    places: &Places,
+    buffer: &mut [u8],
+) -> Result<(), ToolError>
+    requires places { ArePlacesOf geometry.now (S.known source.old) (S.agrees source.old) places.now }
+    requires room { length buffer.old ≡ geometry.now.peb_size }
+    requires none { listed.old.items ≡ [] }
+    ensures known { S.known source.new ≡ after_run (S.known source.old) result }
+    ensures narrows { Narrows (S.agrees source.old) (S.agrees source.new) }
+    ensures sound { OnOk result (All (λ v. rec_fault geometry.now v.entry ≡ None) listed.new.items) }
+    ensures volumes { OnOk result (WhereHeld (S.agrees source.new) (λ bytes. (h : ArePlaces (image_of geometry.now bytes) places.now) → listed.new.items ≡ map listed_volume (finite.entries h.meaning.volumes))) }
+    ensures failed { IfErr result IsNoWrite }
+{
+    for kept in places.table().entries() {
+        let (id, entry) = *kept;
+        match amount_of(geometry, source, places, id, &entry, buffer) {
+            Ok(amount) => listed.push(ListedVolume { id, entry, amount })?,
+            Err(StreamError::Read(_, _)) => return Err(ToolError::Read),
+            // Nothing is refused any more, and nothing is written.
+            Err(StreamError::Refused(_) | StreamError::Write(_) | StreamError::Memory) => {
+                unreachable!()
+            }
+        }
+    }
+    Ok(())
+}
+
+/// The line of the object of a source: the sizes of its device, and its volumes.
+///
+/// # Errors
+///
+/// Read where a read failed. Memory where memory ran out.
+fn list_object<S: BlockSource>(
+    alloc: Global,
+    geometry: &Geometry,
+    source: &mut S,
+    places: &Places,
+) -> Result<Vec<u8>, ToolError>
+    requires { ArePlacesOf geometry.now (S.known source.old) (S.agrees source.old) places.now }
+    ensures known { S.known source.new ≡ after_run (S.known source.old) result }
+    ensures narrows { Narrows (S.agrees source.old) (S.agrees source.new) }
+    ensures text { IfOk result (λ text. WhereHeld (S.agrees source.new) (λ bytes. (h : ArePlaces (image_of geometry.now bytes) places.now) → text.items ≡ json_line (list_data h.meaning))) }
+    ensures failed { IfErr result IsNoWrite }
+{
+    let mut buffer = Vec::from_elem(alloc, 0u8, geometry.peb_size() as usize)?;
+    let mut listed = Vec::new(alloc);
+    keep_volumes(&mut listed, geometry, source, places, buffer.as_mut_slice())?;
+    Ok(list_line(alloc, geometry, listed.as_slice())?)
+}
+
+/// What is told of a source in a format: the sizes of its device, and its volumes.
+///
+/// # Errors
+///
+/// Read where a read failed. Memory where memory ran out.
+fn list_told<S: BlockSource>(
+    alloc: Global,
+    geometry: &Geometry,
+    source: &mut S,
+    places: &Places,
+    format: Format,
+) -> Result<Vec<u8>, ToolError>
+    requires { ArePlacesOf geometry.now (S.known source.old) (S.agrees source.old) places.now }
+    ensures known { S.known source.new ≡ after_run (S.known source.old) result }
+    ensures narrows { Narrows (S.agrees source.old) (S.agrees source.new) }
+    ensures text { IfOk result (λ text. WhereHeld (S.agrees source.new) (λ bytes. (h : ArePlaces (image_of geometry.now bytes) places.now) → text.items ≡ list_told format h.meaning)) }
+    ensures failed { IfErr result IsNoWrite }
+{
+    match format {
+        Format::Text => list_lines(alloc, geometry, source, places),
+        Format::Json => list_object(alloc, geometry, source, places),
+    }
+}
+
+/// Lists the volumes of a source, or answers the cause of its refusal. One eraseblock of contents is held at a time.
 ///
 /// # Errors
 ///
@@ -207,20 +268,22 @@ pub fn run_list_from<S: BlockSource>(
     alloc: Global,
     geometry: &Geometry,
     source: &mut S,
+    format: Format,
 ) -> Result<Outcome, ToolError>
     ensures known { S.known source.new ≡ after_run (S.known source.old) result }
     ensures narrows { Narrows (S.agrees source.old) (S.agrees source.new) }
-    ensures listed { IfOk result (ListsFrom geometry.now (S.known source.old) (S.agrees source.new)) }
-    ensures lists { IfOk result (λ o. WhereHeld (S.agrees source.new) (λ bytes. Lists (image_of geometry.now bytes) o)) }
+    ensures listed { IfOk result (ListsFrom format geometry.now (S.known source.old) (S.agrees source.new)) }
+    ensures lists { IfOk result (λ o. WhereHeld (S.agrees source.new) (λ bytes. Lists format (image_of geometry.now bytes) o)) }
     ensures failed { IfErr result IsNoWrite }
 {
     match attach_places(alloc, geometry, source) {
         Ok(places) => {
-            let text = list_lines(alloc, geometry, source, &places)?;
+            let text = list_told(alloc, geometry, source, &places, format)?;
             Ok(Outcome::saying(text, DONE))
         }
         Err(StreamError::Refused(cause)) => {
-            Ok(Outcome::saying(refusal_line(alloc, cause)?, FAILED))
+            let line = refusal_told(alloc, format, cause)?;
+            Ok(Outcome::saying(line, FAILED))
         }
         Err(StreamError::Read(_, _)) => Err(ToolError::Read),
         Err(StreamError::Memory) => Err(ToolError::Memory),
@@ -229,13 +292,13 @@ pub fn run_list_from<S: BlockSource>(
     }
 }
 
-/// Lists the volumes of an image, or answers the line of its refusal.
+/// Lists the volumes of an image in lines, or answers the line of its refusal.
 ///
 /// # Errors
 ///
 /// Memory ran out.
 pub fn run_list(alloc: Global, geometry: &Geometry, image: &[u8]) -> Result<Outcome, AllocError>
-    ensures { IfOk result (Lists (image_of geometry.now image.now)) }
+    ensures { IfOk result (Lists Format.Text (image_of geometry.now image.now)) }
 {
-    in_memory(run_list_from(alloc, geometry, &mut MemorySource::new(image)))
+    in_memory(run_list_from(alloc, geometry, &mut MemorySource::new(image), Format::Text))
 }

@@ -1,22 +1,25 @@
 //! The commands that read an image file, and write none.
 
 ghost use Rattle.std.specs.Option.{ForSome};
-ghost use Rattle.std.specs.Prelude.{◌≡◌, IfErr, IfOk};
+ghost use Rattle.std.specs.Prelude.{◌≡◌, Err, IfErr, IfOk, codes};
 ghost use Rattle.ubi_scan.specs.Source.{Narrows};
 ghost use Rattle.ubi_files.specs.AfterRun.{IsNoWrite, after_run};
 ghost use Rattle.ubi_files.specs.Kept.{IsPartOf};
-ghost use Rattle.ubi_commands.specs.Program.{OfAsked};
-ghost use Rattle.ubi_files.specs.OverFile.{OfFile};
-ghost use Rattle.ubi_commands.specs.Reads.{reads};
+ghost use Rattle.ubi_commands.specs.InFormat.{IsUnreadOfAsked, OfAskedIn, OfFileIn, OfRead, OfReadAsked};
+ghost use Rattle.ubi_files.specs.OverFile.{IsUnseen, OfFile};
+ghost use Rattle.ubi_files.specs.Told.{Tells};
+ghost use Rattle.ubi_files.specs.Lines.{file_line};
+ghost use Rattle.ubi_commands.specs.Reads.{format_of, reads};
 
 use crate::asked::Asked;
 use crate::check::run_check_from;
 use crate::finding::{KnownDump, find_dump, open_known};
+use crate::format::{Format, told_in};
 use crate::geometry::run_geometry_from;
 use crate::list::run_list_from;
 use crate::show::run_show_from;
 use std::alloc::{AllocError, Global};
-use ubi_files::{Disk, FilePart, OpenImage, Outcome, ToolError, frame_of, told};
+use ubi_files::{Disk, FilePart, OpenImage, Outcome, ToolError, Unread, frame_of, unread_file};
 use ubi_media::Geometry;
 use ubi_scan::{BlockSource, MemorySource};
 
@@ -25,16 +28,28 @@ use ubi_scan::{BlockSource, MemorySource};
 pub enum Reading {
     /// `geometry`: the geometries that the headers in a part of the file give, and which part the image is, whatever geometry the
     /// words give.
-    Geometry(FilePart),
+    Geometry(FilePart, Format),
     /// `list`: the volumes.
-    List,
+    List(Format),
     /// `check`: the states of the eraseblocks.
-    Check,
+    Check(Format),
     /// `show`: the headers of the eraseblock with this number.
     Show(u32),
 }
 
 impl Reading {
+    /// The format in which it answers.
+    fn format(&self) -> Format
+        ensures { result ≡ format_of self.now }
+    {
+        match self {
+            Reading::Geometry(_, format) | Reading::List(format) | Reading::Check(format) => {
+                *format
+            }
+            Reading::Show(_) => Format::Text,
+        }
+    }
+
     /// Does its work over a source.
     ///
     /// # Errors
@@ -52,15 +67,85 @@ impl Reading {
         ensures failed { IfErr result IsNoWrite }
     {
         match self {
-            Reading::Geometry(part) => run_geometry_from(alloc, source, *part),
-            Reading::List => run_list_from(alloc, geometry, source),
-            Reading::Check => run_check_from(alloc, geometry, source),
+            Reading::Geometry(part, format) => run_geometry_from(alloc, source, *part, *format),
+            Reading::List(format) => run_list_from(alloc, geometry, source, *format),
+            Reading::Check(format) => run_check_from(alloc, geometry, source, *format),
             Reading::Show(block) => run_show_from(alloc, geometry, source, *block),
         }
     }
 }
 
+/// The outcome of work over a file.
+///
+/// # Errors
+///
+/// The line of the file, where a read failed; or that memory ran out.
+fn done_over(alloc: Global, work: Result<Outcome, ToolError>, path: &str) -> Result<Outcome, Unread>
+    requires { IfErr work IsNoWrite }
+    ensures done { IfOk result (λ o. work ≡ Ok o) }
+    ensures unread { IfErr result (Tells (λ o. (work ≡ Err ToolError.Read) × Gives o (says (file_line (codes "cannot read ") path.now) 1))) }
+{
+    match work {
+        Ok(outcome) => Ok(outcome),
+        Err(ToolError::Read) => Err(unread_file(alloc, path, ToolError::Read)),
+        Err(ToolError::Memory) => Err(Unread::Memory),
+        // Nothing is written.
+        Err(ToolError::Write) => unreachable!(),
+    }
+}
+
 /// Does the work of a command over a dump of which it is known how it is read.
+///
+/// # Errors
+///
+/// The line of a dump that can't be had, or that memory ran out.
+fn answer_dump<D: Disk>(
+    disk: &D,
+    alloc: Global,
+    known: KnownDump<'_>,
+    image: &str,
+    command: &Reading,
+) -> Result<Outcome, Unread>
+    requires kept { ForSome known.kept (λ bytes. IsPartOf (D.files disk.now) known.dump image.now bytes.items) }
+    ensures answer { IfOk result (OfRead (D.files disk.now) known.entry.dump image.now (reads command.now)) }
+    ensures unread { IfErr result (Tells (IsUnseen (D.files disk.now) known.entry.dump image.now)) }
+{
+    let KnownDump { dump, kept } = known;
+    let frame = frame_of(alloc, &dump)?;
+    match open_known(disk, alloc, &frame, kept, image)? {
+        OpenImage::AtPlaces(mut file) => {
+            let geometry = file.geometry;
+            let work = command.answer(alloc, &geometry, &mut file.source);
+            done_over(alloc, work, image)
+        }
+        OpenImage::Whole(file) => {
+            let mut source = MemorySource::new(file.bytes.as_slice());
+            let work = command.answer(alloc, &file.geometry, &mut source);
+            done_over(alloc, work, image)
+        }
+    }
+}
+
+/// Does the work of a command over an image file, which is read as the words tell, or as its own headers do.
+///
+/// # Errors
+///
+/// The line of a file of which no dump is told, or whose dump can't be had; or that memory ran out.
+fn answer_file<D: Disk>(
+    disk: &D,
+    alloc: Global,
+    asked: &Asked<'_>,
+    image: &str,
+    command: &Reading,
+) -> Result<Outcome, Unread>
+    ensures answer { IfOk result (OfReadAsked (D.files disk.now) asked.now image.now (reads command.now)) }
+    ensures unread { IfErr result (Tells (IsUnreadOfAsked (D.files disk.now) (D.files disk.now) asked.now image.now)) }
+{
+    let known = find_dump(disk, alloc, asked, image, "")?;
+    answer_dump(disk, alloc, known, image, command)
+}
+
+/// What a command answers over a dump of which it is known how it is read, in its format.
 pub fn read_dump<D: Disk>(
     disk: &D,
     alloc: Global,
@@ -69,32 +154,13 @@ pub fn read_dump<D: Disk>(
     command: &Reading,
 ) -> Result<Outcome, AllocError>
     requires kept { ForSome known.kept (λ bytes. IsPartOf (D.files disk.now) known.dump image.now bytes.items) }
-    ensures { IfOk result (OfFile (D.files disk.now) known.entry.dump image.now (reads command.now)) }
+    ensures { IfOk result (OfFileIn (format_of command.now) (D.files disk.now) known.entry.dump image.now (reads command.now)) }
 {
-    let KnownDump { dump, kept } = known;
-    let frame = match frame_of(alloc, &dump) {
-        Ok(frame) => frame,
-        Err(unread) => return unread.answer(),
-    };
-    match open_known(disk, alloc, &frame, kept, image) {
-        Ok(OpenImage::AtPlaces(mut file)) => {
-            let geometry = file.geometry;
-            let work = command.answer(alloc, &geometry, &mut file.source);
-            told(alloc, work, image)
-        }
-        Ok(OpenImage::Whole(file)) => {
-            let mut source = MemorySource::new(file.bytes.as_slice());
-            told(
-                alloc,
-                command.answer(alloc, &file.geometry, &mut source),
-                image,
-            )
-        }
-        Err(unread) => unread.answer(),
-    }
+    let work = answer_dump(disk, alloc, known, image, command);
+    told_in(alloc, command.format(), work)
 }
 
-/// Does the work of a command over an image file, which is read as the words tell, or as its own headers do.
+/// What a command answers over an image file, which is read as the words tell, or as its own headers do, in its format.
 pub fn read_file<D: Disk>(
     disk: &D,
     alloc: Global,
@@ -102,10 +168,8 @@ pub fn read_file<D: Disk>(
     image: &str,
     command: &Reading,
 ) -> Result<Outcome, AllocError>
-    ensures { IfOk result (OfAsked (D.files disk.now) (D.files disk.now) asked.now image.now (reads command.now)) }
+    ensures { IfOk result (OfAskedIn (format_of command.now) (D.files disk.now) (D.files disk.now) asked.now image.now (reads command.now)) }
 {
-    match find_dump(disk, alloc, asked, image, "") {
-        Ok(known) => read_dump(disk, alloc, known, image, command),
-        Err(unread) => unread.answer(),
-    }
+    let work = answer_file(disk, alloc, asked, image, command);
+    told_in(alloc, command.format(), work)
 }

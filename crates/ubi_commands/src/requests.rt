@@ -9,13 +9,14 @@ ghost use Rattle.ubi_commands.specs.inner.CommandLine.{IsAskedBy, words_in};
 
 use crate::asked::{
     Asked, Change, Extract, NewImage, Paths, Rename, are_listed, asked_of, blank_of, dump_of,
-    gives_no_geometry, leb_change, new_image, number_of, numbers_of, part_of, paths_of, text_of,
-    volume_extract, volume_rename,
+    format_of, gives_no_geometry, leb_change, new_image, number_of, numbers_of, part_of, paths_of,
+    text_of, volume_extract, volume_rename,
 };
 use crate::build::build_file;
 use crate::comparison::{Comparison, compare_files};
 use crate::compose::compose_file;
 use crate::finding::KnownDump;
+use crate::format::Format;
 use crate::planners::{change_file, rename_file};
 use crate::readers::{Reading, read_dump, read_file};
 use crate::unpack::unpack_file;
@@ -41,6 +42,11 @@ const BAD_LIST: &str =
 For more information, try '--help'.
 ";
 
+const BAD_FORMAT: &str = "error: '--format' takes the word text or json
+
+For more information, try '--help'.
+";
+
 const BAD_BLANK: &str = "error: '--blank' takes the word keep
 
 For more information, try '--help'.
@@ -53,6 +59,7 @@ pub enum Request<'a> {
     Geometry {
         part: FilePart,
         image: &'a str,
+        format: Format,
     },
     /// What a command tells of one file that writes none.
     Tell {
@@ -118,6 +125,7 @@ pub fn why_unasked(matches: &ArgMatches<'_>) -> &'static str {
     match matches.subcommand() {
         Some((_, words)) if !are_listed(words.get_str("bad")) => BAD_LIST,
         Some((_, words)) if blank_of(words).is_none() => BAD_BLANK,
+        Some((_, words)) if format_of(words).is_none() => BAD_FORMAT,
         Some((_, words)) if numbers_of(words).is_none() && !gives_no_geometry(words) =>
             HALF_GEOMETRY,
         _ => ONE_VOLUME,
@@ -152,6 +160,7 @@ fn geometry_of<'a>(matches: &'a ArgMatches<'_>) -> Option<Request<'a>>
     Some(Request::Geometry {
         part: part_of(matches),
         image: text_of(matches, "IMAGE")?,
+        format: format_of(matches)?,
     })
 }
 
@@ -161,7 +170,7 @@ fn list_of<'a>(matches: &'a ArgMatches<'_>) -> Option<Request<'a>>
     Some(Request::Tell {
         dump: asked_of(matches)?,
         image: text_of(matches, "IMAGE")?,
-        command: Reading::List,
+        command: Reading::List(format_of(matches)?),
     })
 }
 
@@ -171,7 +180,7 @@ fn check_of<'a>(matches: &'a ArgMatches<'_>) -> Option<Request<'a>>
     Some(Request::Tell {
         dump: asked_of(matches)?,
         image: text_of(matches, "IMAGE")?,
-        command: Reading::Check,
+        command: Reading::Check(format_of(matches)?),
     })
 }
 
@@ -282,9 +291,13 @@ pub fn run_request<D: Disk + Eprint>(
     ensures memory { OnErr result (AllStay (D.files disk.old) (D.files disk.new)) }
 {
     match request {
-        Request::Geometry { part, image } => {
+        Request::Geometry {
+            part,
+            image,
+            format,
+        } => {
             let known = KnownDump::given(Dump::greatest(part));
-            read_dump(disk, alloc, known, image, &Reading::Geometry(part))
+            read_dump(disk, alloc, known, image, &Reading::Geometry(part, format))
         }
         Request::Tell {
             dump,

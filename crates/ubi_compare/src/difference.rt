@@ -26,9 +26,15 @@ pub enum Condition {
 #[derive(Clone, Copy, Debug, PartialEq, Eq)]
 pub enum Difference {
     /// The image sequence numbers differ.
-    ImageSeq { left: u32, right: u32 },
+    ImageSeq {
+        left: u32,
+        right: u32,
+    },
     /// One side alone has the volume.
-    Only { id: u32, side: Side },
+    Only {
+        id: u32,
+        side: Side,
+    },
     /// The kinds of the volume differ.
     Kind {
         id: u32,
@@ -36,11 +42,23 @@ pub enum Difference {
         right: VolKind,
     },
     /// It reserves another number of eraseblocks.
-    Reserved { id: u32, left: u32, right: u32 },
+    Reserved {
+        id: u32,
+        left: u32,
+        right: u32,
+    },
     /// The alignments differ.
-    Alignment { id: u32, left: u32, right: u32 },
+    Alignment {
+        id: u32,
+        left: u32,
+        right: u32,
+    },
     /// The flags differ.
-    Flags { id: u32, left: u8, right: u8 },
+    Flags {
+        id: u32,
+        left: u8,
+        right: u8,
+    },
     /// The names differ.
     Name {
         id: u32,
@@ -54,7 +72,15 @@ pub enum Difference {
         right: Condition,
     },
     /// A static volume has another number of bytes.
-    Bytes { id: u32, left: u64, right: u64 },
+    Bytes {
+        id: u32,
+        left: u64,
+        right: u64,
+    },
     /// The logical eraseblocks from `first` to `last` can be read on both sides, and read differently.
-    Lebs { id: u32, first: u32, last: u32 },
+    Lebs {
+        id: u32,
+        first: u32,
+        last: u32,
+    },
 }

@@ -53,9 +53,9 @@ pub fn compare_lengths(
 ) -> Result<(), AllocError>
     ensures { OnOk result (Adds found.old found.new (case_lengths id left right)) }
 {
-    let (PlaceContent::Static { bytes: left, .. }, PlaceContent::Static { bytes: right, .. }) =
-        (left, right)
-    else {
+    let (PlaceContent::Static { bytes: left, .. }, PlaceContent::Static { bytes: right, .. }) = (
+        left, right,
+    ) else {
         return Ok(());
     };
     found.add_unless(left == right, Difference::Bytes { id, left, right })

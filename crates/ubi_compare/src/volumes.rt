@@ -134,9 +134,7 @@ fn compare_volume<L: BlockSource, R: BlockSource>(
         entry: other,
         case,
     };
-    compare_contents(
-        alloc, geometry, left, right, one, two, id, buffers, found,
-    )
+    compare_contents(alloc, geometry, left, right, one, two, id, buffers, found)
 }
 
 /// Adds in what the volumes with a number differ, if there are any.

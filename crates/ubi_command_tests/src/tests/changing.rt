@@ -4,7 +4,7 @@ use std::alloc::Global;
 use std::test::Fail;
 use ubi_change::Avoided;
 use ubi_commands::{
-    Comparison, NewBytes, Reading, run_change, run_change_from, run_rename, run_rename_from,
+    Comparison, Format, NewBytes, Reading, run_change, run_change_from, run_rename, run_rename_from,
 };
 use ubi_compose::normalise_to;
 use ubi_files::Outcome;
@@ -138,8 +138,8 @@ fn is_compared<'a>(
 fn are_answered(alloc: Global, first: &[u8], then: &[u8], left: u64) -> Result<bool, Fail> {
     let (bytes, is_same) = ((first, then), left == 49);
     Ok(
-        is_answered(alloc, Reading::Check, bytes, left, is_same)?
-            && is_answered(alloc, Reading::List, bytes, left, is_same)?
+        is_answered(alloc, Reading::Check(Format::Text), bytes, left, is_same)?
+            && is_answered(alloc, Reading::List(Format::Text), bytes, left, is_same)?
             && is_answered(alloc, Reading::Show(1), bytes, left, left >= 2)?
             && is_compared(alloc, first, then, left)?
             && is_sound(alloc, first, then, left)?,

@@ -19,7 +19,11 @@ const BOTH_ENDS: Contents = Contents::Pebs(
 /// The same with another byte in each of the three.
 const ALL_THREE: Contents = Contents::Pebs(
     &[FIRST, SECOND, A, B, C],
-    &[(2 * 512 + 128, b"x"), (3 * 512 + 200, b"x"), (5 * 512 - 1, b"x")],
+    &[
+        (2 * 512 + 128, b"x"),
+        (3 * 512 + 200, b"x"),
+        (5 * 512 - 1, b"x"),
+    ],
 );
 
 /// The same without its last logical eraseblock, which then reads 0xFF.
@@ -37,7 +41,11 @@ static THE_SAME: [(Contents, Contents); 5] = [
 
 /// Two images, and the lines of their differences in this order.
 static OTHERS: [(Contents, Contents, &str); 15] = [
-    (Contents::Root, Contents::Unnamed, "seq left=305419896 right=0\n"),
+    (
+        Contents::Root,
+        Contents::Unnamed,
+        "seq left=305419896 right=0\n",
+    ),
     (
         Contents::Root,
         Contents::Runs(&[(b"\xFF", 512)]),
@@ -49,7 +57,11 @@ static OTHERS: [(Contents, Contents, &str); 15] = [
         "seq left=0 right=305419896\nvolume 0 only right\n",
     ),
     (Contents::WithData, Contents::Spares, "volume 1 only left\n"),
-    (Contents::Spares, Contents::WithData, "volume 1 only right\n"),
+    (
+        Contents::Spares,
+        Contents::WithData,
+        "volume 1 only right\n",
+    ),
     (
         Contents::WithData,
         Contents::WithName,
@@ -88,7 +100,11 @@ static OTHERS: [(Contents, Contents, &str); 15] = [
         Contents::Unnamed,
         "volume 0 alignment left=256 right=1\n",
     ),
-    (Contents::Root, BOTH_ENDS, "volume 0 lebs 0\nvolume 0 lebs 2\n"),
+    (
+        Contents::Root,
+        BOTH_ENDS,
+        "volume 0 lebs 0\nvolume 0 lebs 2\n",
+    ),
     (Contents::Root, ALL_THREE, "volume 0 lebs 0-2\n"),
     (Contents::Root, WITHOUT_LAST, "volume 0 lebs 2\n"),
 ];

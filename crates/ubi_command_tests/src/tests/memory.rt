@@ -9,7 +9,9 @@ use super::fake::{Broken, FakeFiles, Left};
 use super::geometry::SMALL;
 use super::opened::opens_right;
 use super::rename::LINES;
-use super::shown::{CHANGED, ROOT_CHECKED, ROOT_LISTED, ROOT_SHOWN};
+use super::shown::{
+    CHANGED, ROOT_CHECKED, ROOT_COUNTS, ROOT_LISTED, ROOT_SHOWN, ROOT_VOLUMES, SMALL_OBJECT,
+};
 use std::alloc::{AllocError, Global};
 use std::process::Abort;
 use std::test::Fail;
@@ -149,8 +151,20 @@ fn tells_all(rt: &impl Abort, alloc: Global, geometry: &Geometry) -> Result<bool
         is_told(rt, run_show(alloc, geometry, image, 4), ROOT_SHOWN),
         is_extracted(rt, alloc, geometry, image, text.as_slice()),
         is_normalised(rt, alloc, geometry, image),
-        is_compared(rt, alloc, geometry, (Comparison::Same, image, image), "same\n"),
-        is_compared(rt, alloc, geometry, (Comparison::Diff, image, other.as_slice()), DIFFERENT),
+        is_compared(
+            rt,
+            alloc,
+            geometry,
+            (Comparison::Same, image, image),
+            "same\n",
+        ),
+        is_compared(
+            rt,
+            alloc,
+            geometry,
+            (Comparison::Diff, image, other.as_slice()),
+            DIFFERENT,
+        ),
         is_told(rt, run_compose(alloc, geometry, SPEC, 1, 0), "blocks 5\n"),
         is_told(rt, changed, CHANGED),
         is_told(rt, renamed, LINES),
@@ -167,8 +181,21 @@ fn tells_all_or_runs_out_of_memory(rt: HostRuntime) -> Result<(), Fail> {
 }
 
 /// The words of a command, how many bytes of the image they are over, what is answered, and how many bytes are written.
-static WORDS: [(&str, usize, &str, usize); 11] = [
+static WORDS: [(&str, usize, &str, usize); 14] = [
     ("geometry a", 2560, SMALL, 0),
+    ("geometry a --format json", 2560, SMALL_OBJECT, 0),
+    (
+        "check a --format json --peb 512 --page 64",
+        2560,
+        ROOT_COUNTS,
+        0,
+    ),
+    (
+        "list a --format json --peb 512 --page 64 --pebs 32",
+        2560,
+        ROOT_VOLUMES,
+        0,
+    ),
     ("list a --peb 512 --page 64 --pebs 32", 2560, ROOT_LISTED, 0),
     ("show a --block 4 --peb 512 --page 64", 2560, ROOT_SHOWN, 0),
     (

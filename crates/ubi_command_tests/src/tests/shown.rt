@@ -46,3 +46,18 @@ pub const CHANGED: &str = "steps 4\nprogram block=5 page=1\nprogram block=5 page
 pub const CHANGED_IN_BLANK: &str =
     "steps 6\nerase block=5\nprogram block=5 page=0\nprogram block=5 page=1\n\
     program block=5 page=2\nerase block=3\nprogram block=3 page=0\n";
+
+/// What `geometry`, `check` and `list` tell of `root` as JSON.
+pub const SMALL_OBJECT: &str =
+    "{\"geometries\":[{\"data\":128,\"length\":2560,\"oob\":0,\"page\":64,\"peb\":512,\"start\":0,\"vid\":64},\
+    {\"data\":128,\"length\":2560,\"oob\":0,\"page\":128,\"peb\":512,\"start\":0,\"vid\":64}]}\n";
+
+pub const ROOT_COUNTS: &str =
+    "{\"accepted\":true,\"blocks\":5,\"image_seq\":305419896,\"mean_counter\":0,\
+    \"states\":{\"blank\":0,\"corrupt\":0,\"dropped\":0,\"free\":0,\"garbage\":0,\"orphan\":0,\"stale\":0,\
+    \"table\":2,\"used\":3},\"top_sqnum\":0}\n";
+
+pub const ROOT_VOLUMES: &str =
+    "{\"geometry\":{\"data\":128,\"leb\":384,\"page\":64,\"peb\":512,\"pebs\":32,\
+    \"slots\":2,\"vid\":64},\"volumes\":[{\"alignment\":1,\"flags\":0,\"id\":0,\"kind\":\"dynamic\",\"lebs\":3,\
+    \"name\":\"root\",\"reserved\":20,\"usable\":384}]}\n";

@@ -12,18 +12,18 @@ returns-in_ok-text-in-Ok-clause-detects g c = λ bytes holds.
     let known = g.S.BlockSource.known c.args.source.now in
     let agrees = g.S.BlockSource.agrees c.detect_from.new.source in
     let sized = source_narrowed known _ agrees c.in-Ok.ensures.narrows (g.met.S.BlockSource.sized c.args.source.now) in
-    of_found c.args.part known agrees bytes holds c.saying.result sized c.in-Ok.found.items c.in-Ok.ensures.found
+    of_found c.args.format c.args.part known agrees bytes holds c.saying.result sized c.in-Ok.found.items c.in-Ok.ensures.found
     (rw (c.in_ok-text-in-Ok.ensures, c.as_slice.ensures.value, c.len-len.ensures) at c.saying.ensures)
 
-pub returns-in_ok-undetected_line-in-Err-Undetected-clause-detected : goal.returns-in_ok-undetected_line-in-Err-Undetected-clause-detected
-returns-in_ok-undetected_line-in-Err-Undetected-clause-detected g c =
+pub returns-in_ok-line-in-Err-Undetected-clause-detected : goal.returns-in_ok-line-in-Err-Undetected-clause-detected
+returns-in_ok-line-in-Err-Undetected-clause-detected g c =
     undetected_from c.in-Err-Undetected.cause (rw c.in-Err-Undetected.field-0-is at c.in-Err-Undetected.ensures.refused)
-    (rw (c.in_ok-undetected_line-in-Err-Undetected.ensures, c.in-Err-Undetected.field-0-is) at c.saying-in-Err-Undetected.ensures)
+    (rw (c.in_ok-line-in-Err-Undetected.ensures, c.in-Err-Undetected.field-0-is) at c.saying-in-Err-Undetected.ensures)
 
-pub returns-in_ok-undetected_line-in-Err-Undetected-clause-detects : goal.returns-in_ok-undetected_line-in-Err-Undetected-clause-detects
-returns-in_ok-undetected_line-in-Err-Undetected-clause-detects g c = λ bytes holds.
+pub returns-in_ok-line-in-Err-Undetected-clause-detects : goal.returns-in_ok-line-in-Err-Undetected-clause-detects
+returns-in_ok-line-in-Err-Undetected-clause-detects g c = λ bytes holds.
     let known = g.S.BlockSource.known c.args.source.now in
     let agrees = g.S.BlockSource.agrees c.detect_from.new.source in
-    of_cause c.args.part known agrees bytes holds c.saying-in-Err-Undetected.result c.in-Err-Undetected.cause
+    of_cause c.args.format c.args.part known agrees bytes holds c.saying-in-Err-Undetected.result c.in-Err-Undetected.cause
     (rw c.in-Err-Undetected.field-0-is at c.in-Err-Undetected.ensures.refused)
-    (rw (c.in_ok-undetected_line-in-Err-Undetected.ensures, c.in-Err-Undetected.field-0-is) at c.saying-in-Err-Undetected.ensures)
+    (rw (c.in_ok-line-in-Err-Undetected.ensures, c.in-Err-Undetected.field-0-is) at c.saying-in-Err-Undetected.ensures)

@@ -1,12 +1,10 @@
-use Rattle.ubi_commands.proofs.Prelude.{refl, IfOk-weaker, of_dump, untold}
-use Rattle.ubi_commands.proofs.Outcomes.{told}
+use Rattle.ubi_commands.proofs.Prelude.{reads, format_of}
+use Rattle.ubi_commands.proofs.InFormat.{asked_told}
 use Rattle.ubi_commands.proofs.readers.read_file.Goals as goal
 
-pub returns-in-Ok : goal.returns-in-Ok
-returns-in-Ok g c =
-    IfOk-weaker c.read_dump.result _ _ (λ o h. of_dump c.in-Ok.known.dump c.in-Ok.ensures.dump h) c.read_dump.ensures
-
-pub returns-in-Err : goal.returns-in-Err
-returns-in-Err g c =
-    IfOk-weaker c.answer.result _ _ (λ o h. untold h (λ path. refl))
-    (told _ c.in-Err.unread c.answer.result c.in-Err.ensures.untold c.answer.ensures)
+pub returns : goal.returns
+returns g c =
+    let command = c.args.command.now in
+    let told = rw c.format.ensures at c.told_in.ensures in
+    asked_told (g.D.Disk.files c.args.disk.now) c.args.image.now (reads command) (format_of command) c.args.asked.now
+    c.answer_file-work.result c.told_in.result c.answer_file-work.ensures.answer c.answer_file-work.ensures.unread told

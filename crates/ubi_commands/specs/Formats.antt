@@ -1,0 +1,25 @@
+-- The formats in which commands answer, and what is told in each where nothing else is.
+use Rattle.std.specs.Prelude.{List, codes, ℕ}
+use Rattle.ubi_media.specs.declared.refusal.Refusal.{Refusal}
+use Rattle.ubi_detect.specs.declared.detect.Undetected.{Undetected}
+use Rattle.ubi_files.specs.Lines.{refusal_line}
+use Rattle.ubi_json.specs.Line.{json_line}
+use Rattle.ubi_json.specs.Told.{refusal_data, undetected_data}
+use Rattle.ubi_commands.specs.Lines.{undetected_line}
+use Rattle.ubi_commands.specs.declared.format.Format.{Format}
+use Rattle.ubi_commands.specs.declared.format.Format.TheVariants as format
+
+-- the word for a format
+abbrev pub format_word : Format → List ℕ
+format_word format.Text = codes "text"
+format_word format.Json = codes "json"
+
+-- what is told of an image that is refused: the line of the cause, or the line of its object
+abbrev pub refusal_told : Format → Refusal → List ℕ
+refusal_told format.Text c = refusal_line c
+refusal_told format.Json c = json_line (refusal_data c)
+
+-- and of a file of which no geometry is told
+abbrev pub undetected_told : Format → Undetected → List ℕ
+undetected_told format.Text c = undetected_line c
+undetected_told format.Json c = json_line (undetected_data c)

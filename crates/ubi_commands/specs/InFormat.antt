@@ -1,0 +1,46 @@
+-- What a command can answer over one file, in a format.
+use Rattle.std.specs.Prelude.{◌≡◌, List, Result, Ok, Err, ℕ}
+use Rattle.ubi_media.specs.Geometry.{Sizes}
+use Rattle.ubi_scan.specs.Source.{Agreed, Source}
+use Rattle.ubi_files.specs.Answer.{Gives, says}
+use Rattle.ubi_files.specs.Disk.{Files}
+use Rattle.ubi_files.specs.Numbers.{sizes_of}
+use Rattle.ubi_files.specs.OverFile.{IsUnseen, OfFile, WhereRead}
+use Rattle.ubi_files.specs.declared.dump.Dump.{Dump}
+use Rattle.ubi_files.specs.declared.outcome.Outcome.{Outcome}
+use Rattle.ubi_json.specs.Line.{json_line}
+use Rattle.ubi_json.specs.Told.{error_data}
+use Rattle.ubi_commands.specs.Program.{IsDump, OfAsked}
+use Rattle.ubi_commands.specs.declared.asked.Asked.{Asked}
+use Rattle.ubi_commands.specs.declared.format.Format.{Format}
+use Rattle.ubi_commands.specs.declared.format.Format.TheVariants as format
+
+-- what is answered as JSON: of a file that can't be had, the object of the line that is printed of it, with the status of that; or
+-- what a command answers of what it reads
+pub data InJson (fails answers : Outcome → Type 0) : Outcome → Type 0 where
+  failed : {o : Outcome} (plain : Outcome) → fails plain → Gives o (says (json_line (error_data plain.text.items)) plain.status)
+      → InJson fails answers o
+  answered : {o : Outcome} → answers o → InJson fails answers o
+
+-- what a command answers of a dump that can be read
+abbrev pub OfRead : Files → Dump → List ℕ → (Sizes → Source → Agreed → Outcome → Type 0) → Outcome → Type 0
+OfRead d dump path answers o = WhereRead d dump path (λ k agrees. answers (sizes_of dump.numbers) k agrees o)
+
+-- what it can answer over a dump whose geometry is known
+abbrev pub OfFileIn : Format → Files → Dump → List ℕ → (Sizes → Source → Agreed → Outcome → Type 0) → Outcome → Type 0
+OfFileIn format.Text d dump path answers = OfFile d dump path answers
+OfFileIn format.Json d dump path answers = InJson (IsUnseen d dump path) (OfRead d dump path answers)
+
+-- what is printed of a file where no dump is told of it, or the dump can't be had: what can be answered over it by a command that
+-- answers nothing of what it reads
+abbrev pub IsUnreadOfAsked : Files → Files → Asked → List ℕ → Outcome → Type 0
+IsUnreadOfAsked d e asked path = OfAsked d e asked path (λ _ _ _ _. ⊥)
+
+-- what a command answers of the dump that is asked for, where that can be read
+abbrev pub OfReadAsked : Files → Asked → List ℕ → (Sizes → Source → Agreed → Outcome → Type 0) → Outcome → Type 0
+OfReadAsked d asked path answers o = (dump : Dump) × IsDump d path asked dump × OfRead d dump path answers o
+
+-- what it can answer over one file
+abbrev pub OfAskedIn : Format → Files → Files → Asked → List ℕ → (Sizes → Source → Agreed → Outcome → Type 0) → Outcome → Type 0
+OfAskedIn format.Text d e asked path answers = OfAsked d e asked path answers
+OfAskedIn format.Json d e asked path answers = InJson (IsUnreadOfAsked d e asked path) (OfReadAsked d asked path answers)

@@ -1,0 +1,73 @@
+//! The formats in which commands answer.
+
+ghost use Rattle.std.specs.Prelude.{◌≡◌, IfOk};
+ghost use Rattle.ubi_commands.specs.Formats.{refusal_told, undetected_told};
+ghost use Rattle.ubi_commands.specs.inner.Formatted.{IsLineIn, IsToldIn};
+
+use crate::lines::undetected_line;
+use std::alloc::{AllocError, Global};
+use ubi_detect::Undetected;
+use ubi_files::{Outcome, Unread, refusal_line};
+use ubi_json::error_line;
+use ubi_media::Refusal;
+
+/// How an answer is told.
+#[derive(Clone, Copy)]
+pub enum Format {
+    /// In lines for people.
+    Text,
+    /// As one JSON object on one line.
+    Json,
+}
+
+/// What is told of an image that is refused.
+pub fn refusal_told(alloc: Global, format: Format, cause: Refusal) -> Result<Vec<u8>, AllocError>
+    ensures { IfOk result (λ text. text.items ≡ refusal_told format cause) }
+{
+    match format {
+        Format::Text => refusal_line(alloc, cause),
+        Format::Json => ubi_json::refusal_line(alloc, cause),
+    }
+}
+
+/// What is told of a file of which no geometry is told.
+pub fn undetected_told(
+    alloc: Global,
+    format: Format,
+    cause: Undetected,
+) -> Result<Vec<u8>, AllocError>
+    ensures { IfOk result (λ text. text.items ≡ undetected_told format cause) }
+{
+    match format {
+        Format::Text => undetected_line(alloc, cause),
+        Format::Json => ubi_json::undetected_line(alloc, cause),
+    }
+}
+
+/// What is told of a file that can't be had, of which this is printed in plain lines.
+fn plain_in(alloc: Global, format: Format, plain: Outcome) -> Result<Outcome, AllocError>
+    ensures { IfOk result (IsLineIn format plain) }
+{
+    match format {
+        Format::Text => Ok(plain),
+        Format::Json => {
+            let line = error_line(alloc, plain.text.as_slice())?;
+            Ok(Outcome::saying(line, plain.status))
+        }
+    }
+}
+
+/// What is told of work: its outcome, or what is printed of a file that can't be had.
+pub fn told_in(
+    alloc: Global,
+    format: Format,
+    work: Result<Outcome, Unread>,
+) -> Result<Outcome, AllocError>
+    ensures { IfOk result (IsToldIn format work) }
+{
+    match work {
+        Ok(outcome) => Ok(outcome),
+        Err(Unread::Told(plain)) => plain_in(alloc, format, plain),
+        Err(Unread::Memory) => Err(AllocError),
+    }
+}

@@ -1,0 +1,32 @@
+-- What is told of geometries has no float, and nests little.
+use Rattle.ubi_json.proofs.Prelude.{◌≡◌, ◌+◌, ◌^◌, ◌≤◌, Bool, List, [], ◌∷◌, arith, cond, false, map, nat_lt, refl, true, ℕ, decimal, depth, items_depth, number, string, unsigned, items_of, has_float, items_have_float, Detected, FilePart, detected_data, geometries_data, place_data}
+
+either_whole : (b : Bool) (n : ℕ) → has_float (cond b (number (unsigned n)) (string (decimal n))) ≡ false
+either_whole true n = refl
+either_whole false n = refl
+
+either_flat : (b : Bool) (n : ℕ) → depth (cond b (number (unsigned n)) (string (decimal n))) ≡ 0
+either_flat true n = refl
+either_flat false n = refl
+
+place_whole : (n : ℕ) → has_float (place_data n) ≡ false
+place_whole n = either_whole (nat_lt n (2 ^ 64)) n
+
+place_flat : (n : ℕ) → depth (place_data n) ≡ 0
+place_flat n = either_flat (nat_lt n (2 ^ 64)) n
+
+items_whole : (part : FilePart) (found : List Detected) → items_have_float (items_of (map (detected_data part) found)) ≡ false
+items_whole part [] = refl
+items_whole part (told ∷ rest) = rw (place_whole (part.start + told.start)) (items_whole part rest)
+
+items_flat : (part : FilePart) (found : List Detected) → items_depth (items_of (map (detected_data part) found)) ≤ 1
+items_flat part [] = omega arith
+items_flat part (told ∷ rest) =
+    let later = items_flat part rest in
+    rw (place_flat (part.start + told.start)) (omega (arith, later))
+
+pub geometries_whole : (part : FilePart) (found : List Detected) → has_float (geometries_data part found) ≡ false
+geometries_whole part found = rw (items_whole part found) refl
+
+pub geometries_flat : (part : FilePart) (found : List Detected) → depth (geometries_data part found) ≤ 127
+geometries_flat part found = let flat = items_flat part found in omega (arith, flat)

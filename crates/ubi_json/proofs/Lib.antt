@@ -1,0 +1,4 @@
+pub mod ListedWhole
+pub mod GeometriesWhole
+pub mod Alike
+pub mod Prelude

@@ -1,0 +1,7 @@
+pub mod Line
+pub mod Words
+pub mod Told
+pub mod Check
+pub mod List
+pub mod Geometry
+pub mod Laws

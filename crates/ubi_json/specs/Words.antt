@@ -1,0 +1,38 @@
+-- The words that the printed lines and the JSON share.
+use Rattle.std.specs.Prelude.{ℕ, ◌==◌, ◌&&◌, ◌++◌, ◌∷◌, [], Bool, List, codes, count_by, false, if◌then◌else◌, nat_le, not, true}
+use Rattle.std.specs.List.{flat_map}
+use Rattle.hex.specs.Hex.{encode_lower}
+use Rattle.ubi_media.specs.declared.vid.VolKind.{VolKind}
+use Rattle.ubi_media.specs.declared.vid.VolKind.TheVariants as kind
+use Rattle.ubi_volume.specs.declared.attached.BlockState.{BlockState}
+use Rattle.ubi_volume.specs.declared.attached.BlockState.TheVariants as state
+
+-- a byte of a name as it is shown: a printable one but the backslash as it is, and any other by its two digits
+abbrev pub shown_byte : ℕ → List ℕ
+shown_byte b = if nat_le 0x21 b && nat_le b 0x7E && not (b == 0x5C) then b ∷ [] else codes "\\x" ++ encode_lower (b ∷ [])
+
+-- a name as it is shown
+abbrev pub shown : List ℕ → List ℕ
+shown name = flat_map shown_byte name
+
+-- the word for the kind of a volume
+abbrev pub kind_word : VolKind → List ℕ
+kind_word kind.Dynamic = codes "dynamic"
+kind_word kind.Static = codes "static"
+
+-- whether two states are the same
+abbrev pub same_state : BlockState → BlockState → Bool
+same_state state.Blank state.Blank = true
+same_state state.Free state.Free = true
+same_state state.Garbage state.Garbage = true
+same_state state.Corrupt state.Corrupt = true
+same_state state.Dropped state.Dropped = true
+same_state state.Orphan state.Orphan = true
+same_state state.Table state.Table = true
+same_state state.Used state.Used = true
+same_state state.Stale state.Stale = true
+same_state _ _ = false
+
+-- how many have a state
+abbrev pub count_of : List BlockState → BlockState → ℕ
+count_of states of = count_by (λ s. same_state s of) states

@@ -1,0 +1,81 @@
+//! The geometries that a dump's own headers give, as JSON.
+
+ghost use Rattle.std.specs.Prelude.{◌≡◌, ◌+◌, IfOk, map};
+ghost use Rattle.serde_json.specs.View.{view};
+ghost use Rattle.ubi_json.specs.Geometry.{detected_data, geometries_data, place_data};
+ghost use Rattle.ubi_json.specs.Line.{IsLineOf};
+
+use crate::line::line_of;
+use itoa::Buffer;
+use serde_json::{Value, json};
+use std::alloc::{AllocError, Global};
+use ubi_detect::Detected;
+use ubi_files::FilePart;
+
+/// The place that lies so many bytes behind a start.
+fn place_value(alloc: Global, start: u64, behind: u64) -> Result<Value, AllocError>
+    ensures { IfOk result (λ v. view v ≡ place_data (start + behind)) }
+{
+    match start.checked_add(behind) {
+        Some(place) => Ok(Value::from(place)),
+        None => {
+            let mut buffer = Buffer::new();
+            Value::try_from_str(alloc, buffer.format(u128::from(start) + u128::from(behind)))
+        }
+    }
+}
+
+/// What is told of an image that was found in a part of a file.
+fn detected_value(alloc: Global, part: FilePart, told: &Detected) -> Result<Value, AllocError>
+    ensures { IfOk result (λ v. view v ≡ detected_data part told.now) }
+{
+    let start = place_value(alloc, part.start, told.start)?;
+    json!(in alloc; {
+        "data": u64::from(told.geometry.data_offset()),
+        "length": told.length,
+        "oob": u64::from(told.oob),
+        "page": u64::from(told.geometry.page()),
+        "peb": u64::from(told.geometry.peb_size()),
+        "start": start,
+        "vid": u64::from(told.geometry.vid_offset())
+    })
+}
+
+/// All that is told of a part of a file, in its order.
+fn detected_values(
+    alloc: Global,
+    part: FilePart,
+    found: &[Detected],
+) -> Result<Vec<Value>, AllocError>
+    ensures { IfOk result (λ values. map view values.items ≡ map (detected_data part) found.now) }
+{
+    let mut values = Vec::new(alloc);
+    for told in found {
+        values.push(detected_value(alloc, part, told)?)?;
+    }
+    Ok(values)
+}
+
+/// The object of all that is told.
+fn geometries_value(alloc: Global, part: FilePart, found: &[Detected]) -> Result<Value, AllocError>
+    ensures { IfOk result (λ v. view v ≡ geometries_data part found.now) }
+{
+    let told = detected_values(alloc, part, found)?;
+    json!(in alloc; {"geometries": told})
+}
+
+/// The line of all that is told of the geometry of a part of a file, in its order.
+///
+/// # Errors
+///
+/// Memory ran out.
+pub fn geometry_line(
+    alloc: Global,
+    part: FilePart,
+    found: &[Detected],
+) -> Result<Vec<u8>, AllocError>
+    ensures { IfOk result (λ line. IsLineOf (geometries_data part found.now) line.items) }
+{
+    let value = geometries_value(alloc, part, found)?;
+    line_of(alloc, &value)
+}

@@ -1,0 +1,224 @@
+//! Causes for which nothing else is told, as JSON.
+
+ghost use Rattle.std.specs.Prelude.{◌≡◌, ◌-◌, IfOk, OnOk, length, map, option_map, string_bytes, take};
+ghost use Rattle.std.specs.Str.Lossy.{utf8_lossy};
+ghost use Rattle.serde_json.specs.View.{members_view, view};
+ghost use Rattle.ubi_json.specs.Line.{IsLineOf};
+ghost use Rattle.ubi_json.specs.Told.{at_block, at_fault, bare, error_data, refusal_data, told_data, undetected_data, with_fault, with_numbers};
+
+use crate::line::line_of;
+use serde_json::{Map, Value, json, put};
+use std::alloc::{AllocError, Global};
+use ubi_detect::Undetected;
+use ubi_media::{EcOffsets, Refusal};
+
+/// Adds numbers under their words.
+fn put_numbers(
+    alloc: Global,
+    members: &mut Map<String, Value>,
+    numbers: &[(&str, u64)],
+) -> Result<(), AllocError>
+    ensures { OnOk result (members_view members.new.entries ≡ with_numbers (map (λ e. (e.0.now, e.1)) numbers.now) (members_view members.old.entries)) }
+{
+    for (word, number) in numbers {
+        put(members, alloc, *word, Value::from(*number))?;
+    }
+    Ok(())
+}
+
+/// Adds the name of a rule, if there is one.
+fn put_fault(
+    alloc: Global,
+    members: &mut Map<String, Value>,
+    fault: Option<&str>,
+) -> Result<(), AllocError>
+    ensures { OnOk result (members_view members.new.entries ≡ with_fault (option_map (λ f. f.now) fault.entry) (members_view members.old.entries)) }
+{
+    match fault {
+        Some(name) => {
+            let value = Value::try_from_str(alloc, name)?;
+            put(members, alloc, "fault", value)
+        }
+        None => Ok(()),
+    }
+}
+
+/// The object of a cause: its code, its name, numbers under their words, and the name of a rule, if there is one.
+fn told_value(
+    alloc: Global,
+    code: &str,
+    name: &str,
+    numbers: &[(&str, u64)],
+    fault: Option<&str>,
+) -> Result<Value, AllocError>
+    ensures { IfOk result (λ v. view v ≡ told_data (record { code = code.now; cause = name.now; numbers = map (λ e. (e.0.now, e.1)) numbers.now; fault = option_map (λ f. f.now) fault.entry })) }
+{
+    let mut members = Map::new(alloc);
+    let code = Value::try_from_str(alloc, code)?;
+    put(&mut members, alloc, "code", code)?;
+    let cause = Value::try_from_str(alloc, name)?;
+    put(&mut members, alloc, "cause", cause)?;
+    put_numbers(alloc, &mut members, numbers)?;
+    put_fault(alloc, &mut members, fault)?;
+    let told = Value::Object(members);
+    json!(in alloc; {"refused": told})
+}
+
+/// That of a cause without numbers.
+fn bare(alloc: Global, code: &str, name: &str) -> Result<Value, AllocError>
+    ensures { IfOk result (λ v. view v ≡ told_data (bare code.now name.now)) }
+{
+    told_value(alloc, code, name, &[], None)
+}
+
+/// That of one that names an eraseblock.
+fn at_block(alloc: Global, code: &str, name: &str, block: u32) -> Result<Value, AllocError>
+    ensures { IfOk result (λ v. view v ≡ told_data (at_block code.now name.now block)) }
+{
+    told_value(alloc, code, name, &[("block", u64::from(block))], None)
+}
+
+/// That of one that names an eraseblock and the rule that it breaks.
+fn at_fault(
+    alloc: Global,
+    code: &str,
+    name: &str,
+    block: u32,
+    fault: &str,
+) -> Result<Value, AllocError>
+    ensures { IfOk result (λ v. view v ≡ told_data (at_fault code.now name.now block fault.now)) }
+{
+    told_value(
+        alloc,
+        code,
+        name,
+        &[("block", u64::from(block))],
+        Some(fault),
+    )
+}
+
+/// The object of the cause for which an image is refused.
+fn refusal_value(alloc: Global, cause: Refusal) -> Result<Value, AllocError>
+    ensures { IfOk result (λ v. view v ≡ refusal_data cause) }
+{
+    match cause {
+        Refusal::Length => bare(alloc, "S1", "Length"),
+        Refusal::TooMany => bare(alloc, "S2", "TooMany"),
+        Refusal::Ec(p, fault) => at_fault(alloc, "S3", "Ec", p, fault.name()),
+        Refusal::ImageSeq(p) => at_block(alloc, "S4", "ImageSeq", p),
+        Refusal::Vid(p, fault) => at_fault(alloc, "S5", "Vid", p, fault.name()),
+        Refusal::Incompatible(p, volume) => {
+            let numbers = [("block", u64::from(p)), ("volume", u64::from(volume))];
+            told_value(alloc, "S6", "Incompatible", &numbers, None)
+        }
+        Refusal::Layout(p) => at_block(alloc, "S7", "Layout", p),
+        Refusal::SameSqnum(p, earlier) => {
+            let numbers = [("block", u64::from(p)), ("earlier", u64::from(earlier))];
+            told_value(alloc, "S8", "SameSqnum", &numbers, None)
+        }
+        Refusal::NoTable => bare(alloc, "T1", "NoTable"),
+        Refusal::BothCorrupt => bare(alloc, "T2", "BothCorrupt"),
+        Refusal::Record(p, slot, fault) => {
+            let numbers = [("block", u64::from(p)), ("slot", u64::from(slot))];
+            told_value(alloc, "T3", "Record", &numbers, Some(fault.name()))
+        }
+        Refusal::SameName(p, slot, next) => {
+            let numbers = [
+                ("block", u64::from(p)),
+                ("slot", u64::from(slot)),
+                ("next_slot", u64::from(next)),
+            ];
+            told_value(alloc, "T4", "SameName", &numbers, None)
+        }
+        Refusal::NoSpace => bare(alloc, "T5", "NoSpace"),
+        Refusal::Mismatch(p) => at_block(alloc, "V1", "Mismatch", p),
+    }
+}
+
+/// The line of the cause for which an image is refused, as JSON.
+///
+/// # Errors
+///
+/// Memory ran out.
+pub fn refusal_line(alloc: Global, cause: Refusal) -> Result<Vec<u8>, AllocError>
+    ensures { IfOk result (λ line. IsLineOf (refusal_data cause) line.items) }
+{
+    let value = refusal_value(alloc, cause)?;
+    line_of(alloc, &value)
+}
+
+/// The object of the cause for which no geometry is told of a file.
+fn undetected_value(alloc: Global, cause: Undetected) -> Result<Value, AllocError>
+    ensures { IfOk result (λ v. view v ≡ undetected_data cause) }
+{
+    match cause {
+        Undetected::NoHeader => bare(alloc, "F1", "NoHeader"),
+        Undetected::NoSize => bare(alloc, "F2", "NoSize"),
+        Undetected::Length(size, rest) => {
+            told_value(
+                alloc,
+                "F3",
+                "Length",
+                &[("peb", size), ("rest", rest)],
+                None,
+            )
+        }
+        Undetected::OutOfBand(size) => {
+            told_value(alloc, "F5", "OutOfBand", &[("peb", size)], None)
+        }
+        Undetected::Page(
+            size,
+            EcOffsets {
+                vid_offset,
+                data_offset,
+            },
+        ) => {
+            let numbers = [
+                ("peb", size),
+                ("vid", u64::from(vid_offset)),
+                ("data", u64::from(data_offset)),
+            ];
+            told_value(alloc, "F6", "Page", &numbers, None)
+        }
+    }
+}
+
+/// The line of the cause for which no geometry is told of a file, as JSON.
+///
+/// # Errors
+///
+/// Memory ran out.
+pub fn undetected_line(alloc: Global, cause: Undetected) -> Result<Vec<u8>, AllocError>
+    ensures { IfOk result (λ line. IsLineOf (undetected_data cause) line.items) }
+{
+    let value = undetected_value(alloc, cause)?;
+    line_of(alloc, &value)
+}
+
+/// A printed line without its end, as text.
+fn text_of(alloc: Global, printed: &[u8]) -> Result<String, AllocError>
+    ensures { IfOk result (λ text. string_bytes text ≡ utf8_lossy (take (length printed.now - 1) printed.now)) }
+{
+    let end = printed.len().saturating_sub(1);
+    String::from_utf8_lossy(alloc, &printed[..end])
+}
+
+/// The object of a file that can't be had, by what is printed of that.
+fn error_value(alloc: Global, printed: &[u8]) -> Result<Value, AllocError>
+    ensures { IfOk result (λ v. view v ≡ error_data printed.now) }
+{
+    let text = text_of(alloc, printed)?;
+    json!(in alloc; {"error": text})
+}
+
+/// The line of a file that can't be had, as JSON, by what is printed of that.
+///
+/// # Errors
+///
+/// Memory ran out.
+pub fn error_line(alloc: Global, printed: &[u8]) -> Result<Vec<u8>, AllocError>
+    ensures { IfOk result (λ line. IsLineOf (error_data printed.now) line.items) }
+{
+    let value = error_value(alloc, printed)?;
+    line_of(alloc, &value)
+}
