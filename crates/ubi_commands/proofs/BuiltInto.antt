@@ -1,8 +1,7 @@
 -- How a build into a file ends.
-use Rattle.ubi_commands.proofs.Prelude.{◌≡◌, ◌<◌, ◌⊎◌, ◌∷◌, ◌∙◌, ℕ, List, [], ap, arith, get_or, inl, inr, length, refl, subst, suc, sym, zero, AllByRecursion, ForSome, Contains, Err, IfErr, IfOk, IfSome, IsOk, IsSome, Ok, OnErr, Option, Result, AllocError, Sizes, Agreed, Source, known_by, first_fault, sections_of, Section, All, Wrote, CanBuild, IsBuildError, WhereNotBegun, image_built, known_after, HaveMeaning, Parts, BuildError, Part, AreBesideOut, AreGathered, Builds, BuildsParts, HaveImage, IsUnreadLine, built, gathered, image_paths, numbered, unwritten, row_bytes, AllStay, Files, IsKept, fresh, contents_of, AreAnswers, IsNotBegun, IsToldOf, Answers, Outcome}
+use Rattle.ubi_commands.proofs.Prelude.{◌≡◌, ◌<◌, ◌⊎◌, ◌∷◌, ◌∙◌, ℕ, List, [], ap, arith, get_or, inl, inr, length, refl, subst, suc, sym, zero, AllByRecursion, ForSome, Contains, Err, IfErr, IfOk, IfSome, IsOk, IsSome, Ok, OnErr, Option, Result, AllocError, Sizes, Agreed, Source, known_by, first_fault, sections_of, Section, All, Wrote, CanBuild, IsBuildError, WhereNotBegun, image_built, known_after, HaveMeaning, Parts, BuildError, Part, AreBesideOut, AreGathered, Builds, BuildsParts, HaveImage, IsUnreadLine, built, gathered, image_paths, numbered, unwritten, row_bytes, AllStay, Files, IsKept, fresh, contents_of, AreAnswers, IsNotBegun, IsToldOf, Answers, Outcome, crowded, unread}
 use Rattle.std.specs.Prelude.{None}
 use Rattle.ubi_compose.specs.declared.errors.BuildError.TheVariants as build
-use Rattle.ubi_commands.specs.Build.{crowded, unread}
 use Rattle.ubi_commands.proofs.Outcomes.{holds_received}
 
 -- what holds of each element holds of one

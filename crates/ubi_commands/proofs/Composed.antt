@@ -1,5 +1,6 @@
 -- What is composed of a text, and listed of that.
-use Rattle.ubi_commands.proofs.Prelude.{◌≡◌, ℕ, List, Some, ap, sym, subst, ◌∙◌, arith, Ok, option_map, same_Some, Sizes, Image, image_of, Accepts, Meant, MeaningCause, one_first, Accepts-unique, never_accepted_and_refused, volumes_of, ComesTo, SpecCause, Answer, Gives, says, Composes, ComposesOf, crowded, described, fits, meaning_line, spec_line, unmade, unread, Lists, list_lines, Outcome}
+use Rattle.ubi_commands.proofs.Prelude.{◌≡◌, ℕ, List, Some, ap, sym, subst, ◌∙◌, arith, Ok, option_map, same_Some, Sizes, Image, image_of, Accepts, Meant, MeaningCause, one_first, Accepts-unique, never_accepted_and_refused, volumes_of, ComesTo, SpecCause, Answer, Gives, says, Composes, ComposesOf, fits, meaning_line, spec_line, Lists, list_lines, Outcome}
+use Rattle.ubi_commands.specs.Compose.{crowded, described, unmade, unread}
 use Rattle.ubi_commands.specs.List.{accepted, refused}
 
 same_sizes : (s z : Sizes) (bytes : List ℕ) → s ≡ z → ◌≡◌ {A = Image} (image_of s bytes) (image_of z bytes)

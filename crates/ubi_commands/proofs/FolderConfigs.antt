@@ -1,8 +1,6 @@
 -- The volumes that the config of a folder describes.
-use Rattle.ubi_commands.proofs.Prelude.{◌≡◌, ℕ, ◌+◌, ◌<◌, List, [], ◌∷◌, ◌++◌, ◌∙◌, ap, get_or, length, subst, take, take_more, map-append, entries, rec_fault, Sizes, AreRecords, Records, ReadError, Listed, all_described, listed_at, Result}
-use Rattle.std.proofs.lemmas.List.Elements.{All-map}
+use Rattle.ubi_commands.proofs.Prelude.{◌≡◌, ℕ, ◌+◌, ◌<◌, List, [], ◌∷◌, ◌++◌, ◌∙◌, ap, get_or, length, subst, take, take_more, map-append, entries, rec_fault, Sizes, AreRecords, Records, ReadError, Listed, all_described, listed_at, Result, All-map, described}
 use Rattle.std.specs.Prelude.{All, None}
-use Rattle.ubi_commands.specs.Unpack.{described}
 
 -- one volume more
 pub described_more : (len : ℕ → Result ℕ ReadError) (es : List Listed) (i : ℕ) (e : Listed) → i < length es

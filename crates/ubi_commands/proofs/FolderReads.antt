@@ -1,30 +1,8 @@
 -- The config of an accepted image's volumes is read as their sections.
-use Rattle.ubi_commands.proofs.Prelude.{◌≡◌, ℕ, ◌<◌, ◌^◌, ◌==◌, List, [], ◌∷◌, false, ap, arith, get_or, length, refl, subst, suc, sym, ◌∙◌, None, Option, Some, entries, Sizes, AreRecords, Records, ReadError, Listed, Result, all_described}
-use Rattle.std.proofs.Common.{Bool, Less, cond, map, true}
-use Rattle.std.specs.FinMap.{nat_cmp-IsAntisymmetric}
-use Rattle.std.proofs.lemmas.Bool.Decides.{nat_tests}
-use Rattle.std.proofs.lemmas.Cmp.{nat_cmp_total, ranked}
-use Rattle.std.proofs.lemmas.List.Elements.{All-map}
+use Rattle.ubi_commands.proofs.Prelude.{◌≡◌, ℕ, ◌<◌, ◌^◌, ◌==◌, List, [], ◌∷◌, false, ap, arith, get_or, length, refl, subst, suc, sym, ◌∙◌, None, Option, Some, entries, Sizes, AreRecords, Records, ReadError, Listed, Result, all_described, Bool, Less, cond, map, true, nat_cmp-IsAntisymmetric, nat_tests, nat_cmp_total, ranked, All-map, AllByRecursion, IsDistinct, option_map_or, nat_cmp, written_reads, AreVolumes, same_bytes, IsGeometry, slots, rising_at, few_kept, entries_kept, AreKept, first_named, twice, records_are, records_of, volume_len, FolderConfigReads, described, listed}
 use Rattle.std.specs.FinMap as finite
-use Rattle.std.specs.List.{AllByRecursion, IsDistinct}
-use Rattle.std.specs.Option.{option_map_or}
-use Rattle.std.specs.Ordering.{nat_cmp}
 use Rattle.std.specs.Prelude.{All}
-use Rattle.ubi_config.proofs.WrittenReads.{written_reads}
-use Rattle.ubi_config.specs.WrittenLaws.{AreVolumes}
-use Rattle.ubi_media.specs.Fields.{same_bytes}
-use Rattle.ubi_media.specs.Geometry.{IsGeometry, slots}
-use Rattle.ubi_scan.proofs.Finite.{rising_at}
-use Rattle.ubi_table.proofs.Entries.{few_kept}
-use Rattle.ubi_table.proofs.NamedTable.{entries_kept}
-use Rattle.ubi_table.specs.Coded.{AreKept}
-use Rattle.ubi_table.specs.Records.{first_named, twice}
-use Rattle.ubi_volume.proofs.MeantRecords.{records_are}
-use Rattle.ubi_volume.specs.Meant.{records_of}
-use Rattle.ubi_volume.specs.Reading.{volume_len}
 use Rattle.ubi_commands.proofs.FolderConfigs.{sound_described}
-use Rattle.ubi_commands.specs.FolderLaws.{FolderConfigReads}
-use Rattle.ubi_commands.specs.Unpack.{described, listed}
 
 differs : (x y : ℕ) → x < y → (x == y) ≡ false
 differs x y less = grind (arith, nat_tests)

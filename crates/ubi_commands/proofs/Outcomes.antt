@@ -1,5 +1,6 @@
 -- What outcomes tell.
-use Rattle.ubi_commands.proofs.Prelude.{◌≡◌, ℕ, ◌≤◌, ◌∙◌, List, Some, ap, length, refl, subst, sym, Appends, ForSome, IsSome, MatchResult, Ok, Err, Option, Result, IfOk, option_map, AllocError, Global, Vec, Sizes, first_broken, Meant, HasRoom, ComesTo, Composes, ComposesInto, ComposesOf, crowded, described, fits, unmade, unread, sizes_of, WritesFile, OfText, Tells, text_limit, Files, Holds, IsKept, IsTextOf, OthersStay, Receives, fresh, contents_of, Unread, Memory, Told, Numbers, Outcome, None}
+use Rattle.ubi_commands.proofs.Prelude.{◌≡◌, ℕ, ◌≤◌, ◌∙◌, List, Some, ap, length, refl, subst, sym, Appends, ForSome, IsSome, MatchResult, Ok, Err, Option, Result, IfOk, option_map, AllocError, Global, Vec, Sizes, first_broken, Meant, HasRoom, ComesTo, Composes, ComposesInto, ComposesOf, fits, sizes_of, WritesFile, OfText, Tells, text_limit, Files, Holds, IsKept, IsTextOf, OthersStay, Receives, fresh, contents_of, Unread, Memory, Told, Numbers, Outcome, None}
+use Rattle.ubi_commands.specs.Compose.{crowded, described, unmade, unread}
 use Rattle.ubi_commands.specs.Compose as compose
 use Rattle.ubi_commands.specs.Program as program
 use Rattle.ubi_commands.specs.inner.FileAnswers as file_answers

@@ -1,13 +1,15 @@
 -- The names that the proofs of this crate speak of, and where they come from.
-pub use Rattle.std.proofs.Common.{Bool, List, None, Some, [], ap, append-nil, append_assoc, ap₂, arith, cond, drop, false, get_or, inl, inr, length, lit<, lit≤, map, not, refl, string_bytes, subst, suc, sym, take, true, true≢false, vec_items, zero, zero-add, ℕ, ◌&&◌, ◌*◌, ◌++◌, ◌+◌, ◌-◌, ◌/◌, ◌<◌, ◌==◌, ◌^◌, ◌||◌, ◌↔◌, ◌∙◌, ◌∷◌, ◌≡◌, ◌≢◌, ◌≤◌, ◌⊎◌}
+pub use Rattle.std.proofs.Common.{Bool, Less, List, None, Some, [], ap, append-nil, append_assoc, ap₂, arith, cond, drop, false, get_or, inl, inr, length, lit<, lit≤, map, not, refl, string_bytes, subst, suc, sym, take, true, true≢false, vec_items, zero, zero-add, ℕ, ◌&&◌, ◌*◌, ◌++◌, ◌+◌, ◌-◌, ◌/◌, ◌<◌, ◌==◌, ◌^◌, ◌||◌, ◌↔◌, ◌∙◌, ◌∷◌, ◌≡◌, ◌≢◌, ◌≤◌, ◌⊎◌}
 pub use Rattle.std.proofs.KnownBytes.{Keeps-refl}
 pub use Rattle.std.proofs.Math.Nat.{mod-add-div', mul-le-mul_right}
 pub use Rattle.std.proofs.Math.Seq.{drop-append-add}
 pub use Rattle.std.proofs.lemmas.Bool.{eqb-true, ltb-false, ne_eqb}
+pub use Rattle.std.proofs.lemmas.Bool.Decides.{nat_tests}
+pub use Rattle.std.proofs.lemmas.Cmp.{nat_cmp_total, ranked}
 pub use Rattle.std.proofs.lemmas.Grind.{common_steps, flat_map-append}
 pub use Rattle.std.proofs.lemmas.Int.{ints}
 pub use Rattle.std.proofs.lemmas.List.{drop-drop, drop-take, length-append, length-drop, length-take, map-append, take-append-le, take-take, take_all, take_more}
-pub use Rattle.std.proofs.lemmas.List.Elements.{filter_map-append}
+pub use Rattle.std.proofs.lemmas.List.Elements.{All-map, filter_map-append}
 pub use Rattle.std.proofs.lemmas.List.Folds.{list_all_more}
 pub use Rattle.std.proofs.lemmas.List.FromFn.{length-range_with_len}
 pub use Rattle.std.proofs.lemmas.List.Sums.{fold_more, prefix_len-le-length, sum_by-append}
@@ -17,11 +19,13 @@ pub use Rattle.std.proofs.lemmas.Slice.Eq.{bytes_eq-Decides}
 pub use Rattle.std.proofs.lemmas.Str.Parse.{digit_from_value}
 pub use Rattle.std.specs.Bool.{then_some}
 pub use Rattle.std.specs.Borrow.{Bor}
-pub use Rattle.std.specs.FinMap.{entries, get}
+pub use Rattle.std.specs.FinMap.{entries, get, nat_cmp-IsAntisymmetric}
 unfoldable pub use Rattle.std.specs.Fmt.{digits}
 pub use Rattle.std.specs.Io.KnownBytes.{Appends}
 pub use Rattle.std.specs.List.{AllByRecursion, concat, cons_option, find, flat_map, list_all, list_any, range_with_len}
+unfoldable pub use Rattle.std.specs.List.{IsDistinct}
 pub use Rattle.std.specs.Option.{ForSome, IsSomeAnd, option_map_or}
+pub use Rattle.std.specs.Ordering.{nat_cmp}
 unfoldable pub use Rattle.std.specs.Path.{path_with_file_name}
 pub use Rattle.std.specs.Prelude.{Contains, Err, IfErr, IfOk, IfSome, IsErr, IsOk, IsSome, MatchOption, MatchResult, Ok, OnErr, OnOk, Option, Result, codes, count_by, decimal, fold, if◌then◌else◌, is_ok, is_some, nat_lt, option_and_then, option_map, pos, slice_get, slice_index_or, sum_by, unwrap_or}
 pub use Rattle.std.specs.Result.{result_map_both}
@@ -75,13 +79,16 @@ pub use Rattle.ubi_compose.proofs.BuiltRoom.{built_accepted}
 pub use Rattle.ubi_compose.proofs.Form.{count-composed, count-normal_bytes, normalising}
 pub use Rattle.ubi_compose.proofs.LesserPage.{normal_kept}
 pub use Rattle.ubi_compose.proofs.Lists.{all_append, all_from}
+pub use Rattle.ubi_compose.proofs.PartsAgain.{parts_build_again, read_fits, read_some}
 pub use Rattle.ubi_compose.proofs.Refusals.{refuses}
 pub use Rattle.ubi_compose.proofs.StoredVolumes.{count, volume_at}
 pub use Rattle.ubi_compose.specs.Building.{CanBuild, IsBuildError, WhereNotBegun, image_built, known_after}
 pub use Rattle.ubi_compose.specs.Built.{HaveMeaning, Parts, Reaches, text_of}
+pub use Rattle.ubi_compose.specs.BuiltAgain.{AreItsParts}
 pub use Rattle.ubi_compose.specs.BuiltLaws.{text_read}
 pub use Rattle.ubi_compose.specs.Composed.{HasRoom, IsComparison, composed}
 pub use Rattle.ubi_compose.specs.Normal.{IsNormalised, normal_blocks}
+unfoldable pub use Rattle.ubi_compose.specs.Normal.{normal_bytes}
 pub use Rattle.ubi_compose.specs.Spec.{volumes_of}
 pub use Rattle.ubi_compose.specs.Streamed.{HasGot, IsStreamed}
 pub use Rattle.ubi_compose.specs.TextLaws.{ComesTo}
@@ -89,10 +96,18 @@ unfoldable pub use Rattle.ubi_compose.specs.Words.{shown_name}
 pub use Rattle.ubi_compose.specs.declared.errors.BuildError.{BuildError}
 pub use Rattle.ubi_compose.specs.declared.errors.SpecCause.{SpecCause}
 pub use Rattle.ubi_compose.specs.declared.recipe.Part.{Part}
-pub use Rattle.ubi_config.specs.Config.{sections_of}
+pub use Rattle.ubi_config.proofs.CanSay.{is_said, reserved_some}
+pub use Rattle.ubi_config.proofs.GivenRecord.{section_gives_record}
+pub use Rattle.ubi_config.proofs.WrittenReads.{written_reads}
+pub use Rattle.ubi_config.specs.Config.{line_number, sections_of}
 unfoldable pub use Rattle.ubi_config.specs.Config.{first_fault}
 unfoldable pub use Rattle.ubi_config.specs.Records.{record_in}
+pub use Rattle.ubi_config.specs.Written.{bytes_reserved, config_text, may_grow, volume_lines}
+unfoldable pub use Rattle.ubi_config.specs.Written.{left_out}
+pub use Rattle.ubi_config.specs.WrittenLaws.{AreVolumes, section_at, section_for, sections_at}
 pub use Rattle.ubi_config.specs.declared.section.Section.{Section}
+pub use Rattle.ubi_config.specs.declared.volume.ConfigVolume.{ConfigVolume}
+pub use Rattle.ubi_config.specs.declared.volume.LeftOut.{LeftOut}
 pub use Rattle.ubi_detect.proofs.LeastWay.{IsLesserTold, least_first}
 pub use Rattle.ubi_detect.proofs.OnGrid.{each_on_grid}
 pub use Rattle.ubi_detect.specs.Detected.{AreDetected, AreDetectedOf, IsDetectError}
@@ -129,12 +144,14 @@ pub use Rattle.ubi_files.specs.declared.outcome.Outcome.{Outcome}
 pub use Rattle.ubi_files.specs.declared.outcome.SidesError.{SidesError}
 pub use Rattle.ubi_files.specs.declared.outcome.ToolError.{ToolError}
 pub use Rattle.ubi_files.specs.declared.view.FilePart.{FilePart}
-pub use Rattle.ubi_media.specs.Geometry.{IsGeometry, Sizes}
+pub use Rattle.ubi_media.specs.Fields.{same_bytes}
+pub use Rattle.ubi_media.specs.Geometry.{IsGeometry, Sizes, slots}
 unfoldable pub use Rattle.ubi_media.specs.Limits.{first_broken}
 pub use Rattle.ubi_media.specs.OtherPage.{with_page}
 pub use Rattle.ubi_media.specs.Record.{rec_fault, usable}
 pub use Rattle.ubi_media.specs.declared.record.VolumeRecord.{VolumeRecord}
 pub use Rattle.ubi_media.specs.declared.refusal.Refusal.{Refusal}
+pub use Rattle.ubi_scan.proofs.Finite.{rising_at}
 pub use Rattle.ubi_scan.proofs.InMemory.{still}
 pub use Rattle.ubi_scan.proofs.Narrowed.{source_narrowed}
 pub use Rattle.ubi_scan.proofs.ReadParts.{count_blocks}
@@ -142,12 +159,16 @@ pub use Rattle.ubi_scan.specs.Image.{Image, IsLengthFault, IsWhole, IsWholeSize,
 pub use Rattle.ubi_scan.specs.Promised.{keeps_promise}
 pub use Rattle.ubi_scan.specs.Source.{Agreed, IsSource, Narrows, Source, WhereHeld, blocks_in, blocks_of, holds, known_by, memory}
 pub use Rattle.ubi_scan.specs.declared.errors.StreamError.{StreamError}
-pub use Rattle.ubi_table.specs.Records.{AreRecords, Records}
+pub use Rattle.ubi_table.proofs.Entries.{few_kept}
+pub use Rattle.ubi_table.proofs.NamedTable.{entries_kept}
+pub use Rattle.ubi_table.specs.Coded.{AreKept}
+pub use Rattle.ubi_table.specs.Records.{AreRecords, Records, first_named, twice}
 pub use Rattle.ubi_volume.proofs.Either.{accepted_or_refused}
 pub use Rattle.ubi_volume.proofs.Extracted.{len_none, len_some}
 pub use Rattle.ubi_volume.proofs.FirstCause.{one_first}
 pub use Rattle.ubi_volume.proofs.Gathered.{listed_at, listed_item}
 pub use Rattle.ubi_volume.proofs.LesserPage.{lesser_page}
+pub use Rattle.ubi_volume.proofs.MeantRecords.{meant_by, records_are, volume_is}
 pub use Rattle.ubi_volume.proofs.Narrowed.{places_narrowed}
 pub use Rattle.ubi_volume.proofs.One.{Accepts-unique, never_accepted_and_refused}
 pub use Rattle.ubi_volume.proofs.OneCause.{one_cause}
@@ -155,10 +176,10 @@ pub use Rattle.ubi_volume.proofs.Received.{error_as}
 pub use Rattle.ubi_volume.specs.Accepts.{Accepts, AcceptsBlocks}
 pub use Rattle.ubi_volume.specs.Amounts.{AmountIs}
 pub use Rattle.ubi_volume.specs.Extract.{extent_in, extent_len, extent_of, read_text}
-pub use Rattle.ubi_volume.specs.Meant.{Meant, records_of}
+pub use Rattle.ubi_volume.specs.Meant.{IsMeaning, Meant, records_of}
 pub use Rattle.ubi_volume.specs.PageLaws.{meaning_with_page}
 pub use Rattle.ubi_volume.specs.Places.{ArePlaces, ArePlacesOf, AreWithin, Placed}
-pub use Rattle.ubi_volume.specs.Reading.{read_volume, volume_len}
+pub use Rattle.ubi_volume.specs.Reading.{read_volume, volume_len, volume_read}
 pub use Rattle.ubi_volume.specs.Wrote.{All, First, IsWroteError, NotAll, Wanted, Wrote}
 pub use Rattle.ubi_volume.specs.declared.block.Amount.{Amount}
 pub use Rattle.ubi_volume.specs.declared.content.Volume.{Volume}
@@ -166,7 +187,7 @@ pub use Rattle.ubi_volume.specs.declared.errors.MeaningCause.{MeaningCause}
 pub use Rattle.ubi_volume.specs.declared.errors.ReadError.{ReadError}
 pub use Rattle.ubi_volume.specs.declared.places.Extent.{Extent}
 pub use Rattle.ubi_volume.specs.declared.places.PlaceContent.{PlaceContent}
-pub use Rattle.ubi_commands.specs.Build.{AreBesideOut, AreGathered, ArePartsOf, Builds, BuildsParts, HaveImage, IsNoVolume, IsSized, IsUngathered, IsUnreadLine, Sized, built, faulty, gathered, image_path, image_paths, len_of, no_image, no_path, no_record, numbered, part_at, ungathered, unwritten}
+pub use Rattle.ubi_commands.specs.Build.{AreBesideOut, AreGathered, ArePartsOf, Builds, BuildsParts, HaveImage, IsNoVolume, IsSized, IsUngathered, IsUnreadLine, Sized, built, crowded, faulty, gathered, image_path, image_paths, len_of, no_image, no_path, no_record, numbered, part_at, ungathered, unmade, unread, unwritten}
 pub use Rattle.ubi_commands.specs.BuildLaws.{AreTold, BuildReads, ReadsItsFile, file_of}
 pub use Rattle.ubi_commands.specs.Change.{Changes, ChangesFrom, CutMeans, HasPlan, IsChangeFault, not_blank_from, unplanned_from}
 pub use Rattle.ubi_commands.specs.Check.{same_state, state_line, surveyed, unsurveyed}
@@ -174,14 +195,15 @@ unfoldable pub use Rattle.ubi_commands.specs.Check.{printed_states}
 pub use Rattle.ubi_commands.specs.CommandLine.{AsksAsked, AsksBlank, AsksChange, AsksDump, AsksExtract, AsksKey, AsksNewImage, AsksNumbers, AsksPart, AsksPaths, AsksPlan, AsksRename, HasBelow, HasNumber, HasText, MayHaveBelow, MayHaveLong, MayHaveNumber, MayHaveText, gives, gives_no_geometry}
 pub use Rattle.ubi_commands.specs.Commands.{Asks, IsAllElse, IsAnswer, IsAnswerTo, IsRequest, Takes, command_name, reading_command, wrong_words}
 unfoldable pub use Rattle.ubi_commands.specs.Commands.{tool}
-pub use Rattle.ubi_commands.specs.Compose.{Composes, ComposesInto, ComposesOf, crowded, described, fits, meaning_line, spec_line, unmade, unread}
+pub use Rattle.ubi_commands.specs.Compose.{Composes, ComposesInto, ComposesOf, fits, meaning_line, spec_line}
 pub use Rattle.ubi_commands.specs.Extract.{Extracts, HasTextIn, IsExtractError, ReadsVolume, accepted, read, read_key, refused_from, unread_from, wrote}
+pub use Rattle.ubi_commands.specs.FolderLaws.{AreAllDescribed, BuildsTheImage, FolderConfigReads, HoldVolumes}
 pub use Rattle.ubi_commands.specs.Geometry.{Detects, detected, detected_from, options_lines, undetected, undetected_from}
 unfoldable pub use Rattle.ubi_commands.specs.Geometry.{options, sizes_options}
 pub use Rattle.ubi_commands.specs.Key.{number_in}
 pub use Rattle.ubi_commands.specs.Lines.{blocks_line, bytes_line, comparison_line, no_block_line, undetected_line}
 unfoldable pub use Rattle.ubi_commands.specs.Lines.{layout_words}
-pub use Rattle.ubi_commands.specs.List.{Lists, list_lines, listed, record_line, shown, unlisted, volume_line}
+pub use Rattle.ubi_commands.specs.List.{Lists, list_lines, record_line, shown, unlisted, volume_line}
 unfoldable pub use Rattle.ubi_commands.specs.List.{room_words, sizes_line}
 pub use Rattle.ubi_commands.specs.Normalise.{HasMeaning, IsNormaliseError, Normalises, wrote_nothing}
 pub use Rattle.ubi_commands.specs.PageLaws.{AreOfFirst, LeastTold}
@@ -192,7 +214,7 @@ pub use Rattle.ubi_commands.specs.Rename.{CutIsNamed, HasRename, IsRenameFault, 
 pub use Rattle.ubi_commands.specs.Same.{Compares, ComparesOf, compared, comparison_status, different, left_refused, left_refused_from, right_refused, right_refused_from, same}
 pub use Rattle.ubi_commands.specs.Show.{Shows, block_lines, no_block, no_block_from, no_size, shown_from}
 pub use Rattle.ubi_commands.specs.Tool.{HasOneVolume, Mean, finds, plans, reads_dump}
-pub use Rattle.ubi_commands.specs.Unpack.{AreUnpacked, AreUnpackedUntil, IsUnpacked, IsWritten, Listed, Unpacks, UnpacksOf, all_described, config_path, file_byte, file_path, no_folder, unpacked, unpacked_line, unpacked_lines, unpacked_status}
+pub use Rattle.ubi_commands.specs.Unpack.{AreUnpacked, AreUnpackedUntil, IsUnpacked, IsWritten, Listed, Unpacks, UnpacksOf, all_described, config_path, described, file_byte, file_path, folder_config, listed, no_config, no_folder, unpacked, unpacked_line, unpacked_lines, unpacked_status}
 unfoldable pub use Rattle.ubi_commands.specs.Unpack.{file_name}
 pub use Rattle.ubi_commands.specs.declared.asked.Asked.{Asked}
 pub use Rattle.ubi_commands.specs.declared.asked.Change.{Change}
@@ -214,7 +236,7 @@ unfoldable pub use Rattle.ubi_commands.specs.inner.CommandLine.{command_row, wit
 pub use Rattle.ubi_commands.specs.inner.Ended.{IsEnded, IsToldOfSides, Works, answered, comparison, left_failed, no_read, no_source, no_write, right_failed, unopened}
 pub use Rattle.ubi_commands.specs.inner.Extracting.{HasFirst, IsExtractFault}
 pub use Rattle.ubi_commands.specs.inner.FileAnswers.{WritesFile, kept, lost}
-pub use Rattle.ubi_commands.specs.inner.Folder.{AreFilesOf, Ends, IsFileOf}
+pub use Rattle.ubi_commands.specs.inner.Folder.{AreFilesOf, Ends, IsFileOf, config_in}
 pub use Rattle.ubi_commands.specs.inner.Gathering.{AreSoFar, AreUnread, IsFound, IsPartOf}
 pub use Rattle.ubi_commands.specs.inner.Planning.{AreCut, HasFile, IsCut, refused_file}
 pub use Rattle.ubi_commands.specs.inner.Writes.{HasWork, writes}

@@ -1,11 +1,9 @@
 -- What was unpacked of an image, and how.
-use Rattle.ubi_commands.proofs.Prelude.{◌≡◌, ℕ, ◌+◌, ◌<◌, ◌≤◌, ◌⊎◌, ◌&&◌, Bool, inl, inr, true, false, append-nil, append_assoc, zero, suc, List, [], ◌∷◌, ◌++◌, cond, take, get_or, length, ap, arith, refl, subst, sym, ◌∙◌, Err, Ok, Option, Result, codes, is_ok, slice_get, list_all, entries, get, option_map_or, take_all, take_more, flat_map-append, list_all_more, get_or_from_slice_get, slice_get_cases, slice_get_read, slice_get_within, VolumeRecord, Appends, result_map_both, Sizes, Image, image_of, Agreed, Records, extent_in, extent_len, extent_of, read_text, ArePlaces, AreWithin, Placed, read_volume, volume_len, ReadError, All, Wrote, Extent, PlaceContent, len_none, len_some, Gives, says, Files, IsKept, OthersStay, OutsideStay, fresh, file_line, AreUnpacked, AreUnpackedUntil, IsUnpacked, IsWritten, Listed, Unpacks, all_described, config_path, file_name, file_path, unpacked, unpacked_line, unpacked_lines, unpacked_status, AreFilesOf, Ends, IsFileOf, VolumeFile, Outcome}
+use Rattle.ubi_commands.proofs.Prelude.{◌≡◌, ℕ, ◌+◌, ◌<◌, ◌≤◌, ◌⊎◌, ◌&&◌, Bool, inl, inr, true, false, append-nil, append_assoc, zero, suc, List, [], ◌∷◌, ◌++◌, cond, take, get_or, length, ap, arith, refl, subst, sym, ◌∙◌, Err, Ok, Option, Result, codes, is_ok, slice_get, list_all, entries, get, option_map_or, take_all, take_more, flat_map-append, list_all_more, get_or_from_slice_get, slice_get_cases, slice_get_read, slice_get_within, VolumeRecord, Appends, result_map_both, Sizes, Image, image_of, Agreed, Records, extent_in, extent_len, extent_of, read_text, ArePlaces, AreWithin, Placed, read_volume, volume_len, ReadError, All, Wrote, Extent, PlaceContent, len_none, len_some, Gives, says, Files, IsKept, OthersStay, OutsideStay, fresh, file_line, AreUnpacked, AreUnpackedUntil, IsUnpacked, IsWritten, Listed, Unpacks, all_described, config_path, file_name, file_path, unpacked, unpacked_line, unpacked_lines, unpacked_status, AreFilesOf, Ends, IsFileOf, VolumeFile, Outcome, config_text, config_in, described, folder_config, listed, no_config}
 use Rattle.std.specs.Prelude.{None}
 use Rattle.std.specs.Prelude.{Some}
 use Rattle.ubi_volume.specs.declared.errors.ReadError.TheVariants as error
-use Rattle.ubi_config.specs.Written.{config_text}
-use Rattle.ubi_commands.specs.inner.Folder.{config_in}
-use Rattle.ubi_commands.specs.Unpack.{described, folder_config, listed, no_config, unwritten}
+use Rattle.ubi_commands.specs.Unpack.{unwritten}
 use Rattle.ubi_commands.proofs.Extracted.{has_text}
 
 -- how many bytes a volume reads, by its places

@@ -1,9 +1,7 @@
-use Rattle.ubi_commands.proofs.Prelude.{◌≡◌, ℕ, ◌++◌, ◌∷◌, [], ◌∙◌, List, ap, arith, get_or, subst, sym, take, take_all, rec_fault, extent_in, extent_len, AreRecords, ReadError, Records, all_described}
+use Rattle.ubi_commands.proofs.Prelude.{◌≡◌, ℕ, ◌++◌, ◌∷◌, [], ◌∙◌, List, ap, arith, get_or, subst, sym, take, take_all, rec_fault, extent_in, extent_len, AreRecords, ReadError, Records, all_described, ConfigVolume, described}
 use Rattle.std.proofs.Common.{Result}
 use Rattle.std.specs.Prelude.{All, None}
 use Rattle.std.specs.FinMap as finite
-use Rattle.ubi_config.specs.declared.volume.ConfigVolume.{ConfigVolume}
-use Rattle.ubi_commands.specs.Unpack.{described}
 use Rattle.ubi_commands.proofs.FolderConfigs.{described_more, sound_described}
 use Rattle.ubi_commands.proofs.folder_config.config_volumes.Goals as goal
 

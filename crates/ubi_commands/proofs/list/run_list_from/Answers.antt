@@ -1,4 +1,5 @@
-use Rattle.ubi_commands.proofs.Prelude.{source_narrowed, refuses, places_narrowed, listed, unlisted}
+use Rattle.ubi_commands.proofs.Prelude.{source_narrowed, refuses, places_narrowed, unlisted}
+use Rattle.ubi_commands.specs.List.{listed}
 use Rattle.ubi_commands.specs.List.{accepted, refused}
 use Rattle.ubi_commands.proofs.list.run_list_from.Goals as goal
 
