@@ -80,7 +80,6 @@ pub use Rattle.ubi_compose.proofs.Form.{count-composed, count-normal_bytes, norm
 pub use Rattle.ubi_compose.proofs.LesserPage.{normal_kept}
 pub use Rattle.ubi_compose.proofs.Lists.{all_append, all_from}
 pub use Rattle.ubi_compose.proofs.PartsAgain.{parts_build_again, read_fits, read_some}
-pub use Rattle.ubi_compose.proofs.Refusals.{refuses}
 pub use Rattle.ubi_compose.proofs.StoredVolumes.{count, volume_at}
 pub use Rattle.ubi_compose.specs.Building.{CanBuild, IsBuildError, WhereNotBegun, image_built, known_after}
 pub use Rattle.ubi_compose.specs.Built.{HaveMeaning, Parts, Reaches, text_of}
