@@ -1,6 +1,6 @@
 -- What is composed of a text, and listed of that.
-use Rattle.ubi_commands.proofs.Prelude.{Accepts, Accepts-unique, Answer, ComesTo, Composes, ComposesOf, Gives, Image, List, Lists, MeaningCause, Meant, Ok, Outcome, Sizes, Some, SpecCause, ap, arith, crowded, fits, image_of, list_lines, meaning_line, never_accepted_and_refused, one_first, option_map, same_Some, says, spec_line, subst, sym, unmade, unread, volumes_of, ℕ, ◌∙◌, ◌≡◌}
-use Rattle.ubi_commands.specs.Compose.{described}
+use Rattle.ubi_commands.proofs.Prelude.{Accepts, Accepts-unique, Answer, ComesTo, Composes, ComposesOf, Gives, Image, List, Lists, MeaningCause, Meant, Ok, Outcome, Sizes, Some, SpecCause, ap, arith, fits, image_of, list_lines, meaning_line, never_accepted_and_refused, one_first, option_map, same_Some, says, spec_line, subst, sym, volumes_of, ℕ, ◌∙◌, ◌≡◌}
+use Rattle.ubi_commands.specs.Compose.{crowded, described, unmade, unread}
 use Rattle.ubi_commands.specs.List.{accepted, refused}
 use Rattle.ubi_commands.specs.declared.format.Format.TheVariants as way
 

@@ -3,7 +3,7 @@ pub use Rattle.std.proofs.Common.{Bool, Less, List, Some, [], ap, append-nil, ap
 pub use Rattle.std.proofs.KnownBytes.{Keeps-refl}
 pub use Rattle.std.proofs.Math.Nat.{mod-add-div', mul-le-mul_right}
 pub use Rattle.std.proofs.Math.Seq.{drop-append-add}
-pub use Rattle.std.proofs.lemmas.Bool.{eqb-true, ltb-false, ne_eqb}
+pub use Rattle.std.proofs.lemmas.Bool.{eqb-true, false≢true, ltb-false, ne_eqb}
 pub use Rattle.std.proofs.lemmas.Bool.Decides.{nat_tests}
 pub use Rattle.std.proofs.lemmas.Cmp.{nat_cmp_total, ranked}
 pub use Rattle.std.proofs.lemmas.Grind.{common_steps, flat_map-append}
@@ -27,7 +27,7 @@ unfoldable pub use Rattle.std.specs.List.{IsDistinct}
 pub use Rattle.std.specs.Option.{ForSome, IsSomeAnd, option_map_or}
 pub use Rattle.std.specs.Ordering.{nat_cmp}
 unfoldable pub use Rattle.std.specs.Path.{path_with_file_name}
-pub use Rattle.std.specs.Prelude.{Contains, Err, IfErr, IfOk, IfSome, IsErr, IsOk, IsSome, MatchOption, MatchResult, None, Ok, OnErr, OnOk, Option, Result, codes, decimal, fold, if◌then◌else◌, is_ok, is_some, nat_lt, option_and_then, option_map, pos, slice_get, slice_index_or, sum_by, unwrap_or}
+pub use Rattle.std.specs.Prelude.{Contains, Err, IfErr, IfOk, IfSome, IsErr, IsOk, IsSome, IsTrue, MatchOption, MatchResult, None, Ok, OnErr, OnOk, Option, Result, codes, decimal, fold, if◌then◌else◌, is_ok, is_some, nat_lt, option_and_then, option_map, pos, slice_get, slice_index_or, sum_by, unwrap_or}
 pub use Rattle.std.specs.Result.{result_map_both}
 pub use Rattle.std.specs.Str.{bytes_eq}
 unfoldable pub use Rattle.std.specs.Str.{chars}
@@ -74,6 +74,8 @@ pub use Rattle.ubi_change.specs.RenamePlanned.{IsPlannedRename, IsRenameError}
 pub use Rattle.ubi_change.specs.Renamed.{renamed}
 pub use Rattle.ubi_change.specs.Steps.{after, after_text, step_done}
 pub use Rattle.ubi_change.specs.declared.step.Step.{Step}
+pub use Rattle.ubi_compare.proofs.Refusals.{refuses}
+pub use Rattle.ubi_compare.specs.declared.difference.Difference.{Difference}
 pub use Rattle.ubi_compose.proofs.BuiltReads.{built_reads}
 pub use Rattle.ubi_compose.proofs.BuiltRoom.{built_accepted}
 pub use Rattle.ubi_compose.proofs.Form.{count-composed, count-normal_bytes, normalising}
@@ -189,7 +191,7 @@ pub use Rattle.ubi_volume.specs.declared.errors.MeaningCause.{MeaningCause}
 pub use Rattle.ubi_volume.specs.declared.errors.ReadError.{ReadError}
 pub use Rattle.ubi_volume.specs.declared.places.Extent.{Extent}
 pub use Rattle.ubi_volume.specs.declared.places.PlaceContent.{PlaceContent}
-pub use Rattle.ubi_commands.specs.Build.{AreBesideOut, AreGathered, ArePartsOf, Builds, BuildsParts, HaveImage, IsNoVolume, IsSized, IsUngathered, IsUnreadLine, Sized, built, faulty, gathered, image_path, image_paths, len_of, no_image, no_path, no_record, numbered, part_at, ungathered, unwritten}
+pub use Rattle.ubi_commands.specs.Build.{AreBesideOut, AreGathered, ArePartsOf, Builds, BuildsParts, HaveImage, IsNoVolume, IsSized, IsUngathered, IsUnreadLine, Sized, built, crowded, faulty, gathered, image_path, image_paths, len_of, no_image, no_path, no_record, numbered, part_at, ungathered, unmade, unread, unwritten}
 pub use Rattle.ubi_commands.specs.BuildLaws.{AreTold, BuildReads, ReadsItsFile, file_of}
 pub use Rattle.ubi_commands.specs.Change.{Changes, ChangesFrom, CutMeans, HasPlan, IsChangeFault, not_blank_from, unplanned_from}
 pub use Rattle.ubi_commands.specs.Check.{state_line, surveyed, unsurveyed}
@@ -197,8 +199,8 @@ unfoldable pub use Rattle.ubi_commands.specs.Check.{printed_states}
 pub use Rattle.ubi_commands.specs.CommandLine.{AsksAsked, AsksBlank, AsksChange, AsksDump, AsksExtract, AsksFormat, AsksKey, AsksNewImage, AsksNumbers, AsksPart, AsksPaths, AsksPlan, AsksRename, HasBelow, HasNumber, HasText, MayHaveBelow, MayHaveLong, MayHaveNumber, MayHaveText, gives, gives_no_geometry}
 pub use Rattle.ubi_commands.specs.Commands.{Asks, IsAllElse, IsAnswer, IsAnswerTo, IsRequest, Takes, command_name, comparing_command, reading_command, wrong_words}
 unfoldable pub use Rattle.ubi_commands.specs.Commands.{tool}
-pub use Rattle.ubi_commands.specs.Comparisons.{ComparesOf, compared, compared_from, left_refused, left_refused_from, right_refused, right_refused_from}
-pub use Rattle.ubi_commands.specs.Compose.{Composes, ComposesInto, ComposesOf, crowded, fits, meaning_line, spec_line, unmade, unread}
+pub use Rattle.ubi_commands.specs.Comparisons.{AnswersOf, ComparesOf, are_none, compared, compared_from, comparison_status, difference_line, differences_text, left_refused, left_refused_from, right_refused, right_refused_from}
+pub use Rattle.ubi_commands.specs.Compose.{Composes, ComposesInto, ComposesOf, fits, meaning_line, spec_line}
 pub use Rattle.ubi_commands.specs.Extract.{Extracts, HasTextIn, IsExtractError, ReadsVolume, accepted, read, read_key, refused_from, unread_from, wrote}
 pub use Rattle.ubi_commands.specs.FolderLaws.{AreAllDescribed, BuildsTheImage, FolderConfigReads, HoldVolumes}
 pub use Rattle.ubi_commands.specs.Formats.{format_word, undetected_told}
@@ -206,7 +208,7 @@ pub use Rattle.ubi_commands.specs.Geometry.{Detects, detected, detected_from, ge
 unfoldable pub use Rattle.ubi_commands.specs.Geometry.{options, sizes_options}
 pub use Rattle.ubi_commands.specs.InFormat.{IsUnreadOfAsked, OfAskedIn, OfFileIn, OfRead, OfReadAsked, failed}
 pub use Rattle.ubi_commands.specs.Key.{number_in}
-pub use Rattle.ubi_commands.specs.Lines.{blocks_line, bytes_line, no_block_line, undetected_line}
+pub use Rattle.ubi_commands.specs.Lines.{blocks_line, bytes_line, comparison_line, no_block_line, undetected_line}
 unfoldable pub use Rattle.ubi_commands.specs.Lines.{layout_words}
 pub use Rattle.ubi_commands.specs.List.{Lists, list_lines, record_line, unlisted, volume_line}
 unfoldable pub use Rattle.ubi_commands.specs.List.{room_words, sizes_line}
@@ -231,6 +233,7 @@ pub use Rattle.ubi_commands.specs.declared.asked.Sought.{Sought}
 pub use Rattle.ubi_commands.specs.declared.build.Answers.{Answers}
 pub use Rattle.ubi_commands.specs.declared.command_line.Argument.{Argument}
 pub use Rattle.ubi_commands.specs.declared.command_line.CommandRow.{CommandRow}
+pub use Rattle.ubi_commands.specs.declared.comparison.Comparison.{Comparison}
 pub use Rattle.ubi_commands.specs.declared.format.Format.{Format}
 pub use Rattle.ubi_commands.specs.declared.requests.Request.{Request}
 pub use Rattle.ubi_commands.specs.declared.unpack.VolumeFile.{VolumeFile}

@@ -20,7 +20,7 @@ ghost use Rattle.ubi_commands.specs.Program.{OfBoth};
 ghost use Rattle.ubi_commands.specs.inner.Ended.{IsToldOfSides, Works};
 
 use crate::asked::Asked;
-use crate::differences::put_difference;
+use crate::differences::put_differences;
 use crate::finding::{KnownDump, find_dump, open_known};
 use crate::lines::{put_comparison, side_line, unlike_line};
 use std::alloc::{AllocError, Global};
@@ -59,9 +59,7 @@ fn diff_outcome(alloc: Global, told: &[Difference]) -> Result<Outcome, AllocErro
     ensures { IfOk result (λ o. Gives o (says (differences_text told.now) (comparison_status (are_none told.now)))) }
 {
     let mut text = Vec::new(alloc);
-    for difference in told {
-        put_difference(alloc, &mut text, difference)?;
-    }
+    put_differences(alloc, &mut text, told)?;
     put_comparison(&mut text, told.is_empty())?;
     Ok(Outcome::saying(text, status_of(told.is_empty())))
 }

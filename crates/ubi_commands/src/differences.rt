@@ -1,6 +1,6 @@
 //! The lines of differences.
 
-ghost use Rattle.std.specs.Prelude.{◌≡◌, ◌++◌, ◌∷◌, [], OnOk, decimal};
+ghost use Rattle.std.specs.Prelude.{◌≡◌, ◌++◌, ◌∷◌, [], OnOk, decimal, flat_map};
 ghost use Rattle.hex.specs.Hex.{encode_lower};
 ghost use Rattle.ubi_commands.specs.Comparisons.{condition_word, difference_line, range_words, side_word, side_words, volume_words};
 ghost use Rattle.ubi_json.specs.Words.{shown};
@@ -99,7 +99,7 @@ fn put_range(text: &mut Vec<u8>, first: u32, last: u32) -> Result<(), AllocError
 }
 
 /// Adds the line of a difference.
-pub fn put_difference(
+fn put_difference(
     alloc: Global,
     text: &mut Vec<u8>,
     difference: &Difference,
@@ -150,4 +150,18 @@ pub fn put_difference(
             put_word(text, "\n")
         }
     }
+}
+
+/// Puts the lines of differences.
+pub fn put_differences(
+    alloc: Global,
+    text: &mut Vec<u8>,
+    told: &[Difference],
+) -> Result<(), AllocError>
+    ensures { OnOk result (text.new.items ≡ text.old.items ++ flat_map difference_line told.now) }
+{
+    for difference in told {
+        put_difference(alloc, text, difference)?;
+    }
+    Ok(())
 }

@@ -1,5 +1,5 @@
-use Rattle.ubi_commands.proofs.Prelude.{IfOk-weaker, unmade, unread}
-use Rattle.ubi_commands.specs.Compose.{described}
+use Rattle.ubi_commands.proofs.Prelude.{IfOk-weaker}
+use Rattle.ubi_commands.specs.Compose.{described, unmade, unread}
 use Rattle.ubi_commands.proofs.compose.run_compose.Goals as goal
 
 pub returns-in-Err-Refused : goal.returns-in-Err-Refused
