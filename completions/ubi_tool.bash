@@ -7,9 +7,9 @@ _ubi_tool() {
         return
     fi
     case ${COMP_WORDS[1]} in
-        geometry) words='--start --length --help' ;;
-        list) words='--start --length --oob --bad --peb --page --vid --data --pebs --help' ;;
-        check) words='--start --length --oob --bad --peb --page --vid --data --pebs --help' ;;
+        geometry) words='--start --length --format --help' ;;
+        list) words='--start --length --oob --bad --format --peb --page --vid --data --pebs --help' ;;
+        check) words='--start --length --oob --bad --format --peb --page --vid --data --pebs --help' ;;
         show) words='--start --length --oob --bad --block --peb --page --vid --data --pebs --help' ;;
         extract) words='--start --length --oob --bad --out --id --name --peb --page --vid --data --pebs --help' ;;
         unpack) words='--start --length --oob --bad --out --peb --page --vid --data --pebs --help' ;;

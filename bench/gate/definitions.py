@@ -26,14 +26,14 @@ import sys
 import contracts
 
 ROOT = os.path.dirname(os.path.dirname(os.path.dirname(os.path.abspath(__file__))))
-CRATES = ("ubi_words", "ubi_media", "ubi_config", "ubi_scan", "ubi_detect", "ubi_files", "ubi_table", "ubi_volume", "ubi_compose", "ubi_change", "ubi_probe", "ubi_json", "ubi_commands", "ubi_tool")
+CRATES = ("ubi_words", "ubi_media", "ubi_config", "ubi_scan", "ubi_detect", "ubi_files", "ubi_table", "ubi_volume", "ubi_compose", "ubi_compare", "ubi_change", "ubi_probe", "ubi_json", "ubi_commands", "ubi_tool")
 HEADLINE = ("ubi_commands", "Headline", "Headline")
 # The calls that compute what the headline speaks of, by their files.
 CALLS = (
     ("ubi_volume", "attached", "attach"),
     ("ubi_compose", "composing", "compose"),
     ("ubi_compose", "composing", "normalise"),
-    ("ubi_compose", "comparing", "same"),
+    ("ubi_compare", "comparing", "same"),
     ("ubi_change", "planning", "plan_change"),
     ("ubi_change", "renaming", "plan_rename"),
 )
@@ -45,7 +45,8 @@ PROGRAM_CALLS = (
     ("ubi_volume", "surveyed", "survey_from"),
     ("ubi_volume", "extract", "write_places"),
     ("ubi_compose", "streaming", "normalise_to"),
-    ("ubi_compose", "comparing", "same_from"),
+    ("ubi_compare", "comparing", "same_from"),
+    ("ubi_compare", "comparing", "diff_from"),
     ("ubi_compose", "building", "build_to"),
     ("ubi_change", "planning", "plan_change_from"),
     ("ubi_change", "renaming", "plan_rename_from"),

@@ -21,7 +21,7 @@ from collections import Counter
 from pathlib import Path
 
 ROOT = Path(__file__).resolve().parents[2]
-CRATES = ('ubi_words', 'ubi_media', 'ubi_config', 'ubi_scan', 'ubi_detect', 'ubi_files', 'ubi_table', 'ubi_volume', 'ubi_change', 'ubi_compose', 'ubi_json', 'ubi_commands', 'ubi_tool')
+CRATES = ('ubi_words', 'ubi_media', 'ubi_config', 'ubi_scan', 'ubi_detect', 'ubi_files', 'ubi_table', 'ubi_volume', 'ubi_change', 'ubi_compose', 'ubi_compare', 'ubi_json', 'ubi_commands', 'ubi_tool')
 LISTED = Path(__file__).resolve().with_name('places.txt')
 # The proofs by hand.
 BY_HAND = ('crates/ubi_scan/proofs/trace/Trace/new/Proof.antt', 'crates/ubi_scan/proofs/trace/Trace/note/Proof.antt')

@@ -53,7 +53,7 @@ FAR = (64, 100, 128, 256, 1000, 65536, 2**31)
 # Words that can't be read as a name; nor can most words with one of them inside.
 NO_NAMES = ("\\", "\\x", "\\x4", "\\X41", "\\x00", "\\x4g", "\\n", " ", "\t", "\n", "\x7F", "\x80", "\xE9", "a" * 128, "\\x61" * 128)
 # The commands that take --bad, and LISTs that are wrong.
-OF_BAD = ("list", "check", "show", "extract", "unpack", "normalise", "same", "change", "rename")
+OF_BAD = ("list", "check", "show", "extract", "unpack", "normalise", "same", "diff", "change", "rename")
 NO_LISTS = ("3,,4", ",", "3,", ",3", "-1", "3-", "9-3", "3-4-5", "4294967296", "0x3", "3 ,4", "a", " ", "3 ", " 3", "+", "++3", "3+", "-", "--", "-0",
     "0--1", "3-+", "3,-4", "3--4", "+-3", "1-4294967296", "4294967299", "18446744073709551616", "9" * 40, "3;4", "3\n", "3\t", "3.0", "1e3",
     "3,a", "\uFF13", "\u0663", "3-2,", "1_0", "0-4294967296", "all", "none")
@@ -713,9 +713,9 @@ class Case(Runner):
 
     def plain_words(self, command):
         """Words that are right for a command."""
-        of = {"show": ["--block", "0"], "extract": ["--id", "0"], "same": [self.path], "change": ["--id", "0", "--lnum", "0", "--from", self.path],
-            "rename": ["--id", "0", "--name", "data"]}
-        outs = ["--out", self.out] if command not in ("geometry", "list", "check", "show", "same") else []
+        of = {"show": ["--block", "0"], "extract": ["--id", "0"], "same": [self.path], "diff": [self.path],
+            "change": ["--id", "0", "--lnum", "0", "--from", self.path], "rename": ["--id", "0", "--name", "data"]}
+        outs = ["--out", self.out] if command not in ("geometry", "list", "check", "show", "same", "diff") else []
         return sized([command, self.path, *of.get(command, []), *outs], self.geometry)
 
     def look_geometries(self):

@@ -19,7 +19,7 @@ import subprocess
 import tempfile
 
 import rules
-from fuzz import ROOT, Case, Failure, Maker, built, finish, options, taken, taken_file
+from fuzz import ROOT, Case, Failure, Maker, built, finish, options, renumbered, taken, taken_file
 
 
 def refusing(folder):
@@ -52,12 +52,15 @@ class Starved(Case):
         self.volumes = os.path.join(folder, "volumes")
 
     def commands(self, image):
-        other = self.put("other", rules.normal_image(image))
+        normal, peb = rules.normal_image(image), self.geometry.peb
+        other = self.put("other", normal)
+        changed = b"".join(renumbered(normal[at : at + peb], 1) for at in range(0, len(normal), peb))
         number = str(next(iter(image.records), 0))
         new = self.put("new", self.rng.randbytes(self.geometry.page))
         yield from ([name, self.path] for name in ("geometry", "check", "list"))
         yield ["show", self.path, "--block", "0"]
         yield ["same", self.path, other]
+        yield ["diff", self.path, self.put("changed", changed)]
         yield ["extract", self.path, "--id", number, "--out", self.out]
         for record in list(image.records.values())[:1]:
             yield ["extract", self.path, f"--name={rules.shown(record.name)}", "--out", self.out]

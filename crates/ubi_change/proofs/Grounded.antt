@@ -1,6 +1,5 @@
 -- What was read for a plan, once more is read.
-use Rattle.ubi_change.proofs.Prelude.{◌≡◌, ℕ, subst, List, Option, Sizes, Agreed, Narrows, Source, Seen, BlockState, AreHoldersOf, IsSiteAt, IsGroundOf, Avoided, Ground, Holders, Site}
-use Rattle.ubi_volume.proofs.OfSurvey.{survey_narrowed}
+use Rattle.ubi_change.proofs.Prelude.{◌≡◌, ℕ, subst, List, Option, Sizes, Agreed, Narrows, Source, Seen, BlockState, AreHoldersOf, IsSiteAt, IsGroundOf, Avoided, Ground, Holders, Site, survey_narrowed}
 
 module _ (s : Sizes) (k : Source) (old new : Agreed) where
   pub ground_narrowed : (av : Avoided) (ground : Ground) → Narrows old new → IsGroundOf s k old av ground → IsGroundOf s k new av ground

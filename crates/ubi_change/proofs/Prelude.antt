@@ -63,7 +63,7 @@ pub use Rattle.ubi_scan.proofs.FailedReads.{names_part}
 pub use Rattle.ubi_scan.proofs.Filled.{behind, drop_blank, filled-by, filled-is, filled-none, filled_inner, filled_more, join_blank, length-blank, length-filled, overwrite_filled, overwrite_front}
 pub use Rattle.ubi_scan.proofs.InMemory.{still}
 pub use Rattle.ubi_scan.proofs.Keys.{apart_test, at_itself, at_other, same_test}
-pub use Rattle.ubi_scan.proofs.Narrowed.{scan_narrowed, source_narrowed}
+pub use Rattle.ubi_scan.proofs.Narrowed.{source_narrowed}
 pub use Rattle.ubi_scan.proofs.Parts.{blank_ec, blank_vid, ec-laid, laid, leb-laid, vid-laid}
 pub use Rattle.ubi_scan.proofs.ReadParts.{count_blocks}
 pub use Rattle.ubi_scan.proofs.Revalued.{revalued_is, sum_revalued}
@@ -95,6 +95,7 @@ pub use Rattle.ubi_volume.proofs.Equal.{bytes_Decides, record_Decides}
 pub use Rattle.ubi_volume.proofs.Gathered.{listed_at}
 pub use Rattle.ubi_volume.proofs.MeantRecords.{meant_by, records_are, records_fit, volume_is}
 pub use Rattle.ubi_volume.proofs.Narrowed.{error_where, wrote_narrowed, wrote_where}
+pub use Rattle.ubi_volume.proofs.OfSurvey.{survey_narrowed}
 pub use Rattle.ubi_volume.proofs.Pieces.{pieces_few, pieces_suffice}
 pub use Rattle.ubi_volume.proofs.PlacesOf.{refused_in_memory}
 pub use Rattle.ubi_volume.proofs.Received.{Splits, error_behind, error_front, wrote_as, wrote_cut, wrote_more, wrote_none, wrote_text}

@@ -1,5 +1,5 @@
 -- What is read of an eraseblock, in the bytes that a source may hold.
-use Rattle.ubi_change.proofs.Prelude.{◌≡◌, ℕ, ◌+◌, ◌-◌, ◌/◌, ◌<◌, List, length, drop, sym, ◌∙◌, subst, arith, length-drop, slice_range, div-mul-le_self, take_all, Sizes, block, Agreed, IsSource, Narrows, Source, blocks_in, blocks_of, length-of_chunk, scan_narrowed, IsSurveyOf, Seen, part_is}
+use Rattle.ubi_change.proofs.Prelude.{◌≡◌, ℕ, ◌+◌, ◌-◌, ◌/◌, ◌<◌, List, length, drop, sym, ◌∙◌, subst, arith, length-drop, slice_range, div-mul-le_self, take_all, Sizes, block, Agreed, IsSource, Source, blocks_in, blocks_of, length-of_chunk, part_is}
 
 module _ (s : Sizes) (k : Source) (agrees : Agreed) (is : IsSource k agrees) (bytes : List ℕ) (holds : agrees bytes) (p : ℕ)
     (inside : p < blocks_in s k) where

@@ -1,19 +1,18 @@
 -- Each volume of a built image reads the file that its section names.
-use Rattle.ubi_commands.proofs.Prelude.{◌≡◌, ℕ, ◌+◌, ◌*◌, ◌≤◌, List, [], ◌∷◌, ◌++◌, drop, length, map, take, zero, suc, ap, arith, refl, subst, sym, ◌∙◌, drop-append-add, length-append, take-append-le, take_all, get_or_from_slice_get, same_Some, slice_get_within, Appends, AllByRecursion, cons_option, option_map_or, IfSome, IsSome, MatchOption, Ok, Option, if◌then◌else◌, option_map, sum_by, unwrap_or, Sizes, usable, image_of, known_by, Accepts, Meant, read_volume, All, Wrote, sections_of, record_in, Section, image_built, Parts, Reaches, text_of, text_read, composed, Part, built_reads, built_accepted, all_from, AreGathered, ArePartsOf, HaveImage, IsNoVolume, IsSized, Sized, built, faulty, gathered, image_path, image_paths, len_of, no_image, no_path, no_record, numbered, part_at, ungathered, unwritten, AreTold, BuildReads, ReadsItsFile, file_of, Files, Holds, fresh, row_bytes, Outcome, sum_cons, None}
+use Rattle.ubi_commands.proofs.Prelude.{None, Accepts, All, AllByRecursion, Appends, AreGathered, ArePartsOf, AreTold, BuildReads, Files, HaveImage, Holds, IfSome, IsNoVolume, IsSized, IsSome, List, MatchOption, Meant, Ok, Option, Outcome, Part, Parts, Reaches, ReadsItsFile, Section, Sized, Sizes, Wrote, [], all_from, ap, arith, built, built_accepted, built_reads, composed, cons_option, crowded, drop, drop-append-add, faulty, file_of, fresh, gathered, get_or_from_slice_get, if◌then◌else◌, image_built, image_of, image_path, image_paths, known_by, len_of, length, length-append, map, no_image, no_path, no_record, numbered, option_map, option_map_or, part_at, read_volume, record_in, refl, row_bytes, same_Some, sections_of, slice_get_within, subst, suc, sum_by, sum_cons, sym, take, take-append-le, take_all, text_of, text_read, ungathered, unmade, unread, unwrap_or, unwritten, usable, zero, ℕ, ◌*◌, ◌++◌, ◌+◌, ◌∙◌, ◌∷◌, ◌≡◌, ◌≤◌}
 use Rattle.std.proofs.lemmas.List.{append_assoc}
 use Rattle.std.specs.Prelude.{Some, true}
 use Rattle.ubi_compose.specs.Built.{built as meant}
-use Rattle.ubi_commands.specs.Build.{crowded, unmade, unread}
 use Rattle.ubi_commands.proofs.Outcomes.{not_both}
 
 -- a section that comes to no volume isn't done
-no_volume : (d : Files) (s : Sizes) (config : List ℕ) (x : Section) (o : Outcome) → IsNoVolume d s config x o → o.status ≡ 1
+pub no_volume : (d : Files) (s : Sizes) (config : List ℕ) (x : Section) (o : Outcome) → IsNoVolume d s config x o → o.status ≡ 1
 no_volume d s config x o (no_image image is gives) = gives.status
 no_volume d s config x o (no_path image is not gives) = gives.status
 no_volume d s config x o (no_record len c sized refused gives) = gives.status
 
 -- the part of bytes that stands behind others, and before more
-middle : (front here more : List ℕ) → take (length here) (drop (length front) (front ++ (here ++ more))) ≡ here
+pub middle : (front here more : List ℕ) → take (length here) (drop (length front) (front ++ (here ++ more))) ≡ here
 middle front here more =
     let begins : length front ≡ length front + 0 = omega arith in
     ap (λ (k : ℕ). take (length here) (drop k (front ++ (here ++ more)))) begins
@@ -23,7 +22,7 @@ middle front here more =
 
 module _ (d : Files) (config : List ℕ) where
   -- the paths of the files that sections name, of which volumes are
-  abbrev named : List Sized → List Section
+  abbrev pub named : List Sized → List Section
   named es = map (λ e. e.0) es
 
   -- what a section's file holds stands before what those of the others hold
@@ -35,7 +34,7 @@ module _ (d : Files) (config : List ℕ) where
   row_cons (Some image) file more paths is rest = rw (is, rest) refl
 
   -- what is known of each file is known of all
-  all_told : (xs : List Section) → AreTold d config xs → (all : List ℕ) × (row_bytes (map d.holds (image_paths config xs)) ≡ Some all)
+  pub all_told : (xs : List Section) → AreTold d config xs → (all : List ℕ) × (row_bytes (map d.holds (image_paths config xs)) ≡ Some all)
   all_told [] told = ([], refl)
   all_told (x ∷ xs) told = by (file_of d config x) refl told.0 (all_told xs told.1)
     where
@@ -59,7 +58,7 @@ module _ (d : Files) (config : List ℕ) where
       (same, ap (λ (l : Option ℕ). unwrap_or l 0) same)
 
   -- the parts of sections lie in the bytes of their files
-  parts_reach : (s : Sizes) (es : List Sized) (ps : List Part) (start size : ℕ) → ArePartsOf s start es ps
+  pub parts_reach : (s : Sizes) (es : List Sized) (ps : List Part) (start size : ℕ) → ArePartsOf s start es ps
       → start + sum_by len_of es ≤ size → Reaches size ps
   parts_reach s [] [] start size are room k x below = absurd (omega (arith, below))
   parts_reach s [] (p ∷ ps) start size are room k x below = absurd are
@@ -72,16 +71,16 @@ module _ (d : Files) (config : List ℕ) where
       parts_reach s es ps (start + len_of e) size are.3 (omega (arith, one, room)) k x (omega (arith, below))
 
   -- what is known of the first section and its file, and of the others
-  record First (e : Sized) (es : List Sized) (behind : List ℕ) : Type 0 where
-    file : List ℕ
-    more : List ℕ
-    held : file_of d config e.0 ≡ Some file
-    rest : row_bytes (map d.holds (image_paths config (named es))) ≡ Some more
-    both : behind ≡ file ++ more
-    len : e.1 ≡ option_map (λ _. length file) e.0.image
-    long : len_of e ≡ length file
+  pub record First (e : Sized) (es : List Sized) (behind : List ℕ) : Type 0 where
+    pub file : List ℕ
+    pub more : List ℕ
+    pub held : file_of d config e.0 ≡ Some file
+    pub rest : row_bytes (map d.holds (image_paths config (named es))) ≡ Some more
+    pub both : behind ≡ file ++ more
+    pub len : e.1 ≡ option_map (λ _. length file) e.0.image
+    pub long : len_of e ≡ length file
 
-  first_of : (e : Sized) (es : List Sized) (behind : List ℕ) → IsSized d config e → AreTold d config (named (e ∷ es))
+  pub first_of : (e : Sized) (es : List Sized) (behind : List ℕ) → IsSized d config e → AreTold d config (named (e ∷ es))
       → row_bytes (map d.holds (image_paths config (named (e ∷ es)))) ≡ Some behind → First e es behind
   first_of e es behind sized told all = by (file_of d config e.0) refl told.0
     where
@@ -102,7 +101,7 @@ module _ (d : Files) (config : List ℕ) where
           }
 
   -- files have as many bytes together as their sections say
-  sized_sum : (es : List Sized) (behind : List ℕ) → AllByRecursion (IsSized d config) es → AreTold d config (named es)
+  pub sized_sum : (es : List Sized) (behind : List ℕ) → AllByRecursion (IsSized d config) es → AreTold d config (named es)
       → row_bytes (map d.holds (image_paths config (named es))) ≡ Some behind → sum_by len_of es ≡ length behind
   sized_sum [] behind sized told all = ap length (same_Some [] behind all)
   sized_sum (e ∷ es) behind sized told all =
@@ -149,7 +148,7 @@ module _ (d : Files) (config : List ℕ) where
         )
 
 -- what was received is the image that was built of the bytes of the files
-received_is : (d e : Files) (out : List ℕ) (ps : Parts) (spares size n : ℕ) (reads : List (ℕ × List ℕ)) (received : Option (List ℕ))
+pub received_is : (d e : Files) (out : List ℕ) (ps : Parts) (spares size n : ℕ) (reads : List (ℕ × List ℕ)) (received : Option (List ℕ))
     (image bytes : List ℕ) → d.tells ≡ true → known_by size reads bytes
     → Wrote (known_by size reads) (fresh d) received (image_built ps spares) All 0 n → Holds e out received → e.holds out ≡ Some image
     → composed (meant ps bytes) spares ≡ image

@@ -1,7 +1,6 @@
 -- How a build into a file ends.
-use Rattle.ubi_commands.proofs.Prelude.{◌≡◌, ◌<◌, ◌⊎◌, ◌∷◌, ◌∙◌, ℕ, List, [], ap, arith, get_or, inl, inr, length, refl, subst, suc, sym, zero, AllByRecursion, ForSome, Contains, Err, IfErr, IfOk, IfSome, IsOk, IsSome, Ok, OnErr, Option, Result, AllocError, Sizes, Agreed, Source, known_by, first_fault, sections_of, Section, All, Wrote, CanBuild, IsBuildError, WhereNotBegun, image_built, known_after, HaveMeaning, Parts, BuildError, Part, AreBesideOut, AreGathered, Builds, BuildsParts, HaveImage, IsUnreadLine, built, gathered, image_paths, numbered, unwritten, row_bytes, AllStay, Files, IsKept, fresh, contents_of, AreAnswers, IsNotBegun, IsToldOf, Answers, Outcome, None}
+use Rattle.ubi_commands.proofs.Prelude.{None, Agreed, All, AllByRecursion, AllStay, AllocError, Answers, AreAnswers, AreBesideOut, AreGathered, BuildError, Builds, BuildsParts, CanBuild, Contains, Err, Files, ForSome, HaveImage, HaveMeaning, IfErr, IfOk, IfSome, IsBuildError, IsKept, IsNotBegun, IsOk, IsSome, IsToldOf, IsUnreadLine, List, Ok, OnErr, Option, Outcome, Part, Parts, Result, Section, Sizes, Source, WhereNotBegun, Wrote, [], ap, arith, built, contents_of, crowded, first_fault, fresh, gathered, get_or, image_built, image_paths, inl, inr, known_after, known_by, length, numbered, refl, row_bytes, sections_of, subst, suc, sym, unread, unwritten, zero, ℕ, ◌<◌, ◌∙◌, ◌∷◌, ◌≡◌, ◌⊎◌}
 use Rattle.ubi_compose.specs.declared.errors.BuildError.TheVariants as build
-use Rattle.ubi_commands.specs.Build.{crowded, unread}
 use Rattle.ubi_commands.proofs.Outcomes.{holds_received}
 
 -- what holds of each element holds of one

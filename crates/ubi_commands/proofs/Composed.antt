@@ -1,5 +1,5 @@
 -- What is composed of a text, and listed of that.
-use Rattle.ubi_commands.proofs.Prelude.{◌≡◌, ℕ, List, Some, ap, sym, subst, ◌∙◌, arith, Ok, option_map, same_Some, Sizes, Image, image_of, Accepts, Meant, MeaningCause, one_first, Accepts-unique, never_accepted_and_refused, volumes_of, ComesTo, SpecCause, Answer, Gives, says, Composes, ComposesOf, crowded, fits, meaning_line, spec_line, unmade, unread, Lists, list_lines, Outcome}
+use Rattle.ubi_commands.proofs.Prelude.{Accepts, Accepts-unique, Answer, ComesTo, Composes, ComposesOf, Gives, Image, List, Lists, MeaningCause, Meant, Ok, Outcome, Sizes, Some, SpecCause, ap, arith, crowded, fits, image_of, list_lines, meaning_line, never_accepted_and_refused, one_first, option_map, same_Some, says, spec_line, subst, sym, unmade, unread, volumes_of, ℕ, ◌∙◌, ◌≡◌}
 use Rattle.ubi_commands.specs.Compose.{described}
 use Rattle.ubi_commands.specs.List.{accepted, refused}
 use Rattle.ubi_commands.specs.declared.format.Format.TheVariants as way

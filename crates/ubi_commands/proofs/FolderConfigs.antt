@@ -1,5 +1,5 @@
 -- The volumes that the config of a folder describes.
-use Rattle.ubi_commands.proofs.Prelude.{◌≡◌, ℕ, ◌+◌, ◌<◌, List, [], ◌∷◌, ◌++◌, ◌∙◌, ap, get_or, length, subst, take, take_more, map-append, entries, rec_fault, Sizes, AreRecords, Records, ReadError, Listed, all_described, listed_at, Result, All-map, described, None}
+use Rattle.ubi_commands.proofs.Prelude.{None, All-map, AreRecords, List, Listed, ReadError, Records, Result, Sizes, [], all_described, ap, described, entries, get_or, length, listed_at, map-append, rec_fault, subst, take, take_more, ℕ, ◌++◌, ◌+◌, ◌<◌, ◌∙◌, ◌∷◌, ◌≡◌}
 use Rattle.std.specs.Prelude.{All}
 
 -- one volume more

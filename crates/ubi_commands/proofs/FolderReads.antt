@@ -1,5 +1,5 @@
 -- The config of an accepted image's volumes is read as their sections.
-use Rattle.ubi_commands.proofs.Prelude.{◌≡◌, ℕ, ◌<◌, ◌^◌, ◌==◌, List, [], ◌∷◌, false, ap, arith, get_or, length, refl, subst, suc, sym, ◌∙◌, Option, Some, entries, Sizes, AreRecords, Records, ReadError, Listed, Result, all_described, Bool, Less, cond, map, true, nat_cmp-IsAntisymmetric, nat_tests, nat_cmp_total, ranked, All-map, AllByRecursion, IsDistinct, option_map_or, nat_cmp, written_reads, AreVolumes, same_bytes, IsGeometry, slots, rising_at, few_kept, entries_kept, AreKept, first_named, twice, records_are, records_of, volume_len, FolderConfigReads, described, listed}
+use Rattle.ubi_commands.proofs.Prelude.{All-map, AllByRecursion, AreKept, AreRecords, AreVolumes, Bool, FolderConfigReads, IsDistinct, IsGeometry, Less, List, Listed, None, Option, ReadError, Records, Result, Sizes, Some, [], all_described, ap, arith, cond, described, entries, entries_kept, false, few_kept, first_named, get_or, length, listed, map, nat_cmp, nat_cmp-IsAntisymmetric, nat_cmp_total, nat_tests, option_map_or, ranked, records_are, records_of, refl, rising_at, same_bytes, slots, subst, suc, sym, true, twice, volume_len, written_reads, ℕ, ◌<◌, ◌==◌, ◌^◌, ◌∙◌, ◌∷◌, ◌≡◌}
 use Rattle.std.proofs.Common.{None}
 use Rattle.std.specs.FinMap as finite
 use Rattle.std.specs.Prelude.{All}

@@ -8,6 +8,7 @@ pub mod DetectedLines
 pub mod Edited
 pub mod Ended
 pub mod Extracted
+pub mod FolderBuilds
 pub mod FolderConfigs
 pub mod FolderReads
 pub mod Found

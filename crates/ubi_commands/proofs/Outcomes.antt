@@ -1,5 +1,5 @@
 -- What outcomes tell.
-use Rattle.ubi_commands.proofs.Prelude.{◌≡◌, ℕ, ◌≤◌, ◌∙◌, List, Some, ap, length, refl, subst, sym, Appends, ForSome, IsSome, MatchResult, Ok, Err, Option, Result, IfOk, option_map, AllocError, Global, Vec, Sizes, first_broken, Meant, HasRoom, ComesTo, Composes, ComposesInto, ComposesOf, crowded, fits, unmade, unread, sizes_of, WritesFile, OfText, Tells, text_limit, Files, Holds, IsKept, IsTextOf, OthersStay, Receives, fresh, contents_of, Unread, Memory, Told, Numbers, Outcome}
+use Rattle.ubi_commands.proofs.Prelude.{AllocError, Appends, ComesTo, Composes, ComposesInto, ComposesOf, Err, Files, ForSome, Global, HasRoom, Holds, IfOk, IsKept, IsSome, IsTextOf, List, MatchResult, Meant, Memory, None, Numbers, OfText, Ok, Option, OthersStay, Outcome, Receives, Result, Sizes, Some, Tells, Told, Unread, Vec, WritesFile, ap, contents_of, crowded, first_broken, fits, fresh, length, option_map, refl, sizes_of, subst, sym, text_limit, unmade, unread, ℕ, ◌∙◌, ◌≡◌, ◌≤◌}
 use Rattle.std.proofs.Common.{None}
 use Rattle.ubi_commands.specs.Compose.{described}
 use Rattle.ubi_commands.specs.Compose as compose

@@ -74,18 +74,21 @@ pub use Rattle.ubi_change.specs.RenamePlanned.{IsPlannedRename, IsRenameError}
 pub use Rattle.ubi_change.specs.Renamed.{renamed}
 pub use Rattle.ubi_change.specs.Steps.{after, after_text, step_done}
 pub use Rattle.ubi_change.specs.declared.step.Step.{Step}
-pub use Rattle.ubi_compare.proofs.Refusals.{refuses}
 pub use Rattle.ubi_compose.proofs.BuiltReads.{built_reads}
 pub use Rattle.ubi_compose.proofs.BuiltRoom.{built_accepted}
 pub use Rattle.ubi_compose.proofs.Form.{count-composed, count-normal_bytes, normalising}
 pub use Rattle.ubi_compose.proofs.LesserPage.{normal_kept}
 pub use Rattle.ubi_compose.proofs.Lists.{all_append, all_from}
+pub use Rattle.ubi_compose.proofs.PartsAgain.{parts_build_again, read_fits, read_some}
+pub use Rattle.ubi_compose.proofs.Refusals.{refuses}
 pub use Rattle.ubi_compose.proofs.StoredVolumes.{count, volume_at}
 pub use Rattle.ubi_compose.specs.Building.{CanBuild, IsBuildError, WhereNotBegun, image_built, known_after}
 pub use Rattle.ubi_compose.specs.Built.{HaveMeaning, Parts, Reaches, text_of}
+pub use Rattle.ubi_compose.specs.BuiltAgain.{AreItsParts}
 pub use Rattle.ubi_compose.specs.BuiltLaws.{text_read}
 pub use Rattle.ubi_compose.specs.Composed.{HasRoom, composed}
 pub use Rattle.ubi_compose.specs.Normal.{IsNormalised, normal_blocks}
+unfoldable pub use Rattle.ubi_compose.specs.Normal.{normal_bytes}
 pub use Rattle.ubi_compose.specs.Spec.{volumes_of}
 pub use Rattle.ubi_compose.specs.Streamed.{HasGot, IsStreamed}
 pub use Rattle.ubi_compose.specs.TextLaws.{ComesTo}
@@ -93,14 +96,18 @@ unfoldable pub use Rattle.ubi_compose.specs.Words.{shown_name}
 pub use Rattle.ubi_compose.specs.declared.errors.BuildError.{BuildError}
 pub use Rattle.ubi_compose.specs.declared.errors.SpecCause.{SpecCause}
 pub use Rattle.ubi_compose.specs.declared.recipe.Part.{Part}
+pub use Rattle.ubi_config.proofs.CanSay.{is_said, reserved_some}
+pub use Rattle.ubi_config.proofs.GivenRecord.{section_gives_record}
 pub use Rattle.ubi_config.proofs.WrittenReads.{written_reads}
-pub use Rattle.ubi_config.specs.Config.{sections_of}
+pub use Rattle.ubi_config.specs.Config.{line_number, sections_of}
 unfoldable pub use Rattle.ubi_config.specs.Config.{first_fault}
 unfoldable pub use Rattle.ubi_config.specs.Records.{record_in}
-pub use Rattle.ubi_config.specs.Written.{config_text}
-pub use Rattle.ubi_config.specs.WrittenLaws.{AreVolumes}
+pub use Rattle.ubi_config.specs.Written.{bytes_reserved, config_text, may_grow, volume_lines}
+unfoldable pub use Rattle.ubi_config.specs.Written.{left_out}
+pub use Rattle.ubi_config.specs.WrittenLaws.{AreVolumes, section_at, section_for, sections_at}
 pub use Rattle.ubi_config.specs.declared.section.Section.{Section}
 pub use Rattle.ubi_config.specs.declared.volume.ConfigVolume.{ConfigVolume}
+pub use Rattle.ubi_config.specs.declared.volume.LeftOut.{LeftOut}
 pub use Rattle.ubi_detect.proofs.LeastWay.{IsLesserTold, least_first}
 pub use Rattle.ubi_detect.proofs.OnGrid.{each_on_grid}
 pub use Rattle.ubi_detect.specs.Detected.{AreDetected, AreDetectedOf, IsDetectError}
@@ -164,7 +171,7 @@ pub use Rattle.ubi_volume.proofs.Extracted.{len_none, len_some}
 pub use Rattle.ubi_volume.proofs.FirstCause.{one_first}
 pub use Rattle.ubi_volume.proofs.Gathered.{listed_at, listed_item}
 pub use Rattle.ubi_volume.proofs.LesserPage.{lesser_page}
-pub use Rattle.ubi_volume.proofs.MeantRecords.{records_are}
+pub use Rattle.ubi_volume.proofs.MeantRecords.{meant_by, records_are, volume_is}
 pub use Rattle.ubi_volume.proofs.Narrowed.{places_narrowed}
 pub use Rattle.ubi_volume.proofs.One.{Accepts-unique, never_accepted_and_refused}
 pub use Rattle.ubi_volume.proofs.OneCause.{one_cause}
@@ -172,10 +179,10 @@ pub use Rattle.ubi_volume.proofs.Received.{error_as}
 pub use Rattle.ubi_volume.specs.Accepts.{Accepts, AcceptsBlocks}
 pub use Rattle.ubi_volume.specs.Amounts.{AmountIs}
 pub use Rattle.ubi_volume.specs.Extract.{extent_in, extent_len, extent_of, read_text}
-pub use Rattle.ubi_volume.specs.Meant.{Meant, records_of}
+pub use Rattle.ubi_volume.specs.Meant.{IsMeaning, Meant, records_of}
 pub use Rattle.ubi_volume.specs.PageLaws.{meaning_with_page}
 pub use Rattle.ubi_volume.specs.Places.{ArePlaces, ArePlacesOf, AreWithin, Placed}
-pub use Rattle.ubi_volume.specs.Reading.{read_volume, volume_len}
+pub use Rattle.ubi_volume.specs.Reading.{read_volume, volume_len, volume_read}
 pub use Rattle.ubi_volume.specs.Wrote.{All, First, IsWroteError, NotAll, Wanted, Wrote}
 pub use Rattle.ubi_volume.specs.declared.block.Amount.{Amount}
 pub use Rattle.ubi_volume.specs.declared.content.Volume.{Volume}
@@ -189,12 +196,12 @@ pub use Rattle.ubi_commands.specs.Change.{Changes, ChangesFrom, CutMeans, HasPla
 pub use Rattle.ubi_commands.specs.Check.{state_line, surveyed, unsurveyed}
 unfoldable pub use Rattle.ubi_commands.specs.Check.{printed_states}
 pub use Rattle.ubi_commands.specs.CommandLine.{AsksAsked, AsksBlank, AsksChange, AsksDump, AsksExtract, AsksFormat, AsksKey, AsksNewImage, AsksNumbers, AsksPart, AsksPaths, AsksPlan, AsksRename, HasBelow, HasNumber, HasText, MayHaveBelow, MayHaveLong, MayHaveNumber, MayHaveText, gives, gives_no_geometry}
-pub use Rattle.ubi_commands.specs.Commands.{Asks, IsAllElse, IsAnswer, IsAnswerTo, IsRequest, Takes, command_name, reading_command, wrong_words}
+pub use Rattle.ubi_commands.specs.Commands.{Asks, IsAllElse, IsAnswer, IsAnswerTo, IsRequest, Takes, command_name, comparing_command, reading_command, wrong_words}
 unfoldable pub use Rattle.ubi_commands.specs.Commands.{tool}
-pub use Rattle.ubi_commands.specs.Comparisons.{compared, compared_from, left_refused, left_refused_from, right_refused, right_refused_from}
+pub use Rattle.ubi_commands.specs.Comparisons.{ComparesOf, compared, compared_from, left_refused, left_refused_from, right_refused, right_refused_from}
 pub use Rattle.ubi_commands.specs.Compose.{Composes, ComposesInto, ComposesOf, crowded, fits, meaning_line, spec_line, unmade, unread}
 pub use Rattle.ubi_commands.specs.Extract.{Extracts, HasTextIn, IsExtractError, ReadsVolume, accepted, read, read_key, refused_from, unread_from, wrote}
-pub use Rattle.ubi_commands.specs.FolderLaws.{FolderConfigReads}
+pub use Rattle.ubi_commands.specs.FolderLaws.{AreAllDescribed, BuildsTheImage, FolderConfigReads, HoldVolumes}
 pub use Rattle.ubi_commands.specs.Formats.{format_word, undetected_told}
 pub use Rattle.ubi_commands.specs.Geometry.{Detects, detected, detected_from, geometry_told, options_lines, undetected, undetected_from}
 unfoldable pub use Rattle.ubi_commands.specs.Geometry.{options, sizes_options}

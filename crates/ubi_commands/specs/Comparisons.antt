@@ -32,10 +32,12 @@ side_words left right = codes " left=" ++ left ++ codes " right=" ++ right ++ co
 abbrev pub volume_words : ℕ → List ℕ → List ℕ
 volume_words id word = codes "volume " ++ decimal id ++ codes " " ++ word
 
+-- the word of a side
 abbrev pub side_word : Side → List ℕ
 side_word side.Left = codes "left"
 side_word side.Right = codes "right"
 
+-- the word of a condition
 abbrev pub condition_word : Condition → List ℕ
 condition_word condition.Updating = codes "updating"
 condition_word condition.Damaged = codes "damaged"

@@ -1,16 +1,42 @@
 -- What the config in the folder of `unpack` is read as.
-use Rattle.std.specs.Prelude.{◌≡◌, None}
+use Rattle.std.specs.Prelude.{◌≡◌, ℕ, List, None, Ok, Some, true}
+use Rattle.std.specs.List.{AllByRecursion}
 use Rattle.ubi_media.specs.Geometry.{IsGeometry}
 use Rattle.ubi_scan.specs.Image.{Image}
 use Rattle.ubi_volume.specs.Accepts.{Accepts}
 use Rattle.ubi_volume.specs.Meant.{Meant}
-use Rattle.ubi_volume.specs.Reading.{volume_len}
+use Rattle.ubi_volume.specs.Reading.{read_volume, volume_len}
 use Rattle.ubi_config.specs.Config.{first_fault, sections_of}
+use Rattle.ubi_config.specs.Written.{left_out, may_grow}
 use Rattle.ubi_config.specs.WrittenLaws.{sections_written}
-use Rattle.ubi_commands.specs.Unpack.{all_described, folder_config, listed}
+use Rattle.ubi_compose.specs.Normal.{normal_bytes}
+use Rattle.ubi_commands.specs.Build.{Builds, image_path}
+use Rattle.ubi_files.specs.Disk.{Files}
+use Rattle.ubi_files.specs.declared.outcome.Outcome.{Outcome}
+use Rattle.ubi_commands.specs.Unpack.{all_described, file_name, folder_config, listed}
 
 -- that of an accepted image has no fault, and its sections are those of the volumes that aren't left out
 abbrev pub FolderConfigReads : Type 0
 FolderConfigReads = (image : Image) (m : Meant) → IsGeometry image.sizes → Accepts image m
     → (first_fault (folder_config m) ≡ None)
     × (sections_of (folder_config m) ≡ sections_written m.sizes (all_described (volume_len m) (listed m)))
+
+-- the volumes that are described: all of them
+abbrev pub AreAllDescribed : Meant → Type 0
+AreAllDescribed m =
+    AllByRecursion (λ v. left_out (may_grow (all_described (volume_len m) (listed m))) v ≡ None)
+    (all_described (volume_len m) (listed m))
+
+-- the file of each volume holds what the volume reads, where a config lies beside it
+abbrev pub HoldVolumes : Files → List ℕ → Meant → Type 0
+HoldVolumes d config m =
+    AllByRecursion (λ e. (text : List ℕ) × (read_volume m e.0 ≡ Ok text) × (d.holds (image_path config (file_name e)) ≡ Some text))
+    (listed m)
+
+-- of an image that is accepted, the config of its volumes, each of which it describes, and the files with what they read, `build` makes the
+-- normal image again, where it ends with the status 0 over a disk that tells its files
+abbrev pub BuildsTheImage : Type 0
+BuildsTheImage = (d e : Files) (config out : List ℕ) (image : Image) (m : Meant) (o : Outcome) (bytes : List ℕ)
+    → IsGeometry image.sizes → Accepts image m → AreAllDescribed m → HoldVolumes d config m
+    → Builds d e config out m.sizes (folder_config m) 0 m.image_seq o → o.status ≡ 0 → d.tells ≡ true → e.holds out ≡ Some bytes
+    → bytes ≡ normal_bytes m

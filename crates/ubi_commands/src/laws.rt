@@ -1,7 +1,7 @@
 //! The laws that the program stands on, each as the contract of a function that does nothing.
 
 ghost use Rattle.ubi_commands.specs.BuildLaws.{BuildReads};
-ghost use Rattle.ubi_commands.specs.FolderLaws.{FolderConfigReads};
+ghost use Rattle.ubi_commands.specs.FolderLaws.{BuildsTheImage, FolderConfigReads};
 ghost use Rattle.ubi_commands.specs.Headline.{Headline};
 ghost use Rattle.ubi_commands.specs.Laws.{ListsComposed, OneComposed};
 ghost use Rattle.ubi_commands.specs.PageLaws.{LeastTold};
@@ -34,6 +34,12 @@ pub fn build_reads()
 /// out.
 pub fn folder_config_reads()
     ensures { FolderConfigReads }
+{}
+
+/// Of the config that `unpack` writes of an accepted image, where it describes each volume, and of the files with what these read
+/// `build` makes the normal image of the image, byte for byte, where it ends with the status 0 over a disk that tells its files.
+pub fn builds_the_image()
+    ensures { BuildsTheImage }
 {}
 
 /// Of what is told of a file, the first has the least page: where pages have no out-of-band bytes, nothing else

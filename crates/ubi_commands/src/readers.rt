@@ -4,6 +4,7 @@ ghost use Rattle.std.specs.Option.{ForSome};
 ghost use Rattle.std.specs.Prelude.{◌≡◌, Err, IfErr, IfOk, codes};
 ghost use Rattle.ubi_scan.specs.Source.{Narrows};
 ghost use Rattle.ubi_files.specs.AfterRun.{IsNoWrite, after_run};
+ghost use Rattle.ubi_files.specs.Answer.{Gives, says};
 ghost use Rattle.ubi_files.specs.Kept.{IsPartOf};
 ghost use Rattle.ubi_commands.specs.InFormat.{IsUnreadOfAsked, OfAskedIn, OfFileIn, OfRead, OfReadAsked};
 ghost use Rattle.ubi_files.specs.OverFile.{IsUnseen, OfFile};

@@ -1,9 +1,6 @@
 -- What is found tells more and more differences.
-use Rattle.std.proofs.Common.{◌≡◌, ◌≢◌, Bool, true, false, List, [], ◌∷◌, ◌++◌, append-nil, append_assoc, refl, ap, sym, ◌∙◌, subst}
+use Rattle.ubi_compare.proofs.Prelude.{◌≡◌, ◌≢◌, Bool, true, false, List, [], ◌∷◌, ◌++◌, append-nil, append_assoc, refl, ap, sym, ◌∙◌, subst, Difference, Found, Adds, Tells}
 use Rattle.ubi_compare.proofs.Apart.{both_none, none_both}
-use Rattle.ubi_compare.specs.declared.difference.Difference.{Difference}
-use Rattle.ubi_compare.specs.declared.found.Found.{Found}
-use Rattle.ubi_compare.specs.inner.Found.{Adds, Tells}
 
 -- some were told, and more are behind them
 tells_more : (brief : Bool) (old new more ds : List Difference) → new ≡ old ++ more → Tells brief old ds

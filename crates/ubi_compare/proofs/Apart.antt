@@ -1,11 +1,5 @@
 -- Lists of differences that are empty.
-use Rattle.std.proofs.Common.{◌≡◌, ℕ, zero, suc, ◌+◌, ◌<◌, ◌≤◌, Bool, true, false, cond, inl, inr, List, [], ◌∷◌, ◌++◌, length, map, refl, ap, sym, ◌∙◌, subst, arith, ◌==◌}
-use Rattle.std.proofs.lemmas.Bool.{false≢true, cases_lt}
-use Rattle.std.specs.Cmp.{unsigned_Decides}
-use Rattle.std.specs.List.{range_with_len}
-use Rattle.std.specs.Prelude.{filter, flat_map, None, Some, if◌then◌else◌}
-use Rattle.ubi_compare.specs.Differences.{ranges_after, unless}
-use Rattle.ubi_compare.specs.declared.difference.Difference.{Difference}
+use Rattle.ubi_compare.proofs.Prelude.{◌≡◌, ℕ, zero, suc, ◌+◌, ◌<◌, ◌≤◌, Bool, true, false, cond, inl, inr, List, [], ◌∷◌, ◌++◌, length, map, refl, ap, sym, ◌∙◌, subst, arith, ◌==◌, false≢true, cases_lt, unsigned_Decides, range_with_len, filter, flat_map, None, Some, if◌then◌else◌, ranges_after, unless, Difference}
 
 pub unless_none : (same : Bool) (d : Difference) → unless same d ≡ [] → same ≡ true
 unless_none true d none = refl

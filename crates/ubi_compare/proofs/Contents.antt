@@ -1,30 +1,10 @@
 -- Two volumes of which no difference is told.
-use Rattle.std.proofs.Common.{◌≡◌, ◌≢◌, ℕ, zero, suc, ◌+◌, ◌*◌, ◌-◌, ◌%◌, ◌<◌, ◌≤◌, Bool, true, false, not, inl, inr, List, [], ◌++◌, length, map, take, refl, ap, sym, ◌∙◌, subst, arith, ◌==◌}
-use Rattle.std.proofs.lemmas.Bool.{false≢true, cases_lt, lt-ltb}
-use Rattle.std.specs.Cmp.{nat_cmp_total, unsigned_Decides}
+use Rattle.ubi_compare.proofs.Prelude.{◌≡◌, ◌≢◌, ℕ, zero, suc, ◌+◌, ◌*◌, ◌-◌, ◌%◌, ◌<◌, ◌≤◌, Bool, true, false, not, inl, inr, List, [], ◌++◌, length, map, take, refl, ap, sym, ◌∙◌, subst, arith, ◌==◌, false≢true, cases_lt, lt-ltb, nat_cmp_total, unsigned_Decides, FinMap, nat_cmp-IsAntisymmetric, nat_cmp, IfSome, None, Ok, Err, Option, Result, Some, nat_lt, usable_some, blank, Sizes, leb_size, usable, VolumeRecord, bytes_Decides, kept_alike, outside, pieces_few, share_more, shares_all, Fits, IsVolume, KeepsNoBlank, pieces, share, leb_read, leb_text, Content, Volume, ReadError, condition_of, content_differences, leb_differences, lebs_apart, length_differences, ranges_after, read_apart, record_differences, same_condition, unless, volume_differences, Condition}
 use Rattle.std.specs.FinMap as finite
-use Rattle.std.specs.FinMap.{FinMap, nat_cmp-IsAntisymmetric}
-use Rattle.std.specs.Ordering.{nat_cmp}
-use Rattle.std.specs.Prelude.{IfSome, None, Ok, Err, Option, Result, Some, nat_lt}
-use Rattle.ubi_media.proofs.Records.{usable_some}
-use Rattle.ubi_media.specs.Fields.{blank}
-use Rattle.ubi_media.specs.Geometry.{Sizes, leb_size}
-use Rattle.ubi_media.specs.Record.{usable}
-use Rattle.ubi_media.specs.declared.record.VolumeRecord.{VolumeRecord}
 use Rattle.ubi_media.specs.declared.vid.VolKind.TheVariants as kind
-use Rattle.ubi_volume.proofs.Equal.{bytes_Decides}
-use Rattle.ubi_volume.proofs.One.{kept_alike, outside}
-use Rattle.ubi_volume.proofs.Pieces.{pieces_few, share_more, shares_all}
-use Rattle.ubi_volume.specs.Meant.{Fits, IsVolume, KeepsNoBlank, pieces, share}
-use Rattle.ubi_volume.specs.Reading.{leb_read, leb_text}
-use Rattle.ubi_volume.specs.declared.content.Content.{Content}
 use Rattle.ubi_volume.specs.declared.content.Content.TheVariants as content
-use Rattle.ubi_volume.specs.declared.content.Volume.{Volume}
-use Rattle.ubi_volume.specs.declared.errors.ReadError.{ReadError}
 use Rattle.ubi_compare.proofs.Apart.{both_none, chosen, map_none, none_both, none_pass, none_unless, pass_none, ranges_none, unless_none}
 use Rattle.ubi_compare.proofs.Fields.{IsOneRecord, number_itself, one_record, record_itself, text_itself}
-use Rattle.ubi_compare.specs.Differences.{condition_of, content_differences, leb_differences, lebs_apart, length_differences, ranges_after, read_apart, record_differences, same_condition, unless, volume_differences}
-use Rattle.ubi_compare.specs.declared.difference.Condition.{Condition}
 use Rattle.ubi_compare.specs.declared.difference.Condition.TheVariants as condition
 use Rattle.ubi_compare.specs.declared.difference.Difference.TheVariants as difference
 

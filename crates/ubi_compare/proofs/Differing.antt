@@ -1,40 +1,13 @@
 -- In what two volumes differ, by their cases.
-use Rattle.std.proofs.Common.{◌≡◌, ◌≢◌, ℕ, ◌+◌, Bool, true, false, List, [], ◌∷◌, ◌++◌, refl, ap, ap₂, sym, ◌∙◌, subst, arith, append-nil, append_assoc, ◌==◌}
-use Rattle.std.specs.Cmp.{unsigned_Decides}
-use Rattle.std.proofs.lemmas.Grind.{flat_map-append}
+use Rattle.ubi_compare.proofs.Prelude.{◌≡◌, ◌≢◌, ℕ, ◌+◌, Bool, true, false, List, [], ◌∷◌, ◌++◌, refl, ap, ap₂, sym, ◌∙◌, subst, arith, append-nil, append_assoc, ◌==◌, unsigned_Decides, flat_map-append, range_with_len, Err, None, Ok, Some, flat_map, if◌then◌else◌, Sizes, slots, usable, VolumeRecord, image_of, same_Ok, entry_of, has_entry, no_volume, places_of, extent_of, Meant, case_of, leb_read, IsSurvey, Seen, Content, Volume, ReadError, Extent, PlaceContent, condition_of, content_differences, differences, leb_differences, lebs_apart, length_differences, ranges_after, read_apart, record_differences, same_condition, unless, volume_differences, Condition, Difference, Found, Adds, told_of, case_condition, case_lengths, first_differences}
 use Rattle.std.specs.FinMap as finite
-use Rattle.std.specs.List.{range_with_len}
-use Rattle.std.specs.Prelude.{Err, None, Ok, Some, flat_map, if◌then◌else◌}
-use Rattle.ubi_media.specs.Geometry.{Sizes, slots}
-use Rattle.ubi_media.specs.Record.{usable}
-use Rattle.ubi_media.specs.declared.record.VolumeRecord.{VolumeRecord}
-use Rattle.ubi_scan.specs.Image.{image_of}
-use Rattle.ubi_volume.proofs.Extracted.{same_Ok}
-use Rattle.ubi_volume.proofs.OfSurvey.{entry_of, has_entry, no_volume, places_of}
-use Rattle.ubi_volume.specs.Extract.{extent_of}
-use Rattle.ubi_volume.specs.Meant.{Meant}
-use Rattle.ubi_volume.specs.Places.{case_of}
-use Rattle.ubi_volume.specs.Reading.{leb_read}
-use Rattle.ubi_volume.specs.Survey.{IsSurvey, Seen}
-use Rattle.ubi_volume.specs.declared.content.Content.{Content}
 use Rattle.ubi_volume.specs.declared.content.Content.TheVariants as content
-use Rattle.ubi_volume.specs.declared.content.Volume.{Volume}
-use Rattle.ubi_volume.specs.declared.errors.ReadError.{ReadError}
-use Rattle.ubi_volume.specs.declared.places.Extent.{Extent}
-use Rattle.ubi_volume.specs.declared.places.PlaceContent.{PlaceContent}
 use Rattle.ubi_volume.specs.declared.places.PlaceContent.TheVariants as place
 use Rattle.ubi_compare.proofs.Adding.{adds_more}
 use Rattle.ubi_compare.proofs.Apart.{not_chosen, pass_none}
 use Rattle.ubi_compare.proofs.ReadApart.{apart_from, range_more}
-use Rattle.ubi_compare.specs.Differences.{condition_of, content_differences, differences, leb_differences, lebs_apart, length_differences, ranges_after, read_apart, record_differences, same_condition, unless, volume_differences}
-use Rattle.ubi_compare.specs.declared.difference.Condition.{Condition}
-use Rattle.ubi_compare.specs.declared.difference.Difference.{Difference}
 use Rattle.ubi_compare.specs.declared.difference.Difference.TheVariants as difference
 use Rattle.ubi_compare.specs.declared.difference.Side.TheVariants as side
-use Rattle.ubi_compare.specs.declared.found.Found.{Found}
-use Rattle.ubi_compare.specs.inner.Found.{Adds}
-use Rattle.ubi_compare.specs.inner.Ranges.{told_of}
-use Rattle.ubi_compare.specs.inner.Sides.{case_condition, case_lengths, first_differences}
 
 condition_is : (s : Sizes) (r : VolumeRecord) (c : Content) → case_condition (case_of s r c) ≡ condition_of c
 condition_is s r content.Updating = refl

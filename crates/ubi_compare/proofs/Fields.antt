@@ -1,19 +1,9 @@
 -- The fields in which two records differ.
-use Rattle.std.proofs.Common.{◌≡◌, ℕ, ◌==◌, true, List, [], ◌++◌, refl}
-use Rattle.std.proofs.lemmas.Bool.{false≢true}
-use Rattle.std.specs.Cmp.{unsigned_Decides}
-use Rattle.ubi_media.specs.Fields.{same_bytes}
-use Rattle.ubi_media.specs.declared.record.VolumeRecord.{VolumeRecord}
-use Rattle.ubi_media.specs.declared.vid.VolKind.{VolKind}
+use Rattle.ubi_compare.proofs.Prelude.{◌≡◌, ℕ, ◌==◌, true, List, [], ◌++◌, refl, false≢true, unsigned_Decides, same_bytes, VolumeRecord, VolKind, bytes_Decides, record_differences, same_kind, unless, Difference, Found, Adds}
 use Rattle.ubi_media.specs.declared.vid.VolKind.TheVariants as kind
-use Rattle.ubi_volume.proofs.Equal.{bytes_Decides}
 use Rattle.ubi_compare.proofs.Adding.{adds_more}
 use Rattle.ubi_compare.proofs.Apart.{both_none, none_both, none_unless, unless_none}
-use Rattle.ubi_compare.specs.Differences.{record_differences, same_kind, unless}
-use Rattle.ubi_compare.specs.declared.difference.Difference.{Difference}
 use Rattle.ubi_compare.specs.declared.difference.Difference.TheVariants as difference
-use Rattle.ubi_compare.specs.declared.found.Found.{Found}
-use Rattle.ubi_compare.specs.inner.Found.{Adds}
 
 kind_is : (a b : VolKind) → same_kind a b ≡ true → a ≡ b
 kind_is kind.Dynamic kind.Dynamic same = refl

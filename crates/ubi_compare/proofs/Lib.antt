@@ -8,3 +8,4 @@ pub mod Ranged
 pub mod ReadApart
 pub mod Refusals
 pub mod Tables
+pub mod Prelude

@@ -1,17 +1,8 @@
 -- No difference is told of two meanings exactly if they are the same.
-use Rattle.std.proofs.Common.{◌≡◌, ℕ, ◌≤◌, inl, inr, [], refl, sym, ◌∙◌, subst, arith, ◌==◌}
-use Rattle.std.proofs.lemmas.Bool.{cases_lt}
-use Rattle.std.specs.Cmp.{nat_cmp_total, unsigned_Decides}
+use Rattle.ubi_compare.proofs.Prelude.{◌≡◌, ℕ, ◌≤◌, inl, inr, [], refl, sym, ◌∙◌, subst, arith, ◌==◌, cases_lt, nat_cmp_total, unsigned_Decides, nat_cmp-IsAntisymmetric, IfSome, None, Option, Some, Sizes, slots, IsMeaning, IsVolume, Meant, Volume, differences, unless, volume_differences, NothingDiffers}
 use Rattle.std.specs.FinMap as finite
-use Rattle.std.specs.FinMap.{nat_cmp-IsAntisymmetric}
-use Rattle.std.specs.Prelude.{IfSome, None, Option, Some}
-use Rattle.ubi_media.specs.Geometry.{Sizes, slots}
-use Rattle.ubi_volume.specs.Meant.{IsMeaning, IsVolume, Meant}
-use Rattle.ubi_volume.specs.declared.content.Volume.{Volume}
 use Rattle.ubi_compare.proofs.Apart.{both_none, none_both, none_told, none_unless, told_none, unless_none}
 use Rattle.ubi_compare.proofs.Contents.{one_slot, slot_itself}
-use Rattle.ubi_compare.specs.Differences.{differences, unless, volume_differences}
-use Rattle.ubi_compare.specs.Laws.{NothingDiffers}
 use Rattle.ubi_compare.specs.declared.difference.Difference.TheVariants as difference
 
 -- a slot beyond those of the device has no volume
@@ -50,7 +41,6 @@ itself m =
     (λ id low high. slot_itself m.sizes id (finite.get m.volumes id)))
 
 pub nothing_differs : NothingDiffers
-nothing_differs m n left right sizes = (
-  same_meanings m n left right sizes,
-  λ same. subst (λ (x : Meant). differences m x ≡ []) same (itself m),
-)
+nothing_differs m n left right sizes =
+    let means_same : differences m n ≡ [] → m ≡ n = same_meanings m n left right sizes in
+    (means_same, λ same. subst (λ (x : Meant). differences m x ≡ []) same (itself m))

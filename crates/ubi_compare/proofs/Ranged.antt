@@ -1,12 +1,7 @@
 -- Ranges of LEBs that are found one after the other.
-use Rattle.std.proofs.Common.{◌≡◌, ℕ, ◌+◌, ◌==◌, true, false, List, [], ◌∷◌, ◌++◌, append_assoc, append-nil, ap, sym, ◌∙◌}
-use Rattle.std.specs.Prelude.{None, Some}
+use Rattle.ubi_compare.proofs.Prelude.{◌≡◌, ℕ, ◌+◌, ◌==◌, true, false, List, [], ◌∷◌, ◌++◌, append_assoc, append-nil, ap, sym, ◌∙◌, None, Some, ranges_after, Difference, Ranges, told_of, told_with}
 use Rattle.ubi_compare.proofs.Apart.{chosen, not_chosen}
-use Rattle.ubi_compare.specs.Differences.{ranges_after}
-use Rattle.ubi_compare.specs.declared.difference.Difference.{Difference}
 use Rattle.ubi_compare.specs.declared.difference.Difference.TheVariants as difference
-use Rattle.ubi_compare.specs.declared.ranges.Ranges.{Ranges}
-use Rattle.ubi_compare.specs.inner.Ranges.{told_of, told_with}
 
 -- a LEB that follows the last joins it
 pub joined : (old new : Ranges) (lnum first last : ℕ) → old.begun ≡ Some (first, last) → (lnum == last + 1) ≡ true

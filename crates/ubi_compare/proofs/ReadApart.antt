@@ -1,42 +1,10 @@
 -- The LEBs of a volume that are read differently, by their places.
-use Rattle.std.proofs.Common.{◌≡◌, ◌≢◌, ℕ, zero, suc, ◌+◌, ◌*◌, ◌-◌, ◌<◌, ◌≤◌, Bool, true, false, cond, not, inl, inr, List, [], ◌∷◌, ◌++◌, append-nil, append_assoc, length, refl, ap, ap₂, sym, ◌∙◌, subst, arith, ◌==◌}
-use Rattle.std.proofs.lemmas.Bool.{false≢true, cases_lt, le-ltb}
-use Rattle.std.proofs.lemmas.List.Elements.{filter-append}
-use Rattle.std.specs.Cmp.{unsigned_Decides}
+use Rattle.ubi_compare.proofs.Prelude.{◌≡◌, ◌≢◌, ℕ, zero, suc, ◌+◌, ◌*◌, ◌-◌, ◌<◌, ◌≤◌, Bool, true, false, cond, not, inl, inr, List, [], ◌∷◌, ◌++◌, append-nil, append_assoc, length, refl, ap, ap₂, sym, ◌∙◌, subst, arith, ◌==◌, false≢true, cases_lt, le-ltb, filter-append, unsigned_Decides, range_with_len, Err, IsTrue, None, Ok, Result, Some, filter, min, nat_lt, ◌↔◌, same_bytes, Sizes, rec_fault, usable, VolumeRecord, usable_some, image_of, Agreed, Source, bytes_Decides, leb_is, piece_is, same_Ok, placed_of, places_of, pieces_few, content_has, reads_of, extent_of, leb_bytes, share_len, Fits, pieces, share, case_of, leb_read, leb_text, IsSurvey, Seen, Content, Volume, ReadError, Extent, PlaceContent, leb_differences, lebs_apart, ranges_after, read_apart, Ranges, OneSide, IsSideOf, HaveFound, first_apart, told_of, told_with}
 use Rattle.std.specs.FinMap as finite
-use Rattle.std.specs.List.{range_with_len}
-use Rattle.std.specs.Prelude.{Err, IsTrue, None, Ok, Result, Some, filter, min, nat_lt, ◌↔◌}
-use Rattle.ubi_media.specs.Fields.{same_bytes}
-use Rattle.ubi_media.specs.Geometry.{Sizes}
-use Rattle.ubi_media.specs.Record.{rec_fault, usable}
-use Rattle.ubi_media.specs.declared.record.VolumeRecord.{VolumeRecord}
-use Rattle.ubi_media.proofs.Records.{usable_some}
-use Rattle.ubi_scan.specs.Image.{image_of}
-use Rattle.ubi_scan.specs.Source.{Agreed, Source}
-use Rattle.ubi_volume.proofs.Equal.{bytes_Decides}
-use Rattle.ubi_volume.proofs.Extracted.{leb_is, piece_is, same_Ok}
-use Rattle.ubi_volume.proofs.OfSurvey.{placed_of, places_of}
-use Rattle.ubi_volume.proofs.Pieces.{pieces_few}
-use Rattle.ubi_volume.proofs.VolumeAt.{content_has, reads_of}
-use Rattle.ubi_volume.specs.Extract.{extent_of, leb_bytes, share_len}
-use Rattle.ubi_volume.specs.Meant.{Fits, pieces, share}
-use Rattle.ubi_volume.specs.Places.{case_of}
-use Rattle.ubi_volume.specs.Reading.{leb_read, leb_text}
-use Rattle.ubi_volume.specs.Survey.{IsSurvey, Seen}
-use Rattle.ubi_volume.specs.declared.content.Content.{Content}
 use Rattle.ubi_volume.specs.declared.content.Content.TheVariants as content
-use Rattle.ubi_volume.specs.declared.content.Volume.{Volume}
-use Rattle.ubi_volume.specs.declared.errors.ReadError.{ReadError}
 use Rattle.ubi_volume.specs.declared.errors.ReadError.TheVariants as error
-use Rattle.ubi_volume.specs.declared.places.Extent.{Extent}
-use Rattle.ubi_volume.specs.declared.places.PlaceContent.{PlaceContent}
 use Rattle.ubi_compare.proofs.Apart.{chosen, not_chosen, pass_none}
 use Rattle.ubi_compare.proofs.Contents.{dynamic_leb, none_apart, static_leb}
-use Rattle.ubi_compare.specs.Differences.{leb_differences, lebs_apart, ranges_after, read_apart}
-use Rattle.ubi_compare.specs.declared.ranges.Ranges.{Ranges}
-use Rattle.ubi_compare.specs.declared.sides.OneSide.{OneSide}
-use Rattle.ubi_compare.specs.inner.Sides.{IsSideOf}
-use Rattle.ubi_compare.specs.inner.Ranges.{HaveFound, first_apart, told_of, told_with}
 
 -- the LEBs of a volume that can be read, by its extent
 pub record AreLebs (s : Sizes) (v : Volume) (e : Extent) (texts : ℕ → List ℕ) : Type 0 where

@@ -1,17 +1,5 @@
 -- Why a source isn't attached, and why two aren't compared.
-use Rattle.std.proofs.Common.{ℕ, List, inl, inr, subst, sym}
-use Rattle.ubi_media.specs.Geometry.{Sizes}
-use Rattle.ubi_media.specs.declared.refusal.Refusal.{Refusal}
-use Rattle.ubi_scan.specs.Image.{IsLengthFault, IsWholeSize, image_of}
-use Rattle.ubi_scan.specs.Source.{Agreed, IsSource, Source, WhereHeld, blocks_in}
-use Rattle.ubi_scan.specs.Stream.{IsReadFault}
-use Rattle.ubi_scan.specs.declared.errors.StreamError.{StreamError}
-use Rattle.ubi_volume.specs.Accepts.{Accepts, Refuses}
-use Rattle.ubi_volume.specs.Meant.{Meant}
-use Rattle.ubi_volume.specs.Places.{ArePlacesError}
-use Rattle.ubi_compare.specs.Compared.{IsCompareFault}
-use Rattle.ubi_compare.specs.declared.errors.CompareFault.{CompareFault}
-use Rattle.ubi_compare.specs.inner.Sides.{IsSidesError}
+use Rattle.ubi_compare.proofs.Prelude.{ℕ, List, inl, inr, subst, sym, Sizes, Refusal, IsLengthFault, IsWholeSize, image_of, Agreed, IsSource, Source, WhereHeld, blocks_in, IsReadFault, StreamError, Accepts, Refuses, Meant, ArePlacesError, IsCompareFault, CompareFault, IsSidesError}
 use Rattle.ubi_scan.specs.declared.errors.StreamError.TheVariants as stream
 use Rattle.ubi_compare.specs.declared.errors.CompareFault.TheVariants as fault
 

@@ -1,15 +1,7 @@
 -- Whether two tables have the same records.
-use Rattle.std.proofs.Common.{◌≡◌, ℕ, Bool, ap, ◌==◌, ◌&&◌, Decides}
-use Rattle.std.proofs.lemmas.Bool.Decides.{Decides-and, Decides-like}
-use Rattle.std.proofs.lemmas.Slice.Eq.{slice_eq-Decides}
-use Rattle.std.specs.Cmp.{unsigned_Decides}
-use Rattle.std.specs.Cmp.Lexicographic.{pointwise}
+use Rattle.ubi_compare.proofs.Prelude.{◌≡◌, ℕ, Bool, ap, ◌==◌, ◌&&◌, Decides, Decides-and, Decides-like, slice_eq-Decides, unsigned_Decides, pointwise, FinMap, same_entries_map, nat_cmp, VolumeRecord, record_Decides}
 use Rattle.std.specs.FinMap as finite
-use Rattle.std.specs.FinMap.{FinMap, same_entries_map}
-use Rattle.std.specs.Ordering.{nat_cmp}
 use Rattle.ubi_media.specs.contracts.record.VolumeRecordPartialEq.TheImpl as record_eq
-use Rattle.ubi_media.specs.declared.record.VolumeRecord.{VolumeRecord}
-use Rattle.ubi_volume.proofs.Equal.{record_Decides}
 
 entry_Decides : (p q : ℕ × VolumeRecord) → Decides ((p.0 == q.0) && (record_eq.ghosts).eq p.1 q.1) (p ≡ q)
 entry_Decides p q = Decides-like _ (λ e i. (e.0 i, e.1 i)) (λ e. (ap (λ x. x.0) e, ap (λ x. x.1) e))

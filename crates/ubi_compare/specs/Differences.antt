@@ -46,6 +46,7 @@ condition_of content.Damaged = condition.Damaged
 condition_of (content.Static text) = condition.Whole
 condition_of (content.Dynamic lebs) = condition.Whole
 
+-- whether two conditions are the same
 abbrev pub same_condition : Condition → Condition → Bool
 same_condition condition.Updating condition.Updating = true
 same_condition condition.Damaged condition.Damaged = true

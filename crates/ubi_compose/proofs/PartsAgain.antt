@@ -1,9 +1,10 @@
 -- The volumes of an accepted image can be built again.
-use Rattle.ubi_compose.proofs.Prelude.{◌≡◌, ℕ, suc, ◌+◌, ◌*◌, ◌<◌, ◌≤◌, false, List, [], ◌∷◌, get_or, length, map, refl, ap, sym, ◌∙◌, subst, arith, Contains, Err, None, Ok, Option, Some, IfSome, fold, slice_get, sum_by, sum_by-cons, get_or_from_slice_get, slice_get-map, slice_get-get_or, slice_get_within, option_map, option_map_or, nat_cmp_total, IsGeometry, Sizes, slots, rec_fault, usable, usable_some, VolumeRecord, IsItem, NoCause, Content, Fits, IsMeaning, IsVolume, Meant, records_of, Volume, pieces_few, volume_read, records_are, records_fit, volume_is, meant_by, record_of, same_Some, HaveMeaning, Parts, Reaches, item_of, items_of, most_blocks, pieces_of, text_of, Part, lebs_text, ranked, rising_at, nat_cmp-IsAntisymmetric, AreRecords, Records, length-lebs, AreItsParts, AreVolumesOf, PartsBuildAgain}
+use Rattle.ubi_compose.proofs.Prelude.{◌≡◌, ℕ, suc, ◌+◌, ◌*◌, ◌<◌, ◌≤◌, false, List, [], ◌∷◌, get_or, length, map, refl, ap, sym, ◌∙◌, subst, arith, Contains, Err, None, Ok, Option, Some, IfSome, fold, slice_get, sum_by, sum_by-cons, get_or_from_slice_get, slice_get-map, slice_get-get_or, slice_get_within, option_map, option_map_or, nat_cmp_total, IsGeometry, Sizes, slots, rec_fault, usable, usable_some, VolumeRecord, IsItem, NoCause, Content, Fits, IsMeaning, IsVolume, Meant, records_of, Volume, pieces_few, volume_read, records_are, records_fit, volume_is, meant_by, record_of, same_Some, HaveMeaning, Parts, Reaches, item_of, items_of, most_blocks, pieces_of, text_of, Part, lebs_text, ranked, rising_at, nat_cmp-IsAntisymmetric, AreRecords, Records, length-lebs, AreItsParts, AreVolumesOf, PartsBuildAgain, mul-le}
 use Rattle.std.proofs.Common.{Less}
 use Rattle.std.specs.FinMap as finite
 use Rattle.ubi_scan.proofs.Finite.{place_of}
 use Rattle.ubi_volume.proofs.Gathered.{listed_at as entry_at_place}
+use Rattle.ubi_media.specs.declared.vid.VolKind.TheVariants as kind
 use Rattle.ubi_volume.specs.declared.content.Content.TheVariants as content
 use Rattle.ubi_volume.specs.declared.errors.MeaningCause.TheVariants as cause
 use Rattle.ubi_volume.specs.declared.errors.ReadError.TheVariants as error
@@ -35,6 +36,23 @@ module _ (s : Sizes) (id : ℕ) (v : Volume) (is : IsVolume s id v) (text : List
   pub read_fits : volume_read s v.entry v.content ≡ Ok text
       → (v.entry.marker ≡ false) × (length text ≤ v.entry.reserved * usable s v.entry)
   read_fits = fits_by v.content is.fits
+
+  some_by : 1 ≤ v.entry.reserved → (c : Content) → Fits s v.entry c → volume_read s v.entry c ≡ Ok text
+      → v.entry.kind ≡ kind.Dynamic → 1 ≤ length text
+  some_by one content.Updating fits read dynamic = absurd (cc)
+  some_by one content.Damaged fits read dynamic = absurd (cc)
+  some_by one (content.Static t) fits read dynamic = let static = fits.1 in absurd (cc)
+  some_by one (content.Dynamic lebs) fits read dynamic =
+      let size = usable s v.entry in
+      let same : lebs_text size lebs v.entry.reserved ≡ text = (let e = read in cc) in
+      let long = length-lebs size lebs
+      (λ lnum. sized_by v.entry.reserved size lnum (finite.get lebs lnum) (fits.2 lnum)) v.entry.reserved in
+      let room = mul-le 1 1 v.entry.reserved size one (usable_some s v.entry is.sound) in
+      omega (arith, long, ap length same, room)
+
+  -- a dynamic volume reads some bytes
+  pub read_some : 1 ≤ v.entry.reserved → volume_read s v.entry v.content ≡ Ok text → v.entry.kind ≡ kind.Dynamic → 1 ≤ length text
+  read_some one = some_by one v.content is.fits
 
 abbrev listing : Part → ℕ × VolumeRecord
 listing p = (p.id, p.entry)

@@ -2,3 +2,4 @@ pub mod ListedWhole
 pub mod GeometriesWhole
 pub mod Alike
 pub mod Prelude
+pub mod OneLine

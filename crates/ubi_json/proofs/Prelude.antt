@@ -1,10 +1,18 @@
 -- The names that the proofs of this crate speak of, and where they come from.
-pub use Rattle.std.proofs.Common.{Bool, List, [], ap, append-nil, append_assoc, arith, cond, false, map, nat_lt, refl, string_bytes, subst, sym, take, true, ℕ, ◌++◌, ◌+◌, ◌^◌, ◌∙◌, ◌∷◌, ◌≡◌, ◌≤◌}
+pub use Rattle.std.proofs.Common.{Bool, List, [], ap, append-nil, append_assoc, arith, cond, false, inl, inr, map, nat_lt, refl, string_bytes, subst, suc, sym, take, true, zero, ℕ, ◌%◌, ◌&&◌, ◌++◌, ◌+◌, ◌/◌, ◌<◌, ◌==◌, ◌^◌, ◌∙◌, ◌∷◌, ◌≡◌, ◌≤◌, ◌⊎◌}
+pub use Rattle.std.proofs.lemmas.Bool.{cases_lt, le-leb}
+pub use Rattle.std.proofs.lemmas.List.Folds.{list_all-append}
 pub use Rattle.std.proofs.lemmas.Result.{IfOk-weaker}
-pub use Rattle.std.specs.Prelude.{count_by, decimal}
-pub use Rattle.serde_json.specs.Data.{Data, depth, items_depth, members_depth, number, string, unsigned}
+pub use Rattle.std.specs.Fmt.{digit_glyph, digits_onto}
+unfoldable pub use Rattle.std.specs.Fmt.{digits}
+pub use Rattle.std.specs.List.{list_all}
+pub use Rattle.std.specs.Prelude.{count_by, decimal, nat_le, negsuc, pos}
+pub use Rattle.json.proofs.Printed.Strings.{escape_byte_plain}
+pub use Rattle.json.specs.Print.{escape, quoted}
+unfoldable pub use Rattle.json.specs.Print.{escape_byte}
+pub use Rattle.serde_json.specs.Data.{Data, Items, Members, Num, array, boolean, depth, float, item, items_depth, member, members_depth, negative, no_items, no_members, null, number, object, string, unsigned}
 pub use Rattle.serde_json.specs.View.{items_of, members_view, view}
-pub use Rattle.serde_json.specs.Written.{has_float, items_have_float, members_have_float}
+pub use Rattle.serde_json.specs.Written.{comma_if, compact_text, has_float, items_have_float, items_text, members_have_float, members_text, number_text}
 pub use Rattle.ubi_detect.specs.ErrorTexts.{undetected_text}
 pub use Rattle.ubi_detect.specs.declared.detect.Detected.{Detected}
 pub use Rattle.ubi_detect.specs.declared.detect.Undetected.{Undetected}

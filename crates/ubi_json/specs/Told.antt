@@ -48,9 +48,9 @@ with_fault (Some name) ms = put (codes "fault") (string name) ms
 abbrev pub told_members : Told → Members
 told_members t = with_fault t.fault (with_numbers t.numbers (worded (codes "cause") t.cause (worded (codes "code") t.code no_members)))
 
--- the object
-abbrev pub told_data : Told → Data
-told_data t = object (member (codes "refused") (object (told_members t)) no_members)
+-- the object of a cause with these members
+abbrev pub refused_data : Members → Data
+refused_data ms = object (member (codes "refused") (object ms) no_members)
 
 -- a cause without numbers
 abbrev pub bare : List ℕ → List ℕ → Told
@@ -87,7 +87,11 @@ told_of (cause.Mismatch p) = at_block (codes "V1") (codes "Mismatch") p
 
 -- the object of an image that is refused
 abbrev pub refusal_data : Refusal → Data
-refusal_data c = told_data (told_of c)
+refusal_data c = refused_data (told_members (told_of c))
+
+-- that of one of two images that is refused, with the side on which it stands
+abbrev pub side_data : List ℕ → Refusal → Data
+side_data side c = refused_data (put (codes "side") (string side) (told_members (told_of c)))
 
 -- the cause for which no geometry is told of a file
 abbrev pub undetected_told : Undetected → Told
@@ -107,7 +111,7 @@ undetected_told (unknown.Page size o) =
 
 -- the object of a file of which no geometry is told
 abbrev pub undetected_data : Undetected → Data
-undetected_data c = told_data (undetected_told c)
+undetected_data c = refused_data (told_members (undetected_told c))
 
 -- the object of a file that can't be had: what is printed of that, without the line's end. It is text, as words are: any byte that
 -- were none would be the replacement character

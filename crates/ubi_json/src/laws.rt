@@ -1,9 +1,14 @@
 //! The laws that the JSON stands on, each as the contract of a function that does nothing.
 
-ghost use Rattle.ubi_json.specs.Laws.{TellAlike};
+ghost use Rattle.ubi_json.specs.Laws.{OneLine, TellAlike};
 
 /// The printed line of a cause and its object tell the same: the code, the name, each number under its word, and the name of
 /// the rule that is broken.
 pub fn tell_alike()
     ensures { TellAlike }
+{}
+
+/// The text of any data is one line: no byte of it is below 0x20.
+pub fn one_line()
+    ensures { OneLine }
 {}

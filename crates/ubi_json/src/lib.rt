@@ -10,8 +10,8 @@ mod list;
 mod shown;
 mod told;
 
-pub use check::{check_line, count_of};
+pub use check::{check_line, count_of, same_line};
 pub use geometry::geometry_line;
 pub use list::{ListedVolume, kind_word, list_line};
 pub use shown::shown_text;
-pub use told::{error_line, refusal_line, undetected_line};
+pub use told::{error_line, refusal_line, side_line, undetected_line};

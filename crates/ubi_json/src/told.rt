@@ -4,7 +4,7 @@ ghost use Rattle.std.specs.Prelude.{◌≡◌, ◌-◌, IfOk, OnOk, length, map,
 ghost use Rattle.std.specs.Str.Lossy.{utf8_lossy};
 ghost use Rattle.serde_json.specs.View.{members_view, view};
 ghost use Rattle.ubi_json.specs.Line.{IsLineOf};
-ghost use Rattle.ubi_json.specs.Told.{at_block, at_fault, bare, error_data, refusal_data, told_data, undetected_data, with_fault, with_numbers};
+ghost use Rattle.ubi_json.specs.Told.{at_block, at_fault, bare, error_data, refusal_data, refused_data, side_data, told_members, told_of, undetected_data, undetected_told, with_fault, with_numbers};
 
 use crate::line::line_of;
 use serde_json::{Map, Value, json, put};
@@ -43,15 +43,15 @@ fn put_fault(
     }
 }
 
-/// The object of a cause: its code, its name, numbers under their words, and the name of a rule, if there is one.
-fn told_value(
+/// The members of a cause: its code, its name, numbers under their words, and the name of a rule, if there is one.
+fn told_members(
     alloc: Global,
     code: &str,
     name: &str,
     numbers: &[(&str, u64)],
     fault: Option<&str>,
-) -> Result<Value, AllocError>
-    ensures { IfOk result (λ v. view v ≡ told_data (record { code = code.now; cause = name.now; numbers = map (λ e. (e.0.now, e.1)) numbers.now; fault = option_map (λ f. f.now) fault.entry })) }
+) -> Result<Map<String, Value>, AllocError>
+    ensures { IfOk result (λ m. members_view m.entries ≡ told_members (record { code = code.now; cause = name.now; numbers = map (λ e. (e.0.now, e.1)) numbers.now; fault = option_map (λ f. f.now) fault.entry })) }
 {
     let mut members = Map::new(alloc);
     let code = Value::try_from_str(alloc, code)?;
@@ -60,35 +60,39 @@ fn told_value(
     put(&mut members, alloc, "cause", cause)?;
     put_numbers(alloc, &mut members, numbers)?;
     put_fault(alloc, &mut members, fault)?;
-    let told = Value::Object(members);
-    json!(in alloc; {"refused": told})
+    Ok(members)
 }
 
-/// That of a cause without numbers.
-fn bare(alloc: Global, code: &str, name: &str) -> Result<Value, AllocError>
-    ensures { IfOk result (λ v. view v ≡ told_data (bare code.now name.now)) }
+/// Those of a cause without numbers.
+fn bare(alloc: Global, code: &str, name: &str) -> Result<Map<String, Value>, AllocError>
+    ensures { IfOk result (λ m. members_view m.entries ≡ told_members (bare code.now name.now)) }
 {
-    told_value(alloc, code, name, &[], None)
+    told_members(alloc, code, name, &[], None)
 }
 
-/// That of one that names an eraseblock.
-fn at_block(alloc: Global, code: &str, name: &str, block: u32) -> Result<Value, AllocError>
-    ensures { IfOk result (λ v. view v ≡ told_data (at_block code.now name.now block)) }
+/// Those of one that names an eraseblock.
+fn at_block(
+    alloc: Global,
+    code: &str,
+    name: &str,
+    block: u32,
+) -> Result<Map<String, Value>, AllocError>
+    ensures { IfOk result (λ m. members_view m.entries ≡ told_members (at_block code.now name.now block)) }
 {
-    told_value(alloc, code, name, &[("block", u64::from(block))], None)
+    told_members(alloc, code, name, &[("block", u64::from(block))], None)
 }
 
-/// That of one that names an eraseblock and the rule that it breaks.
+/// Those of one that names an eraseblock and the rule that it breaks.
 fn at_fault(
     alloc: Global,
     code: &str,
     name: &str,
     block: u32,
     fault: &str,
-) -> Result<Value, AllocError>
-    ensures { IfOk result (λ v. view v ≡ told_data (at_fault code.now name.now block fault.now)) }
+) -> Result<Map<String, Value>, AllocError>
+    ensures { IfOk result (λ m. members_view m.entries ≡ told_members (at_fault code.now name.now block fault.now)) }
 {
-    told_value(
+    told_members(
         alloc,
         code,
         name,
@@ -97,9 +101,9 @@ fn at_fault(
     )
 }
 
-/// The object of the cause for which an image is refused.
-fn refusal_value(alloc: Global, cause: Refusal) -> Result<Value, AllocError>
-    ensures { IfOk result (λ v. view v ≡ refusal_data cause) }
+/// The members of the cause for which an image is refused.
+fn refusal_members(alloc: Global, cause: Refusal) -> Result<Map<String, Value>, AllocError>
+    ensures { IfOk result (λ m. members_view m.entries ≡ told_members (told_of cause)) }
 {
     match cause {
         Refusal::Length => bare(alloc, "S1", "Length"),
@@ -109,18 +113,18 @@ fn refusal_value(alloc: Global, cause: Refusal) -> Result<Value, AllocError>
         Refusal::Vid(p, fault) => at_fault(alloc, "S5", "Vid", p, fault.name()),
         Refusal::Incompatible(p, volume) => {
             let numbers = [("block", u64::from(p)), ("volume", u64::from(volume))];
-            told_value(alloc, "S6", "Incompatible", &numbers, None)
+            told_members(alloc, "S6", "Incompatible", &numbers, None)
         }
         Refusal::Layout(p) => at_block(alloc, "S7", "Layout", p),
         Refusal::SameSqnum(p, earlier) => {
             let numbers = [("block", u64::from(p)), ("earlier", u64::from(earlier))];
-            told_value(alloc, "S8", "SameSqnum", &numbers, None)
+            told_members(alloc, "S8", "SameSqnum", &numbers, None)
         }
         Refusal::NoTable => bare(alloc, "T1", "NoTable"),
         Refusal::BothCorrupt => bare(alloc, "T2", "BothCorrupt"),
         Refusal::Record(p, slot, fault) => {
             let numbers = [("block", u64::from(p)), ("slot", u64::from(slot))];
-            told_value(alloc, "T3", "Record", &numbers, Some(fault.name()))
+            told_members(alloc, "T3", "Record", &numbers, Some(fault.name()))
         }
         Refusal::SameName(p, slot, next) => {
             let numbers = [
@@ -128,11 +132,49 @@ fn refusal_value(alloc: Global, cause: Refusal) -> Result<Value, AllocError>
                 ("slot", u64::from(slot)),
                 ("next_slot", u64::from(next)),
             ];
-            told_value(alloc, "T4", "SameName", &numbers, None)
+            told_members(alloc, "T4", "SameName", &numbers, None)
         }
         Refusal::NoSpace => bare(alloc, "T5", "NoSpace"),
         Refusal::Mismatch(p) => at_block(alloc, "V1", "Mismatch", p),
     }
+}
+
+/// The object of a cause with these members.
+fn refused(alloc: Global, members: Map<String, Value>) -> Result<Value, AllocError>
+    ensures { IfOk result (λ v. view v ≡ refused_data (members_view members.entries)) }
+{
+    let told = Value::Object(members);
+    json!(in alloc; {"refused": told})
+}
+
+/// The object of the cause for which an image is refused.
+fn refusal_value(alloc: Global, cause: Refusal) -> Result<Value, AllocError>
+    ensures { IfOk result (λ v. view v ≡ refusal_data cause) }
+{
+    let members = refusal_members(alloc, cause)?;
+    refused(alloc, members)
+}
+
+/// The object of the cause for which one of two images is refused, with the side on which it stands.
+fn side_value(alloc: Global, side: &str, cause: Refusal) -> Result<Value, AllocError>
+    ensures { IfOk result (λ v. view v ≡ side_data side.now cause) }
+{
+    let mut members = refusal_members(alloc, cause)?;
+    let word = Value::try_from_str(alloc, side)?;
+    put(&mut members, alloc, "side", word)?;
+    refused(alloc, members)
+}
+
+/// The line of the cause for which one of two images is refused, as JSON, with the side on which it stands.
+///
+/// # Errors
+///
+/// Memory ran out.
+pub fn side_line(alloc: Global, side: &str, cause: Refusal) -> Result<Vec<u8>, AllocError>
+    ensures { IfOk result (λ line. IsLineOf (side_data side.now cause) line.items) }
+{
+    let value = side_value(alloc, side, cause)?;
+    line_of(alloc, &value)
 }
 
 /// The line of the cause for which an image is refused, as JSON.
@@ -147,15 +189,15 @@ pub fn refusal_line(alloc: Global, cause: Refusal) -> Result<Vec<u8>, AllocError
     line_of(alloc, &value)
 }
 
-/// The object of the cause for which no geometry is told of a file.
-fn undetected_value(alloc: Global, cause: Undetected) -> Result<Value, AllocError>
-    ensures { IfOk result (λ v. view v ≡ undetected_data cause) }
+/// The members of the cause for which no geometry is told of a file.
+fn undetected_members(alloc: Global, cause: Undetected) -> Result<Map<String, Value>, AllocError>
+    ensures { IfOk result (λ m. members_view m.entries ≡ told_members (undetected_told cause)) }
 {
     match cause {
         Undetected::NoHeader => bare(alloc, "F1", "NoHeader"),
         Undetected::NoSize => bare(alloc, "F2", "NoSize"),
         Undetected::Length(size, rest) => {
-            told_value(
+            told_members(
                 alloc,
                 "F3",
                 "Length",
@@ -164,7 +206,7 @@ fn undetected_value(alloc: Global, cause: Undetected) -> Result<Value, AllocErro
             )
         }
         Undetected::OutOfBand(size) => {
-            told_value(alloc, "F5", "OutOfBand", &[("peb", size)], None)
+            told_members(alloc, "F5", "OutOfBand", &[("peb", size)], None)
         }
         Undetected::Page(
             size,
@@ -178,9 +220,17 @@ fn undetected_value(alloc: Global, cause: Undetected) -> Result<Value, AllocErro
                 ("vid", u64::from(vid_offset)),
                 ("data", u64::from(data_offset)),
             ];
-            told_value(alloc, "F6", "Page", &numbers, None)
+            told_members(alloc, "F6", "Page", &numbers, None)
         }
     }
+}
+
+/// The object of the cause for which no geometry is told of a file.
+fn undetected_value(alloc: Global, cause: Undetected) -> Result<Value, AllocError>
+    ensures { IfOk result (λ v. view v ≡ undetected_data cause) }
+{
+    let members = undetected_members(alloc, cause)?;
+    refused(alloc, members)
 }
 
 /// The line of the cause for which no geometry is told of a file, as JSON.

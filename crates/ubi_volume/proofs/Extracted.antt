@@ -218,11 +218,6 @@ read_with e = Ok e
 pub same_Ok : (a b : Extent) → read_with a ≡ read_with b → a ≡ b
 same_Ok a b e = cc
 
--- the extent of a volume with a record and a case
-pub extent_at : (s : Sizes) (p : Placed) (id : ℕ) (r : VolumeRecord) (c : PlaceContent) → p.records.sizes ≡ s
-    → finite.get p.records.of id ≡ Some r → finite.get p.contents id ≡ Some c → extent_in p id ≡ extent_of s r c
-extent_at s p id r c sizes recorded listed = rw (recorded, listed) (ap (λ z. extent_of z r c) sizes)
-
 -- what the volume reads, by its extent
 module _ (s : Sizes) (p : Placed) (id : ℕ) (e : Extent) (image text : List ℕ) (w : read_text s p id image text) where
   reads_at : (r : VolumeRecord) → finite.get p.records.of id ≡ Some r → (c : PlaceContent)

@@ -1,5 +1,4 @@
-use Rattle.ubi_change.proofs.Prelude.{subst, Source, states_avoiding, AreTaken}
-use Rattle.ubi_volume.proofs.OfSurvey.{survey_narrowed}
+use Rattle.ubi_change.proofs.Prelude.{subst, Source, states_avoiding, AreTaken, survey_narrowed}
 use Rattle.ubi_change.proofs.ground.ground_of.Goals as goal
 
 pub returns-clause-ground : goal.returns-clause-ground

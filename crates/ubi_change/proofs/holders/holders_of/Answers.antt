@@ -1,6 +1,5 @@
-use Rattle.ubi_change.proofs.Prelude.{sym, subst, ◌∙◌, Source, blocks_of, IsSurveyOf, site_at, states_avoiding}
+use Rattle.ubi_change.proofs.Prelude.{sym, subst, ◌∙◌, Source, blocks_of, IsSurveyOf, site_at, states_avoiding, survey_narrowed}
 use Rattle.ubi_change.proofs.Sited.{fits_some, site_there}
-use Rattle.ubi_volume.proofs.OfSurvey.{survey_narrowed}
 use Rattle.ubi_change.proofs.holders.holders_of.Goals as goal
 
 pub returns-then-not-branch-clause-holders : goal.returns-then-not-branch-clause-holders

@@ -1,6 +1,5 @@
-use Rattle.ubi_change.proofs.Prelude.{◌≡◌, ◌+◌, ◌∙◌, length, sym, subst, ap, arith, IfSome, Source, blocks_in, blocks_of, count_blocks, IsSurveyOf, FitsIn, states_avoiding}
+use Rattle.ubi_change.proofs.Prelude.{◌≡◌, ◌+◌, ◌∙◌, length, sym, subst, ap, arith, IfSome, Source, blocks_in, blocks_of, count_blocks, IsSurveyOf, FitsIn, states_avoiding, survey_narrowed}
 use Rattle.ubi_change.proofs.Taken.{AreParted, PartedFit, all_fit, more_fit, parted_all, parted_enough, parted_more}
-use Rattle.ubi_volume.proofs.OfSurvey.{survey_narrowed}
 use Rattle.ubi_change.proofs.taking.first_takeable.Goals as goal
 
 pub takeable_site-requires-clause-survey : goal.takeable_site-requires-clause-survey

@@ -1,5 +1,4 @@
-use Rattle.ubi_commands.proofs.Prelude.{◌∙◌, refl, sym, AreAnswers, row_sized}
-use Rattle.ubi_commands.specs.Build.{unmade}
+use Rattle.ubi_commands.proofs.Prelude.{◌∙◌, refl, sym, AreAnswers, row_sized, unmade}
 use Rattle.ubi_commands.proofs.Planned.{stays_unopened}
 use Rattle.ubi_commands.proofs.build.build_gathered.Goals as goal
 

@@ -1,5 +1,4 @@
-use Rattle.ubi_commands.proofs.Prelude.{◌≡◌, ◌∙◌, ap, refl, sym, IfOk-weaker, keeps_promise, sizes_of, OfFile, no_file, unreadable}
-use Rattle.ubi_commands.proofs.Prelude.{ComparesOf}
+use Rattle.ubi_commands.proofs.Prelude.{◌≡◌, ◌∙◌, ap, refl, sym, IfOk-weaker, keeps_promise, sizes_of, OfFile, no_file, unreadable, ComparesOf}
 use Rattle.ubi_commands.proofs.Ended.{OfFile-sized, Works-weaker, at_places, by_bytes}
 use Rattle.ubi_commands.proofs.Outcomes.{told}
 use Rattle.ubi_commands.proofs.comparison.compare_dumps.Goals as goal

@@ -1,4 +1,4 @@
-use Rattle.ubi_commands.proofs.Prelude.{◌≡◌, ℕ, ◌/◌, List, Some, length, ap, refl, subst, ◌∙◌, image_of, Accepts, crowded, fits, blocks_line, count-composed}
+use Rattle.ubi_commands.proofs.Prelude.{◌≡◌, ℕ, ◌/◌, List, Some, length, ap, refl, subst, ◌∙◌, image_of, Accepts, fits, blocks_line, count-composed, crowded}
 use Rattle.ubi_commands.proofs.compose.compose_meaning.Goals as goal
 
 -- how many eraseblocks bytes have

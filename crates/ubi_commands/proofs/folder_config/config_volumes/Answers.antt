@@ -1,4 +1,4 @@
-use Rattle.ubi_commands.proofs.Prelude.{◌≡◌, ℕ, ◌++◌, ◌∷◌, [], ◌∙◌, List, ap, arith, get_or, subst, sym, take, take_all, rec_fault, extent_in, extent_len, AreRecords, ReadError, Records, all_described, ConfigVolume, described, None}
+use Rattle.ubi_commands.proofs.Prelude.{AreRecords, ConfigVolume, List, None, ReadError, Records, [], all_described, ap, arith, described, extent_in, extent_len, get_or, rec_fault, subst, sym, take, take_all, ℕ, ◌++◌, ◌∙◌, ◌∷◌, ◌≡◌}
 use Rattle.std.proofs.Common.{Result}
 use Rattle.std.specs.Prelude.{All}
 use Rattle.std.specs.FinMap as finite

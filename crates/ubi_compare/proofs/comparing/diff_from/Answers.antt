@@ -1,9 +1,6 @@
-use Rattle.std.proofs.Common.{◌∙◌, subst, sym}
-use Rattle.std.proofs.lemmas.Result.{IfErr-weaker, IfOk-weaker}
-use Rattle.ubi_scan.specs.Source.{Source, blocks_in}
+use Rattle.ubi_compare.proofs.Prelude.{◌∙◌, subst, sym, IfErr-weaker, IfOk-weaker, Source, blocks_in, IsSidesError}
 use Rattle.ubi_compare.proofs.NothingDiffers.{nothing_differs}
 use Rattle.ubi_compare.proofs.Refusals.{sides_refused}
-use Rattle.ubi_compare.specs.inner.Sides.{IsSidesError}
 use Rattle.ubi_compare.proofs.comparing.diff_from.Goals as goal
 
 pub returns-in-Err-survey_from-clause-refused : goal.returns-in-Err-survey_from-clause-refused

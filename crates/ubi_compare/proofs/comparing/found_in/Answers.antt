@@ -1,5 +1,5 @@
+use Rattle.ubi_compare.proofs.Prelude.{differences}
 use Rattle.ubi_compare.proofs.Adding.{all_found}
-use Rattle.ubi_compare.specs.Differences.{differences}
 use Rattle.ubi_compare.proofs.comparing.found_in.Goals as goal
 
 pub returns-clause-told : goal.returns-clause-told

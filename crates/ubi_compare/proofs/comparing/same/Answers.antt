@@ -1,8 +1,4 @@
-use Rattle.ubi_scan.proofs.InMemory.{still}
-use Rattle.ubi_scan.proofs.Narrowed.{source_narrowed}
-use Rattle.ubi_scan.specs.Source.{Narrows, holds, memory, memory_sized}
-use Rattle.ubi_volume.specs.Places.{ArePlacesError}
-use Rattle.ubi_compare.specs.Compared.{IsCompareFault}
+use Rattle.ubi_compare.proofs.Prelude.{still, source_narrowed, Narrows, holds, memory, memory_sized, ArePlacesError, IsCompareFault}
 use Rattle.ubi_scan.specs.declared.errors.StreamError.TheVariants as stream
 use Rattle.ubi_compare.specs.declared.errors.CompareFault.TheVariants as fault
 use Rattle.ubi_compare.proofs.Refusals.{refuses}

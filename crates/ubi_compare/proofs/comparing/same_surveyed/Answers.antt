@@ -1,4 +1,4 @@
-use Rattle.std.proofs.Common.{◌∙◌, sym}
+use Rattle.ubi_compare.proofs.Prelude.{◌∙◌, sym}
 use Rattle.ubi_compare.proofs.Apart.{is_empty, is_none}
 use Rattle.ubi_compare.proofs.NothingDiffers.{nothing_differs}
 use Rattle.ubi_compare.proofs.comparing.same_surveyed.Goals as goal

@@ -1,14 +1,7 @@
-use Rattle.std.proofs.Common.{◌≡◌, ◌+◌, ◌<◌, ◌∙◌, List, [], ◌∷◌, not, ap, refl, sym, subst, arith}
-use Rattle.std.specs.Prelude.{min}
+use Rattle.ubi_compare.proofs.Prelude.{◌≡◌, ◌+◌, ◌<◌, ◌∙◌, List, [], ◌∷◌, not, ap, refl, sym, subst, arith, min, leb_differences, Difference, Found, Ranges, Adds, HaveFound}
 use Rattle.ubi_compare.proofs.Adding.{adds_brief}
 use Rattle.ubi_compare.proofs.ReadApart.{all_told, apart_by, none_found, one_apart, one_same, side_lebs, some_told, texts}
-use Rattle.ubi_compare.specs.Differences.{leb_differences}
-use Rattle.ubi_compare.specs.declared.difference.Difference.{Difference}
 use Rattle.ubi_compare.specs.declared.difference.Difference.TheVariants as difference
-use Rattle.ubi_compare.specs.declared.found.Found.{Found}
-use Rattle.ubi_compare.specs.declared.ranges.Ranges.{Ranges}
-use Rattle.ubi_compare.specs.inner.Found.{Adds}
-use Rattle.ubi_compare.specs.inner.Ranges.{HaveFound}
 use Rattle.ubi_compare.proofs.lebs.compare_lebs.Goals.{then-not-branch+else-found+in_ok-add-2, else-not-branch}
 use Rattle.ubi_compare.proofs.lebs.compare_lebs.Goals as goal
 

@@ -1,8 +1,4 @@
-use Rattle.std.proofs.Common.{◌≡◌}
-use Rattle.ubi_scan.specs.Source.{Narrows}
-use Rattle.ubi_compare.specs.Compared.{WhereBothHeld}
-use Rattle.ubi_compare.specs.inner.Ranges.{HaveFound}
-use Rattle.ubi_compare.specs.inner.Sides.{OfMeanings, OfVolumes}
+use Rattle.ubi_compare.proofs.Prelude.{◌≡◌, Narrows, WhereBothHeld, HaveFound, OfMeanings, OfVolumes}
 use Rattle.ubi_compare.proofs.lebs.compare_lebs.Given as goal
 
 abbrev pub invariant-loop-lnum : goal.invariant-loop-lnum

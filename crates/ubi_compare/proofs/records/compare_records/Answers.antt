@@ -1,4 +1,4 @@
-use Rattle.std.proofs.lemmas.Result.{on_ok_weaker}
+use Rattle.ubi_compare.proofs.Prelude.{on_ok_weaker}
 use Rattle.ubi_compare.proofs.Fields.{adds_records}
 use Rattle.ubi_compare.proofs.records.compare_records.Goals as goal
 

@@ -1,6 +1,4 @@
-use Rattle.std.proofs.Common.{◌≡◌, ◌∙◌, length, ap, sym}
-use Rattle.std.proofs.lemmas.Bool.{false≢true}
-use Rattle.ubi_volume.proofs.Blanks.{leb_long}
+use Rattle.ubi_compare.proofs.Prelude.{◌≡◌, ◌∙◌, length, ap, sym, false≢true, leb_long}
 use Rattle.ubi_compare.proofs.shares.same_share.Goals as goal
 
 pub returns-then-here-there-clause-answer : goal.returns-then-here-there-clause-answer

@@ -1,12 +1,7 @@
-use Rattle.std.proofs.Common.{◌∙◌, List, ◌++◌, sym, subst}
-use Rattle.std.proofs.lemmas.Result.{on_ok_weaker}
-use Rattle.ubi_volume.proofs.OfSurvey.{entry_of}
+use Rattle.ubi_compare.proofs.Prelude.{◌∙◌, List, ◌++◌, sym, subst, on_ok_weaker, entry_of, condition_of, leb_differences, length_differences, same_condition, unless, Difference, Adds}
 use Rattle.ubi_compare.proofs.Adding.{adds_more, adds_none, adds_settled}
 use Rattle.ubi_compare.proofs.Differing.{both_cases, left_unread, other_sizes, right_unread}
-use Rattle.ubi_compare.specs.Differences.{condition_of, leb_differences, length_differences, same_condition, unless}
-use Rattle.ubi_compare.specs.declared.difference.Difference.{Difference}
 use Rattle.ubi_compare.specs.declared.difference.Difference.TheVariants as difference
-use Rattle.ubi_compare.specs.inner.Found.{Adds}
 use Rattle.ubi_compare.proofs.volumes.compare_contents.Goals as goal
 
 pub returns-then-is_settled-clause-told : goal.returns-then-is_settled-clause-told

@@ -1,16 +1,8 @@
-use Rattle.std.proofs.Common.{◌≡◌, ◌∙◌, ℕ, List, ◌∷◌, [], ap, sym, subst, Bor}
-use Rattle.std.proofs.lemmas.Result.{on_ok_weaker}
+use Rattle.ubi_compare.proofs.Prelude.{◌≡◌, ◌∙◌, ℕ, List, ◌∷◌, [], ap, sym, subst, Bor, on_ok_weaker, option_copied, None, Option, Some, VolumeRecord, Records, Difference, Side, Adds}
 use Rattle.std.specs.FinMap as finite
-use Rattle.std.specs.Option.{option_copied}
-use Rattle.std.specs.Prelude.{None, Option, Some}
-use Rattle.ubi_media.specs.declared.record.VolumeRecord.{VolumeRecord}
-use Rattle.ubi_table.specs.Records.{Records}
 use Rattle.ubi_compare.proofs.Adding.{adds_none}
 use Rattle.ubi_compare.proofs.Differing.{in_both, left_only, neither, right_only}
-use Rattle.ubi_compare.specs.declared.difference.Difference.{Difference}
 use Rattle.ubi_compare.specs.declared.difference.Difference.TheVariants as difference
-use Rattle.ubi_compare.specs.declared.difference.Side.{Side}
-use Rattle.ubi_compare.specs.inner.Found.{Adds}
 use Rattle.ubi_compare.proofs.volumes.compare_slot.Goals.{in-None-Some, in-Some-None}
 use Rattle.ubi_compare.proofs.volumes.compare_slot.Goals as goal
 

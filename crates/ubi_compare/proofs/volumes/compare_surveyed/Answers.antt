@@ -1,8 +1,4 @@
-use Rattle.std.proofs.Common.{◌≡◌, ◌∙◌, refl, sym, subst, arith}
-use Rattle.ubi_media.specs.Geometry.{slots}
-use Rattle.ubi_scan.specs.Source.{Source}
-use Rattle.ubi_volume.proofs.OfSurvey.{survey_narrowed}
-use Rattle.ubi_volume.specs.Survey.{IsSurveyOf}
+use Rattle.ubi_compare.proofs.Prelude.{◌≡◌, ◌∙◌, refl, sym, subst, arith, slots, Source, survey_narrowed, IsSurveyOf}
 use Rattle.ubi_compare.proofs.Differing.{all_slots, next_slot, no_slots}
 use Rattle.ubi_compare.proofs.volumes.compare_surveyed.Goals as goal
 

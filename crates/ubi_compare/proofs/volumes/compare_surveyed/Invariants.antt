@@ -1,8 +1,4 @@
-use Rattle.std.proofs.Common.{◌≡◌}
-use Rattle.ubi_scan.specs.Source.{Narrows}
-use Rattle.ubi_compare.specs.Compared.{WhereBothHeld}
-use Rattle.ubi_compare.specs.inner.Found.{Adds}
-use Rattle.ubi_compare.specs.inner.Sides.{OfMeanings, first_differences}
+use Rattle.ubi_compare.proofs.Prelude.{◌≡◌, Narrows, WhereBothHeld, Adds, OfMeanings, first_differences}
 use Rattle.ubi_compare.proofs.volumes.compare_surveyed.Given as goal
 
 abbrev pub invariant-loop-id : goal.invariant-loop-id

@@ -1,11 +1,6 @@
-use Rattle.std.proofs.Common.{sym, subst}
-use Rattle.std.proofs.lemmas.Result.{on_ok_weaker}
-use Rattle.ubi_scan.specs.Source.{Source}
-use Rattle.ubi_volume.proofs.OfSurvey.{survey_narrowed}
-use Rattle.ubi_volume.specs.Survey.{IsSurveyOf}
+use Rattle.ubi_compare.proofs.Prelude.{sym, subst, on_ok_weaker, Source, survey_narrowed, IsSurveyOf, content_differences}
 use Rattle.ubi_compare.proofs.Adding.{adds_settled}
 use Rattle.ubi_compare.proofs.Differing.{both_told}
-use Rattle.ubi_compare.specs.Differences.{content_differences}
 use Rattle.ubi_compare.proofs.volumes.compare_volume.Goals as goal
 
 pub returns-then-is_settled-clause-told : goal.returns-then-is_settled-clause-told

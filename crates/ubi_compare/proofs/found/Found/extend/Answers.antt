@@ -1,6 +1,5 @@
-use Rattle.std.proofs.Common.{refl}
+use Rattle.ubi_compare.proofs.Prelude.{refl, Found}
 use Rattle.ubi_compare.proofs.Adding.{adds_list}
-use Rattle.ubi_compare.specs.declared.found.Found.{Found}
 use Rattle.ubi_compare.proofs.found.Found.extend.Goals as goal
 
 pub returns : goal.returns

@@ -1,7 +1,7 @@
-use Rattle.std.proofs.Common.{refl, sym, ◌∙◌, Some}
+use Rattle.ubi_compare.proofs.Prelude.{refl, sym, ◌∙◌, Ranges}
+use Rattle.std.proofs.Common.{Some}
 use Rattle.ubi_compare.proofs.Ranged.{begins_apart, begins_first, joined}
 use Rattle.ubi_compare.proofs.ranges.Ranges.add.Goals.{in-Some+else-follows, in_default}
-use Rattle.ubi_compare.specs.declared.ranges.Ranges.{Ranges}
 use Rattle.ubi_compare.proofs.ranges.Ranges.add.Goals as goal
 
 pub returns-then-follows : goal.returns-then-follows
