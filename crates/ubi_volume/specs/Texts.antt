@@ -31,6 +31,10 @@ pub record AreRead (s : Sizes) (bs : List (List ℕ)) (vol used n : ℕ) (text :
   pub pieces : (lnum : ℕ) → lnum < n → IsPiece s bs used (slice_index ps lnum)
   pub joined : text ≡ flat_map (piece s bs) ps
 
+-- and its size
+abbrev pub SizeIsRead : Sizes → List (List ℕ) → ℕ → ℕ → ℕ → ℕ → Type 0
+SizeIsRead s bs vol used n size = (text : List ℕ) × AreRead s bs vol used n text × (size ≡ length text)
+
 -- in how many LEBs a text lies that is whole if all its pieces are there; or none, where it isn't whole
 abbrev pub TextLebs : Sizes → List (List ℕ) → ℕ → VolumeRecord → Option ℕ → Type 0
 TextLebs s bs vol r None = (text : List ℕ) → StaticReads s bs vol r text → ⊥

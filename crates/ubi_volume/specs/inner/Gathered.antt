@@ -1,16 +1,13 @@
 -- What is gathered of a volume, piece by piece.
-use Rattle.std.specs.Prelude.{◌≡◌, ◌≢◌, ℕ, ◌<◌, ◌⊎◌, List, Option, All, IfSome, MatchOption, length, map, flat_map, slice_index}
+use Rattle.std.specs.Prelude.{◌≡◌, ◌≢◌, ℕ, ◌<◌, List, All, IfSome, length, map}
 use Rattle.std.specs.FinMap.{FinMap, get, entries}
-use Rattle.std.specs.Option.{option_map_or}
 use Rattle.std.specs.Ordering.{nat_cmp}
 use Rattle.ubi_media.specs.Fields.{blank}
 use Rattle.ubi_media.specs.Geometry.{Sizes}
 use Rattle.ubi_media.specs.Record.{usable}
 use Rattle.ubi_media.specs.declared.record.VolumeRecord.{VolumeRecord}
-use Rattle.ubi_scan.specs.Image.{block}
-use Rattle.ubi_scan.specs.Members.{NoMember, Wins, member}
 use Rattle.ubi_scan.specs.Source.{Agreed, WhereHeld, blocks_of}
-use Rattle.ubi_volume.specs.Means.{IsPiece, LebReads, VolumeReads, piece}
+use Rattle.ubi_volume.specs.Means.{LebReads, VolumeReads}
 use Rattle.ubi_volume.specs.Meant.{Fits, KeepsNoBlank}
 use Rattle.ubi_volume.specs.Reading.{leb_text}
 pub use Rattle.ubi_volume.specs.Texts.{AreRead, PieceIs, UsedIs, used_in}
