@@ -1,16 +1,9 @@
 -- Two texts that are read side by side, piece by piece.
-use Rattle.ubi_compare.proofs.Prelude.{◌≡◌, ◌∙◌, ◌↔◌, ◌+◌, ◌<◌, ℕ, Bool, true, false, false≢true, IsTrue, List, [], ◌∷◌, ap, refl, sym, subst, arith, length, min, None, Some, not, Sizes, rec_fault, usable, VolumeRecord, image_of, entry_of, pieces, case_of, IsSurvey, Seen, Content, Volume, Extent, PlaceContent, leb_differences, Ranges, HaveFound, told_with, read_apart, leb_read}
+use Rattle.ubi_compare.proofs.Prelude.{◌≡◌, ◌∙◌, ◌↔◌, ◌+◌, ◌<◌, ℕ, Bool, true, false, false≢true, IsTrue, List, [], ◌∷◌, ap, refl, sym, subst, arith, length, min, None, Some, not, Sizes, rec_fault, usable, VolumeRecord, image_of, entry_of, pieces, case_of, IsSurvey, Seen, Content, Volume, Extent, leb_differences, Ranges, HaveFound, told_with, read_apart, leb_read, blocks_of, size_more, size_none, piece_text, PieceIs, Pieces, Texts, ArePieces, AreTexts, IsText}
 use Rattle.std.specs.FinMap as finite
-use Rattle.ubi_scan.specs.Source.{blocks_of}
-use Rattle.ubi_volume.proofs.CaseSizes.{size_more, size_none}
-use Rattle.ubi_volume.proofs.OfTexts.{piece_text}
-use Rattle.ubi_volume.specs.Texts.{PieceIs}
 use Rattle.ubi_volume.specs.declared.content.Content.TheVariants as content
 use Rattle.ubi_volume.specs.declared.places.PlaceContent.TheVariants as place
 use Rattle.ubi_compare.proofs.ReadApart.{AreLebs, all_told, apart_by, are_lebs, none_found, one_apart, one_same, texts}
-use Rattle.ubi_compare.specs.declared.texts.Pieces.{Pieces}
-use Rattle.ubi_compare.specs.declared.texts.Texts.{Texts}
-use Rattle.ubi_compare.specs.inner.Texts.{ArePieces, AreTexts, IsText}
 
 -- a volume of this case reads a text
 pub text_of : (s : Sizes) (used n : ℕ) (v : Volume) (c : Content) → v.content ≡ c → place.Static used n ≡ case_of s v.entry c

@@ -1,5 +1,4 @@
-use Rattle.ubi_compare.proofs.Prelude.{◌≡◌, ◌∙◌, ◌++◌, List, refl, sym, subst, Source, survey_narrowed, IsSurveyOf, condition_of, leb_differences, length_differences, same_condition, unless, Difference, Adds}
-use Rattle.ubi_volume.proofs.OfTexts.{text_case}
+use Rattle.ubi_compare.proofs.Prelude.{◌∙◌, ◌++◌, List, refl, sym, subst, Source, survey_narrowed, IsSurveyOf, condition_of, leb_differences, length_differences, same_condition, unless, Difference, Adds, text_case}
 use Rattle.ubi_volume.specs.declared.places.PlaceContent.TheVariants as place
 use Rattle.ubi_compare.proofs.Adding.{adds_more, adds_none}
 use Rattle.ubi_compare.proofs.Differing.{both_cases}

@@ -1,6 +1,4 @@
-use Rattle.ubi_compare.proofs.Prelude.{◌≡◌, ◌≤◌, length, sym, take, arith}
-use Rattle.std.proofs.Common.{length-take-le}
-use Rattle.ubi_media.specs.Geometry.{leb_size}
+use Rattle.ubi_compare.proofs.Prelude.{◌≤◌, length, sym, take, arith, length-take-le, leb_size}
 use Rattle.ubi_compare.proofs.texts.pieces_beside.Goals as goal
 
 pub returns-clause-read : goal.returns-clause-read

@@ -1,6 +1,5 @@
-use Rattle.ubi_compare.proofs.Prelude.{◌≡◌, ◌∙◌, ℕ, refl, sym, subst, arith, Source, survey_narrowed, IsSurveyOf, Ranges}
+use Rattle.ubi_compare.proofs.Prelude.{◌≡◌, ◌∙◌, ℕ, refl, sym, subst, arith, Source, survey_narrowed, IsSurveyOf, Ranges, AreTexts}
 use Rattle.ubi_compare.proofs.TextsRead.{Follows, follows_apart, follows_same, more_texts, no_texts}
-use Rattle.ubi_compare.specs.inner.Texts.{AreTexts}
 use Rattle.ubi_compare.proofs.texts.texts_beside.Goals.{then-not-pieces+in_ok-add-in-Some, else-not-pieces}
 use Rattle.ubi_compare.proofs.texts.texts_beside.Goals as goal
 

@@ -1,5 +1,4 @@
-use Rattle.ubi_compare.proofs.Prelude.{◌≡◌, ◌*◌, ◌≤◌, Narrows, WhereBothHeld}
-use Rattle.ubi_compare.specs.inner.Texts.{AreTexts}
+use Rattle.ubi_compare.proofs.Prelude.{◌≡◌, ◌*◌, ◌≤◌, Narrows, WhereBothHeld, AreTexts}
 use Rattle.ubi_compare.proofs.texts.texts_beside.Given as goal
 
 abbrev pub invariant-loop-lnum : goal.invariant-loop-lnum

@@ -26,6 +26,8 @@ returns-clause-lebs g c = λ bytes holds.
     let bs = blocks_of s bytes in
     let scan = c.requires.scan.held bytes (c.in_ok-used.ensures.narrows bytes holds) in
     let none = next_none c.args.scan.now c.args.id c.in_ok-used.used c.next_winner.result
-    (sym c.is_some.ensures ∙ c.if-is_some.false) c.next_winner.ensures in
-    (c.in_ok-used.ensures.used bytes holds, c.if-used-entry.false,
-    λ lnum from. none_found s bs c.args.scan.now scan (c.args.id, lnum) (none lnum from))
+    (sym c.is_some.ensures ∙ c.if-is_some.false) c.next_winner.ensures in (
+      c.in_ok-used.ensures.used bytes holds,
+      c.if-used-entry.false,
+      λ lnum from. none_found s bs c.args.scan.now scan (c.args.id, lnum) (none lnum from),
+    )
