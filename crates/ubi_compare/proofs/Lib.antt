@@ -8,4 +8,5 @@ pub mod Ranged
 pub mod ReadApart
 pub mod Refusals
 pub mod Tables
+pub mod TextsRead
 pub mod Prelude

@@ -1,5 +1,5 @@
 -- The names that the proofs of this crate speak of, and where they come from.
-pub use Rattle.std.proofs.Common.{Bool, Bor, Decides, List, [], ap, append-nil, append_assoc, ap₂, arith, cond, false, inl, inr, length, map, not, refl, subst, suc, sym, take, true, zero, ℕ, ◌%◌, ◌&&◌, ◌*◌, ◌++◌, ◌+◌, ◌-◌, ◌<◌, ◌==◌, ◌∙◌, ◌∷◌, ◌≡◌, ◌≢◌, ◌≤◌}
+pub use Rattle.std.proofs.Common.{Bool, Bor, Decides, List, [], ap, append-nil, append_assoc, ap₂, arith, cond, false, inl, inr, length, length-take-le, map, not, refl, subst, suc, sym, take, true, zero, ℕ, ◌%◌, ◌&&◌, ◌*◌, ◌++◌, ◌+◌, ◌-◌, ◌<◌, ◌==◌, ◌∙◌, ◌∷◌, ◌≡◌, ◌≢◌, ◌≤◌}
 pub use Rattle.std.proofs.lemmas.Bool.{cases_lt, false≢true, le-ltb, lt-ltb}
 pub use Rattle.std.proofs.lemmas.Bool.Decides.{Decides-and, Decides-like}
 pub use Rattle.std.proofs.lemmas.Grind.{flat_map-append}
@@ -24,14 +24,16 @@ pub use Rattle.ubi_media.specs.declared.vid.VolKind.{VolKind}
 pub use Rattle.ubi_scan.proofs.InMemory.{still}
 pub use Rattle.ubi_scan.proofs.Narrowed.{source_narrowed}
 pub use Rattle.ubi_scan.specs.Image.{IsLengthFault, IsWholeSize, image_of}
-pub use Rattle.ubi_scan.specs.Source.{Agreed, IsSource, Narrows, Source, WhereHeld, blocks_in, holds, memory, memory_sized}
+pub use Rattle.ubi_scan.specs.Source.{Agreed, IsSource, Narrows, Source, WhereHeld, blocks_in, blocks_of, holds, memory, memory_sized}
 pub use Rattle.ubi_scan.specs.Stream.{IsReadFault}
 pub use Rattle.ubi_scan.specs.declared.errors.StreamError.{StreamError}
 pub use Rattle.ubi_table.specs.Records.{Records}
 pub use Rattle.ubi_volume.proofs.Blanks.{leb_long}
+pub use Rattle.ubi_volume.proofs.CaseSizes.{size_more, size_none}
 pub use Rattle.ubi_volume.proofs.Equal.{bytes_Decides, record_Decides}
 pub use Rattle.ubi_volume.proofs.Extracted.{leb_is, piece_is, same_Ok}
 pub use Rattle.ubi_volume.proofs.OfSurvey.{entry_of, has_entry, no_volume, placed_of, places_of, survey_narrowed}
+pub use Rattle.ubi_volume.proofs.OfTexts.{piece_text, text_case}
 pub use Rattle.ubi_volume.proofs.One.{kept_alike, outside}
 pub use Rattle.ubi_volume.proofs.Pieces.{pieces_few, share_more, shares_all}
 pub use Rattle.ubi_volume.proofs.VolumeAt.{content_has, reads_of}
@@ -41,6 +43,7 @@ pub use Rattle.ubi_volume.specs.Meant.{Fits, IsMeaning, IsVolume, KeepsNoBlank, 
 pub use Rattle.ubi_volume.specs.Places.{ArePlacesError, case_of}
 pub use Rattle.ubi_volume.specs.Reading.{leb_read, leb_text}
 pub use Rattle.ubi_volume.specs.Survey.{IsSurvey, IsSurveyOf, Seen}
+pub use Rattle.ubi_volume.specs.Texts.{PieceIs, TextLebs}
 pub use Rattle.ubi_volume.specs.declared.content.Content.{Content}
 pub use Rattle.ubi_volume.specs.declared.content.Volume.{Volume}
 pub use Rattle.ubi_volume.specs.declared.errors.ReadError.{ReadError}
@@ -56,6 +59,9 @@ pub use Rattle.ubi_compare.specs.declared.errors.CompareFault.{CompareFault}
 pub use Rattle.ubi_compare.specs.declared.found.Found.{Found}
 pub use Rattle.ubi_compare.specs.declared.ranges.Ranges.{Ranges}
 pub use Rattle.ubi_compare.specs.declared.sides.OneSide.{OneSide}
+pub use Rattle.ubi_compare.specs.declared.texts.Pieces.{Pieces}
+pub use Rattle.ubi_compare.specs.declared.texts.Texts.{Texts}
 pub use Rattle.ubi_compare.specs.inner.Found.{Adds, Tells}
 pub use Rattle.ubi_compare.specs.inner.Ranges.{HaveFound, first_apart, told_of, told_with}
 pub use Rattle.ubi_compare.specs.inner.Sides.{IsSideOf, IsSidesError, OfMeanings, OfVolumes, case_condition, case_lengths, first_differences}
+pub use Rattle.ubi_compare.specs.inner.Texts.{ArePieces, AreTexts, IsText}

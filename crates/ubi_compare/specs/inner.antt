@@ -2,3 +2,4 @@
 pub mod Found
 pub mod Ranges
 pub mod Sides
+pub mod Texts

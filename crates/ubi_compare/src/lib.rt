@@ -34,6 +34,7 @@ mod ranges;
 mod records;
 mod shares;
 mod sides;
+mod texts;
 mod volumes;
 
 pub use comparing::{diff_from, same, same_from};

@@ -21,7 +21,8 @@ pub struct Share {
     pub len: usize,
 }
 
-fn are_equal(one: &[u8], other: &[u8]) -> bool
+/// Whether two texts are the same.
+pub fn are_equal(one: &[u8], other: &[u8]) -> bool
     ensures { IsTrue result ↔ (one.now ≡ other.now) }
 {
     one == other

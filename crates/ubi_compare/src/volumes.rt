@@ -1,8 +1,9 @@
 //! In what the volumes of two images differ.
 
-ghost use Rattle.std.specs.Prelude.{◌≡◌, ◌*◌, IfErr, None, OnOk, Some, length};
+ghost use Rattle.std.specs.Prelude.{◌≡◌, ◌*◌, IfErr, IsTrue, None, OnOk, Some, false, length};
 ghost use Rattle.std.specs.FinMap as finite;
 ghost use Rattle.ubi_media.specs.Record.{rec_fault};
+ghost use Rattle.ubi_media.specs.declared.vid.VolKind.TheVariants.{Static};
 ghost use Rattle.ubi_scan.specs.Source.{Narrows, blocks_in};
 ghost use Rattle.ubi_volume.specs.Survey.{IsSurveyOf};
 ghost use Rattle.ubi_compare.specs.Compared.{NamesSide, WhereBothHeld, after_left, after_right};
@@ -16,6 +17,7 @@ use crate::found::Found;
 use crate::lebs::compare_lebs;
 use crate::records::compare_records;
 use crate::sides::{OneSide, compare_lengths, condition_of, is_same_condition};
+use crate::texts::{OneText, compare_texts, is_text};
 use std::alloc::Global;
 use ubi_media::{Geometry, VolumeRecord};
 use ubi_scan::BlockSource;
@@ -78,6 +80,125 @@ fn compare_contents<L: BlockSource, R: BlockSource>(
     )
 }
 
+/// Adds in what a volume reads differently on the two sides. The cases are told first, so that a text is read twice.
+///
+/// # Errors
+///
+/// A read of a side failed, or memory ran out.
+fn compare_cases<L: BlockSource, R: BlockSource>(
+    alloc: Global,
+    geometry: &Geometry,
+    left: &mut L,
+    right: &mut R,
+    here: &Surveyed,
+    there: &Surveyed,
+    id: u32,
+    entry: &VolumeRecord,
+    other: &VolumeRecord,
+    buffers: &mut [u8],
+    found: &mut Found,
+) -> Result<(), CompareFault>
+    requires here { IsSurveyOf geometry.now (L.known left.old) (L.agrees left.old) here.now }
+    requires there { IsSurveyOf geometry.now (R.known right.old) (R.agrees right.old) there.now }
+    requires entry { finite.get here.now.records.of id ≡ Some entry.now }
+    requires other { finite.get there.now.records.of id ≡ Some other.now }
+    requires entry_sound { rec_fault geometry.now entry.now ≡ None }
+    requires other_sound { rec_fault geometry.now other.now ≡ None }
+    requires room { length buffers.old ≡ 2 * geometry.now.peb_size }
+    ensures left { L.known left.new ≡ after_left (L.known left.old) result }
+    ensures right { R.known right.new ≡ after_right (R.known right.old) result }
+    ensures left_narrows { Narrows (L.agrees left.old) (L.agrees left.new) }
+    ensures right_narrows { Narrows (R.agrees right.old) (R.agrees right.new) }
+    ensures told { OnOk result (WhereBothHeld (L.agrees left.new) (R.agrees right.new) (λ x y. OfMeanings geometry.now here.now there.now x y (λ m n. OfVolumes id m n (λ v w. Adds found.old found.new (content_differences geometry.now id v w))))) }
+    ensures failed { IfErr result (IsSidesError (blocks_in geometry.now (L.known left.old)) (blocks_in geometry.now (R.known right.old))) }
+    ensures named { IfErr result (NamesSide geometry.now (L.failed_at left.new) (R.failed_at right.new)) }
+{
+    let (buffer, _) = buffers.split_at_mut(geometry.peb_size() as usize);
+    let case = match case_from(geometry, left, here, id, entry, buffer) {
+        Ok(case) => case,
+        Err(error) => return Err(CompareFault::Left(error)),
+    };
+    let one = OneSide {
+        survey: here,
+        entry,
+        case,
+    };
+    let case = match case_from(geometry, right, there, id, other, buffer) {
+        Ok(case) => case,
+        Err(error) => return Err(CompareFault::Right(error)),
+    };
+    let two = OneSide {
+        survey: there,
+        entry: other,
+        case,
+    };
+    compare_contents(alloc, geometry, left, right, one, two, id, buffers, found)
+}
+
+/// Whether two volumes are static, without update marker and of one alignment.
+fn are_texts(entry: &VolumeRecord, other: &VolumeRecord) -> bool
+    ensures entry { IsTrue result → (entry.now.marker ≡ false) × (entry.now.kind ≡ Static) }
+    ensures other { IsTrue result → (other.now.marker ≡ false) × (other.now.kind ≡ Static) }
+    ensures alignment { IsTrue result → (entry.now.alignment ≡ other.now.alignment) }
+{
+    is_text(entry) && is_text(other) && entry.alignment == other.alignment
+}
+
+/// Adds in what a volume reads differently on the two sides. Two texts are read side by side first, each once; if one isn't whole, or
+/// they lie in other numbers of logical eraseblocks, their cases are told after all.
+///
+/// # Errors
+///
+/// A read of a side failed, or memory ran out.
+fn compare_reading<L: BlockSource, R: BlockSource>(
+    alloc: Global,
+    geometry: &Geometry,
+    left: &mut L,
+    right: &mut R,
+    here: &Surveyed,
+    there: &Surveyed,
+    id: u32,
+    entry: &VolumeRecord,
+    other: &VolumeRecord,
+    buffers: &mut [u8],
+    found: &mut Found,
+) -> Result<(), CompareFault>
+    requires here { IsSurveyOf geometry.now (L.known left.old) (L.agrees left.old) here.now }
+    requires there { IsSurveyOf geometry.now (R.known right.old) (R.agrees right.old) there.now }
+    requires entry { finite.get here.now.records.of id ≡ Some entry.now }
+    requires other { finite.get there.now.records.of id ≡ Some other.now }
+    requires entry_sound { rec_fault geometry.now entry.now ≡ None }
+    requires other_sound { rec_fault geometry.now other.now ≡ None }
+    requires room { length buffers.old ≡ 2 * geometry.now.peb_size }
+    ensures left { L.known left.new ≡ after_left (L.known left.old) result }
+    ensures right { R.known right.new ≡ after_right (R.known right.old) result }
+    ensures left_narrows { Narrows (L.agrees left.old) (L.agrees left.new) }
+    ensures right_narrows { Narrows (R.agrees right.old) (R.agrees right.new) }
+    ensures told { OnOk result (WhereBothHeld (L.agrees left.new) (R.agrees right.new) (λ x y. OfMeanings geometry.now here.now there.now x y (λ m n. OfVolumes id m n (λ v w. Adds found.old found.new (content_differences geometry.now id v w))))) }
+    ensures failed { IfErr result (IsSidesError (blocks_in geometry.now (L.known left.old)) (blocks_in geometry.now (R.known right.old))) }
+    ensures named { IfErr result (NamesSide geometry.now (L.failed_at left.new) (R.failed_at right.new)) }
+{
+    if !are_texts(entry, other) {
+        return compare_cases(
+            alloc, geometry, left, right, here, there, id, entry, other, buffers, found,
+        );
+    }
+    let one = OneText {
+        survey: here,
+        entry,
+    };
+    let two = OneText {
+        survey: there,
+        entry: other,
+    };
+    if compare_texts(alloc, geometry, left, right, one, two, id, buffers, found)? {
+        return Ok(());
+    }
+    compare_cases(
+        alloc, geometry, left, right, here, there, id, entry, other, buffers, found,
+    )
+}
+
 /// Adds in what a volume differs that both sides have.
 ///
 /// # Errors
@@ -115,26 +236,9 @@ fn compare_volume<L: BlockSource, R: BlockSource>(
     if found.is_settled() {
         return Ok(());
     }
-    let (buffer, _) = buffers.split_at_mut(geometry.peb_size() as usize);
-    let case = match case_from(geometry, left, here, id, entry, buffer) {
-        Ok(case) => case,
-        Err(error) => return Err(CompareFault::Left(error)),
-    };
-    let one = OneSide {
-        survey: here,
-        entry,
-        case,
-    };
-    let case = match case_from(geometry, right, there, id, other, buffer) {
-        Ok(case) => case,
-        Err(error) => return Err(CompareFault::Right(error)),
-    };
-    let two = OneSide {
-        survey: there,
-        entry: other,
-        case,
-    };
-    compare_contents(alloc, geometry, left, right, one, two, id, buffers, found)
+    compare_reading(
+        alloc, geometry, left, right, here, there, id, entry, other, buffers, found,
+    )
 }
 
 /// Adds in what the volumes with a number differ, if there are any.

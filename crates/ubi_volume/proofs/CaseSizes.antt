@@ -26,13 +26,12 @@ module _ (s : Sizes) (bytes : List ℕ) (found : Found) (scan : IsScan s (blocks
     whole = data_of_read s bytes text p h.data_size (rw (length-first_chunks s.peb_size _ bytes) at wins.member.inside)
         read
 
+    pub held_checked : h.used_ebs ≡ used → check text ≡ h.data_crc → PieceIs s (blocks_of s bytes) vol used lnum (Some text)
+    held_checked u right = piece_checked s (blocks_of s bytes) scan.clean vol used lnum p h text wins (sym e) whole u right
+
     pub size_checked : h.used_ebs ≡ used → check text ≡ h.data_crc
         → PieceSizeIs s (blocks_of s bytes) vol used lnum (Some size)
-    size_checked u right = (
-      Some text,
-      piece_checked s (blocks_of s bytes) scan.clean vol used lnum p h text wins (sym e) whole u right,
-      ap Some (sym long),
-    )
+    size_checked u right = (Some text, held_checked u right, ap Some (sym long))
 
     pub size_unchecked : ((h.used_ebs ≡ used) × (check text ≡ h.data_crc) → ⊥)
         → PieceSizeIs s (blocks_of s bytes) vol used lnum None

@@ -10,7 +10,7 @@ use Rattle.ubi_volume.proofs.Either.{are_lebs}
 use Rattle.ubi_volume.proofs.LebsText.{length-lebs, range_append}
 use Rattle.ubi_volume.proofs.Pieces.{length-share, most_pieces, pieces_few, share_more, share_none, shares_all}
 use Rattle.ubi_volume.proofs.Received.{Splits, error_behind, error_front, wrote_more}
-use Rattle.ubi_volume.proofs.Shares.{share_at}
+use Rattle.ubi_volume.proofs.Shares.{share_at, share_piece}
 use Rattle.ubi_volume.proofs.VolumeAt.{case_is, content_has, content_is, in_table, reads_of, same_records, table}
 
 -- the first n of n + k
@@ -133,6 +133,14 @@ module _ (s : Sizes) (p : Placed) (image : List ℕ) (places : ArePlaces (image_
               → leb_bytes s (share_len size bytes n) o image ≡ share size t n
           by_place None none = absurd (none _ (static_whole.1.win n static_whole.3).member)
           by_place (Some q) won = sym (share_is q won)
+
+      -- and the share is the piece of the winner
+      pub piece_share : (q : ℕ) → Wins s bs (id, n) q → share size t n ≡ piece s bs q
+      piece_share q won =
+          subst (λ (x : List ℕ). share size x n ≡ piece s bs q) (sym static_whole.2)
+          (share_piece s bs places.accepted.accepted.clean (are_lebs (image_of s image)) (table s p image places)
+          places.accepted.accepted.alike id r (in_table s p image places id r recorded) static_reads.0 static_reads.1
+          static_whole.0 static_whole.1 n q static_whole.3 won)
 
     static_so_far : (n : ℕ) → n ≤ lebs → lebs_bytes s p id size bytes image n ≡ take (n * size) t
     static_so_far zero few = sym (share_none size t)

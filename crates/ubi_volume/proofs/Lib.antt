@@ -25,6 +25,7 @@ pub mod Moved
 pub mod Narrow
 pub mod Narrowed
 pub mod OfSurvey
+pub mod OfTexts
 pub mod One
 pub mod OneAttached
 pub mod OneCause

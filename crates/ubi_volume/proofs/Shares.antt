@@ -34,9 +34,9 @@ module _ (s : Sizes) (bs : List (List ℕ)) (clean : NoFault s bs) (whole : AreL
     (recorded : finite.get t.of vol ≡ Some r) (unmarked : r.marker ≡ false) (static : r.kind ≡ kind.Static)
     (ps : List ℕ) (are : AreWhole s bs vol r ps) where
   -- so the share of a LEB is the piece of its winner
-  share_is : (l p : ℕ) → l < length ps → Wins s bs (vol, l) p
+  pub share_piece : (l p : ℕ) → l < length ps → Wins s bs (vol, l) p
       → share (usable s r) (flat_map (piece s bs) ps) l ≡ piece s bs p
-  share_is l p inside w =
+  share_piece l p inside w =
       let most : (i : ℕ) → i < length ps → length (piece s bs (slice_index ps i)) ≤ usable s r =
       λ i b. short_piece s bs t alike vol r recorded unmarked static i (slice_index ps i) (are.win i b) in
       let full : (i : ℕ) → i + 1 < length ps → length (piece s bs (slice_index ps i)) ≡ usable s r =
@@ -53,7 +53,7 @@ module _ (s : Sizes) (bs : List (List ℕ)) (clean : NoFault s bs) (whole : AreL
       → share (usable s r) (flat_map (piece s bs) ps) l
       ≡ take (length (share (usable s r) (flat_map (piece s bs) ps) l)) (leb s (block bs p))
   share_at l p inside w =
-      let is = share_is l p inside w in
+      let is = share_piece l p inside w in
       is ∙ front_again _ (leb s (block bs p)) ∙ ap (λ (x : List ℕ). take (length x) (leb s (block bs p))) (sym is)
     where
       front_again : (n : ℕ) (b : List ℕ) → take n b ≡ take (length (take n b)) b
@@ -70,4 +70,4 @@ module _ (s : Sizes) (bs : List (List ℕ)) (clean : NoFault s bs) (whole : AreL
       let k = subst (IsPiece s bs (length ps)) same (are.pieces l inside) in
       let right : check (take k.0.data_size (leb s (block bs p))) ≡ k.0.data_crc =
       eqb-true (check (take k.0.data_size (leb s (block bs p)))) k.0.data_crc k.3 in
-      (k.0, k.1, sym right ∙ ap check (piece_by s bs p k.0 k.1 ∙ sym (share_is l p inside w)))
+      (k.0, k.1, sym right ∙ ap check (piece_by s bs p k.0 k.1 ∙ sym (share_piece l p inside w)))

@@ -1,8 +1,9 @@
 //! What the volumes of an image read, without their bytes. The texts of static volumes are checked.
 
 ghost use Rattle.std.specs.FinMap as finite;
-ghost use Rattle.std.specs.Prelude.{◌≡◌, ◌↔◌, IfErr, IfOk, IsSome, IsTrue, Some, None, false, length};
+ghost use Rattle.std.specs.Prelude.{◌≡◌, ◌↔◌, ◌≤◌, IfErr, IfOk, IfSome, IsSome, IsTrue, Some, None, false, length, option_map, take};
 ghost use Rattle.ubi_media.specs.Check.{check};
+ghost use Rattle.ubi_media.specs.Geometry.{leb_size};
 ghost use Rattle.ubi_media.specs.Record.{rec_fault};
 ghost use Rattle.ubi_media.specs.declared.vid.VolKind.TheVariants.{Static};
 ghost use Rattle.ubi_scan.specs.Image.{image_of};
@@ -11,6 +12,7 @@ ghost use Rattle.ubi_scan.specs.Stream.{IsReadFault, IsScanOf, NamesBlock, after
 ghost use Rattle.ubi_volume.specs.Accepts.{NoMismatch};
 ghost use Rattle.ubi_volume.specs.Places.{CaseFits, IsReadFailure};
 ghost use Rattle.ubi_volume.specs.Survey.{IsSurveyOf, TellsCase};
+ghost use Rattle.ubi_volume.specs.Texts.{PieceIs, TextLebs};
 ghost use Rattle.ubi_volume.specs.inner.Cases.{AreCases, AreNumbered, CaseIs, PieceSizeIs};
 ghost use Rattle.ubi_volume.specs.inner.Gathered.{UsedIs};
 ghost use Rattle.ubi_volume.specs.inner.Surveying.{AreChecked};
@@ -56,7 +58,7 @@ fn holds_piece(header: &VidHeader, used: u32, text: &[u8]) -> bool
 }
 
 /// The size in bytes of the piece that the winner of a logical eraseblock holds of a text of `used` of them. None where
-/// there is no winner, where it says that the volume uses another number of them, or where its data have another check.
+/// there is no winner, where it says that the volume uses another number of them, or where its data have another check. The buffer begins with the piece then.
 fn piece_size<S: BlockSource>(
     geometry: &Geometry,
     source: &mut S,
@@ -72,6 +74,8 @@ fn piece_size<S: BlockSource>(
     ensures narrows { Narrows (S.agrees source.old) (S.agrees source.new) }
     ensures won { IfOk result (λ size. IsSome size → IsSome (finite.get scan.now.winners (id, lnum))) }
     ensures piece { IfOk result (λ size. WhereHeld (S.agrees source.new) (λ bytes. PieceSizeIs geometry.now (blocks_of geometry.now bytes) id used lnum size)) }
+    ensures held { IfOk result (λ size. WhereHeld (S.agrees source.new) (λ bytes. PieceIs geometry.now (blocks_of geometry.now bytes) id used lnum (option_map (λ n. take n buffer.new) size))) }
+    ensures fits { IfOk result (λ size. IfSome size (λ n. n ≤ leb_size geometry.now)) }
     ensures failed { IfErr result (IsReadFault (blocks_in geometry.now (S.known source.old))) }
     ensures named { IfErr result (NamesBlock geometry.now (S.failed_at source.new)) }
 {
@@ -90,6 +94,35 @@ fn piece_size<S: BlockSource>(
     } else {
         Ok(None)
     }
+}
+
+/// In how many logical eraseblocks the text of a static volume without update marker lies, if all its pieces are there. None where it isn't
+/// whole: since its first winner says that it uses more of them than it reserves, or there is a winner behind them.
+fn text_lebs<S: BlockSource>(
+    geometry: &Geometry,
+    source: &mut S,
+    scan: &Scan,
+    id: u32,
+    entry: &VolumeRecord,
+    buffer: &mut [u8],
+) -> Result<Option<u32>, StreamError>
+    requires scan { IsScanOf geometry.now (S.known source.old) (S.agrees source.old) scan.now }
+    requires room { length buffer.old ≡ geometry.now.peb_size }
+    ensures known { S.known source.new ≡ after (S.known source.old) result }
+    ensures narrows { Narrows (S.agrees source.old) (S.agrees source.new) }
+    ensures lebs { IfOk result (λ lebs. WhereHeld (S.agrees source.new) (λ bytes. TextLebs geometry.now (blocks_of geometry.now bytes) id entry.now lebs)) }
+    ensures few { IfOk result (λ lebs. IfSome lebs (λ n. n ≤ entry.now.reserved)) }
+    ensures failed { IfErr result (IsReadFault (blocks_in geometry.now (S.known source.old))) }
+    ensures named { IfErr result (NamesBlock geometry.now (S.failed_at source.new)) }
+{
+    let used = used_ebs(geometry, source, scan, id, buffer)?;
+    if used > entry.reserved {
+        return Ok(None);
+    }
+    if scan.next_winner(id, used).is_some() {
+        return Ok(None);
+    }
+    Ok(Some(used))
 }
 
 /// What a static volume without update marker reads: nothing where it has no winner, its text where its winners hold
@@ -117,13 +150,9 @@ fn static_case<S: BlockSource>(
     ensures failed { IfErr result (IsReadFault (blocks_in geometry.now (S.known source.old))) }
     ensures named { IfErr result (NamesBlock geometry.now (S.failed_at source.new)) }
 {
-    let used = used_ebs(geometry, source, scan, id, buffer)?;
-    if used > entry.reserved {
+    let Some(used) = text_lebs(geometry, source, scan, id, entry, buffer)? else {
         return Ok(PlaceContent::Damaged);
-    }
-    if scan.next_winner(id, used).is_some() {
-        return Ok(PlaceContent::Damaged);
-    }
+    };
     let mut bytes = 0;
     for lnum in 0..used {
         match piece_size(geometry, source, scan, id, used, lnum, buffer)? {
@@ -225,4 +254,56 @@ pub fn case_from<S: BlockSource>(
 {
     let (scan, table) = (survey.scan(), survey.table());
     case_of(geometry, source, scan, table, id, entry, buffer)
+}
+
+/// In how many logical eraseblocks the text of a static volume of a surveyed source lies, if all its pieces are there. None where it isn't
+/// whole. No piece is read. The buffer has the size of an eraseblock.
+///
+/// # Errors
+///
+/// Read where a read failed.
+pub fn text_lebs_from<S: BlockSource>(
+    geometry: &Geometry,
+    source: &mut S,
+    survey: &Surveyed,
+    id: u32,
+    entry: &VolumeRecord,
+    buffer: &mut [u8],
+) -> Result<Option<u32>, StreamError>
+    requires survey { IsSurveyOf geometry.now (S.known source.old) (S.agrees source.old) survey.now }
+    requires room { length buffer.old ≡ geometry.now.peb_size }
+    ensures known { S.known source.new ≡ after (S.known source.old) result }
+    ensures narrows { Narrows (S.agrees source.old) (S.agrees source.new) }
+    ensures lebs { IfOk result (λ lebs. WhereHeld (S.agrees source.new) (λ bytes. TextLebs geometry.now (blocks_of geometry.now bytes) id entry.now lebs)) }
+    ensures failed { IfErr result (IsReadFault (blocks_in geometry.now (S.known source.old))) }
+    ensures named { IfErr result (NamesBlock geometry.now (S.failed_at source.new)) }
+{
+    text_lebs(geometry, source, survey.scan(), id, entry, buffer)
+}
+
+/// The size in bytes of a piece of the text of a static volume of a surveyed source, which the buffer then begins with. The text lies in
+/// `used` logical eraseblocks, and the piece in the one with this number. None where the piece isn't there: then the text isn't whole.
+///
+/// # Errors
+///
+/// Read where a read failed.
+pub fn text_piece_from<S: BlockSource>(
+    geometry: &Geometry,
+    source: &mut S,
+    survey: &Surveyed,
+    id: u32,
+    used: u32,
+    lnum: u32,
+    buffer: &mut [u8],
+) -> Result<Option<u32>, StreamError>
+    requires survey { IsSurveyOf geometry.now (S.known source.old) (S.agrees source.old) survey.now }
+    requires room { length buffer.old ≡ geometry.now.peb_size }
+    ensures known { S.known source.new ≡ after (S.known source.old) result }
+    ensures narrows { Narrows (S.agrees source.old) (S.agrees source.new) }
+    ensures held { IfOk result (λ size. WhereHeld (S.agrees source.new) (λ bytes. PieceIs geometry.now (blocks_of geometry.now bytes) id used lnum (option_map (λ n. take n buffer.new) size))) }
+    ensures fits { IfOk result (λ size. IfSome size (λ n. n ≤ leb_size geometry.now)) }
+    ensures failed { IfErr result (IsReadFault (blocks_in geometry.now (S.known source.old))) }
+    ensures named { IfErr result (NamesBlock geometry.now (S.failed_at source.new)) }
+{
+    piece_size(geometry, source, survey.scan(), id, used, lnum, buffer)
 }

@@ -1,18 +1,16 @@
 -- What is gathered of a volume, piece by piece.
-use Rattle.std.specs.Prelude.{◌≡◌, ◌≢◌, ℕ, ◌<◌, ◌⊎◌, List, Option, All, IfSome, MatchOption, length, map, flat_map, slice_index}
+use Rattle.std.specs.Prelude.{◌≡◌, ◌≢◌, ℕ, ◌<◌, List, All, IfSome, length, map}
 use Rattle.std.specs.FinMap.{FinMap, get, entries}
-use Rattle.std.specs.Option.{option_map_or}
 use Rattle.std.specs.Ordering.{nat_cmp}
 use Rattle.ubi_media.specs.Fields.{blank}
 use Rattle.ubi_media.specs.Geometry.{Sizes}
 use Rattle.ubi_media.specs.Record.{usable}
 use Rattle.ubi_media.specs.declared.record.VolumeRecord.{VolumeRecord}
-use Rattle.ubi_scan.specs.Image.{block}
-use Rattle.ubi_scan.specs.Members.{NoMember, Wins, member}
 use Rattle.ubi_scan.specs.Source.{Agreed, WhereHeld, blocks_of}
-use Rattle.ubi_volume.specs.Means.{IsPiece, LebReads, VolumeReads, piece}
+use Rattle.ubi_volume.specs.Means.{LebReads, VolumeReads}
 use Rattle.ubi_volume.specs.Meant.{Fits, KeepsNoBlank}
 use Rattle.ubi_volume.specs.Reading.{leb_text}
+pub use Rattle.ubi_volume.specs.Texts.{AreRead, PieceIs, UsedIs, used_in}
 use Rattle.ubi_volume.specs.declared.content.Content.{Content}
 use Rattle.ubi_volume.specs.declared.content.Volume.{Volume}
 
@@ -32,30 +30,6 @@ pub record AreGathered (s : Sizes) (bs : List (List ℕ)) (vol : ℕ) (r : Volum
     (lebs : FinMap nat_cmp (List ℕ)) : Type 0 where
   pub texts : AreTexts (usable s r) n lebs
   pub reads : (lnum : ℕ) → lnum < n → LebReads s bs vol r lnum (leb_text (usable s r) (get lebs lnum))
-
--- how many LEBs the header of the eraseblock p says that its volume uses, 0 where it has none
-abbrev pub used_in : Sizes → List (List ℕ) → ℕ → ℕ
-used_in s bs p = option_map_or (λ h. h.used_ebs) (member s (block bs p)) 0
-
--- a static volume uses so many LEBs, by one of its winners, and 0 where it has none
-abbrev pub UsedIs : Sizes → List (List ℕ) → ℕ → ℕ → Type 0
-UsedIs s bs vol used =
-    (((lnum : ℕ) → NoMember s bs (vol, lnum)) × (used ≡ 0))
-    ⊎ ((lnum p : ℕ) × Wins s bs (vol, lnum) p × (used_in s bs p ≡ used))
-
--- the piece of a text of so many LEBs that the winner of a LEB holds, if it holds one
-abbrev pub PieceIs : Sizes → List (List ℕ) → ℕ → ℕ → ℕ → Option (List ℕ) → Type 0
-PieceIs s bs vol used lnum held = MatchOption held
-    ((p : ℕ) → Wins s bs (vol, lnum) p → IsPiece s bs used p → ⊥)
-    (λ text. (p : ℕ) × Wins s bs (vol, lnum) p × IsPiece s bs used p × (text ≡ piece s bs p))
-
--- the text of the first n pieces
-pub record AreRead (s : Sizes) (bs : List (List ℕ)) (vol used n : ℕ) (text : List ℕ) : Type 0 where
-  pub ps : List ℕ
-  pub count : length ps ≡ n
-  pub win : (lnum : ℕ) → lnum < n → Wins s bs (vol, lnum) (slice_index ps lnum)
-  pub pieces : (lnum : ℕ) → lnum < n → IsPiece s bs used (slice_index ps lnum)
-  pub joined : text ≡ flat_map (piece s bs) ps
 
 -- what a volume of a source reads, in whatever the source may hold; and it is as a meaning keeps it, whatever that is
 pub record IsContentOf (s : Sizes) (agrees : Agreed) (vol : ℕ) (r : VolumeRecord) (c : Content) : Type 0 where

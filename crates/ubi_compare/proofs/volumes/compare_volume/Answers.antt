@@ -1,4 +1,4 @@
-use Rattle.ubi_compare.proofs.Prelude.{sym, subst, on_ok_weaker, Source, survey_narrowed, IsSurveyOf, content_differences}
+use Rattle.ubi_compare.proofs.Prelude.{on_ok_weaker, content_differences}
 use Rattle.ubi_compare.proofs.Adding.{adds_settled}
 use Rattle.ubi_compare.proofs.Differing.{both_told}
 use Rattle.ubi_compare.proofs.volumes.compare_volume.Goals as goal
@@ -12,33 +12,9 @@ returns-then-is_settled-clause-told g c = λ x xs y ys h k v w at bt.
     (adds_settled e (content_differences s c.args.id v w) (c.is_settled.ensures.brief c.if-is_settled.true)
     (c.is_settled.ensures.some c.if-is_settled.true))
 
-pub compare_contents-requires-clause-here : goal.compare_contents-requires-clause-here
-compare_contents-requires-clause-here g c =
-    let s = c.args.geometry.now in
-    let agrees = g.L.BlockSource.agrees c.case_from.new.source in
-    record {
-      survey = subst (λ (k : Source). IsSurveyOf s k agrees c.args.here.now) (sym c.in-Ok.ensures.known)
-          (survey_narrowed s _ _ agrees c.args.here.now c.in-Ok.ensures.narrows c.requires.here);
-      recorded = c.requires.entry;
-      sound = c.requires.entry_sound;
-      case = c.in-Ok.ensures.case;
-    }
-
-pub compare_contents-requires-clause-there : goal.compare_contents-requires-clause-there
-compare_contents-requires-clause-there g c =
-    let s = c.args.geometry.now in
-    let agrees = g.R.BlockSource.agrees c.case_from-2.new.source in
-    record {
-      survey = subst (λ (k : Source). IsSurveyOf s k agrees c.args.there.now) (sym c.in-Ok-case_from.ensures.known)
-          (survey_narrowed s _ _ agrees c.args.there.now c.in-Ok-case_from.ensures.narrows c.requires.there);
-      recorded = c.requires.other;
-      sound = c.requires.other_sound;
-      case = c.in-Ok-case_from.ensures.case;
-    }
-
 pub returns-clause-told : goal.returns-clause-told
-returns-clause-told g c = on_ok_weaker c.compare_contents.result (λ told x xs y ys h k v w at bt.
+returns-clause-told g c = on_ok_weaker c.compare_reading.result (λ told x xs y ys h k v w at bt.
     both_told c.args.geometry.now c.args.here.now c.args.there.now x y h k c.args.id c.args.entry.now c.args.other.now
-    c.requires.entry c.requires.other v w at bt c.args.found.now c.compare_records.new.found c.compare_contents.new.found
+    c.requires.entry c.requires.other v w at bt c.args.found.now c.compare_records.new.found c.compare_reading.new.found
     c.in_ok-compare_records.ensures (told x xs y ys h k v w at bt))
-    c.compare_contents.ensures.told
+    c.compare_reading.ensures.told
