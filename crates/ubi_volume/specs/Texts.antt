@@ -1,5 +1,5 @@
 -- The text of a static volume, piece by piece.
-use Rattle.std.specs.Prelude.{◌≡◌, ℕ, ◌<◌, ◌≤◌, ◌⊎◌, List, None, Option, MatchOption, Some, flat_map, length, slice_index}
+use Rattle.std.specs.Prelude.{◌≡◌, ℕ, ◌<◌, ◌≤◌, ◌⊎◌, List, None, Option, MatchOption, Some}
 use Rattle.std.specs.Option.{option_map_or}
 use Rattle.ubi_media.specs.Geometry.{Sizes}
 use Rattle.ubi_media.specs.declared.record.VolumeRecord.{VolumeRecord}
@@ -22,18 +22,6 @@ abbrev pub PieceIs : Sizes → List (List ℕ) → ℕ → ℕ → ℕ → Optio
 PieceIs s bs vol used lnum held = MatchOption held
     ((p : ℕ) → Wins s bs (vol, lnum) p → IsPiece s bs used p → ⊥)
     (λ text. (p : ℕ) × Wins s bs (vol, lnum) p × IsPiece s bs used p × (text ≡ piece s bs p))
-
--- the text of the first n pieces
-pub record AreRead (s : Sizes) (bs : List (List ℕ)) (vol used n : ℕ) (text : List ℕ) : Type 0 where
-  pub ps : List ℕ
-  pub count : length ps ≡ n
-  pub win : (lnum : ℕ) → lnum < n → Wins s bs (vol, lnum) (slice_index ps lnum)
-  pub pieces : (lnum : ℕ) → lnum < n → IsPiece s bs used (slice_index ps lnum)
-  pub joined : text ≡ flat_map (piece s bs) ps
-
--- and its size
-abbrev pub SizeIsRead : Sizes → List (List ℕ) → ℕ → ℕ → ℕ → ℕ → Type 0
-SizeIsRead s bs vol used n size = (text : List ℕ) × AreRead s bs vol used n text × (size ≡ length text)
 
 -- in how many LEBs a text lies that is whole if all its pieces are there; or none, where it isn't whole
 abbrev pub TextLebs : Sizes → List (List ℕ) → ℕ → VolumeRecord → Option ℕ → Type 0
