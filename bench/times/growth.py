@@ -116,6 +116,7 @@ def commands(path, spec, new):
     yield "compose", spec, *out
     yield "normalise", path, *out
     yield "same", path, path
+    yield "diff", path, path
     yield "change", path, "--id", "0", "--lnum", "0", "--from", new, *out
     yield "rename", path, "--id", "0", "--name", "another", *out
 

@@ -1,13 +1,13 @@
 #!/usr/bin/env python3
-"""Measures `./ubi_tool geometry`, `check`, `list` and `same` against `cat` of the same file, `extract` and `unpack` against `cp` of it, and
+"""Measures `./ubi_tool geometry`, `check`, `list`, `same` and `diff` against `cat` of the same file, `extract` and `unpack` against `cp` of it, and
 `build` against `cp` of what `extract` writes.
 
 usage: reading.py [--dir FOLDER] [--blocks N] [--tool PROGRAM]
 
 The images are those of normalise.py: N eraseblocks (1,024, which is 128 MiB) of 128 KiB, of one dynamic or static volume.
 They lie in a new folder below FOLDER (/tmp where it is left out), which is removed again. Without --tool the program is
-built first where it isn't yet. `same` compares an image with itself, and reads it twice; so does the `cat` that it is
-measured against.
+built first where it isn't yet. `same` and `diff` compare an image with itself, and read it twice; so does the `cat` that they
+are measured against.
 
 `build` makes an image of a config with the one volume, whose contents are those.
 
@@ -54,6 +54,7 @@ def main():
             "list": [tool, "list", path, *sizes],
             "cat of two": ["cat", path, path],
             "same": [tool, "same", path, path, *sizes],
+            "diff": [tool, "diff", path, path, *sizes],
             "cp": ["cp", path, out],
             "extract": [tool, "extract", path, "--id", "0", "--out", out, *sizes],
             "unpack": ["sh", "-c", f"rm -rf {volumes} && exec {tool} unpack {path} --out {volumes} {' '.join(sizes)}"],
@@ -63,7 +64,7 @@ def main():
 
     above = False
     for _, ran in over_images(place, count, runs):
-        above |= any(ran[name][2] > ROOM for name in ("geometry", "check", "list", "same", "extract", "unpack", "build"))
+        above |= any(ran[name][2] > ROOM for name in ("geometry", "check", "list", "same", "diff", "extract", "unpack", "build"))
         above |= ran["check"][0] > MOST * ran["cat"][0]
     sys.exit(1 if above else 0)
 
