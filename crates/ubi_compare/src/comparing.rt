@@ -119,7 +119,8 @@ pub fn same_from<L: BlockSource, R: BlockSource>(
 }
 
 /// In what two sources of one geometry differ, whose list is empty exactly if they mean the same. It holds one eraseblock of contents of each, and
-/// reads each logical eraseblock once on either side, and that of a static volume twice.
+/// reads each logical eraseblock once on either side; but for static volumes of which one isn't whole, or which lie in other numbers of
+/// these: they are read twice.
 ///
 /// # Errors
 ///

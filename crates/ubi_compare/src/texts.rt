@@ -182,15 +182,14 @@ fn texts_beside<L: BlockSource, R: BlockSource>(
     let mut ranges = Ranges::new(alloc, id);
     for lnum in 0..used {
         let (a, b) = (here.survey, there.survey);
-        match pieces_beside(geometry, left, right, a, b, id, used, lnum, one, other)? {
-            Some(pieces) => {
-                bytes += u64::from(pieces.left);
-                others += u64::from(pieces.right);
-                if !pieces.is_same {
-                    ranges.add(lnum)?;
-                }
-            }
-            None => return Ok(None),
+        let Some(pieces) = pieces_beside(geometry, left, right, a, b, id, used, lnum, one, other)?
+        else {
+            return Ok(None);
+        };
+        bytes += u64::from(pieces.left);
+        others += u64::from(pieces.right);
+        if !pieces.is_same {
+            ranges.add(lnum)?;
         }
     }
     Ok(Some(Texts {

@@ -1,6 +1,6 @@
 use Rattle.ubi_compare.proofs.Prelude.{◌≡◌, ◌∙◌, ℕ, refl, sym, subst, arith, Source, survey_narrowed, IsSurveyOf, Ranges, AreTexts}
 use Rattle.ubi_compare.proofs.TextsRead.{Follows, follows_apart, follows_same, more_texts, no_texts}
-use Rattle.ubi_compare.proofs.texts.texts_beside.Goals.{then-not-pieces+in_ok-add-in-Some, else-not-pieces}
+use Rattle.ubi_compare.proofs.texts.texts_beside.Goals.{then-not-pieces+in_ok-add, else-not-pieces}
 use Rattle.ubi_compare.proofs.texts.texts_beside.Goals as goal
 
 pub loop-lnum-init : goal.loop-lnum-init
@@ -48,9 +48,9 @@ loop-lnum-preserved g c = record {
       let before = c.loop-lnum.invariant.read x (c.in_ok-pieces.ensures.left_narrows x xs) y
       (c.in_ok-pieces.ensures.right_narrows y ys) in
       let follows : Follows pieces.is_same n old c.if-not-pieces.ranges = elim c.if-not-pieces.branch [
-        | then-not-pieces+in_ok-add-in-Some u ↦
+        | then-not-pieces+in_ok-add u ↦
             subst (λ (r : Ranges). Follows pieces.is_same n old r) (sym u.ranges-is)
-            (follows_apart pieces.is_same n old u.add.new.self u.if-not-pieces.true u.in_ok-add-in-Some.ensures)
+            (follows_apart pieces.is_same n old u.add.new.self u.if-not-pieces.true u.in_ok-add.ensures)
         | else-not-pieces u ↦
             follows_same pieces.is_same n old c.if-not-pieces.ranges u.if-not-pieces.false u.ranges-is
       ] in
