@@ -9,11 +9,7 @@
 //! use ubi_media::{AttachError, Geometry};
 //!
 //! /// The bytes by which a build is known, wherever its eraseblocks lie and however worn they are.
-//! pub fn known_by(
-//!     alloc: Global,
-//!     geometry: &Geometry,
-//!     build: &[u8],
-//! ) -> Result<Vec<u8>, AttachError>
+//! pub fn known_by(alloc: Global, geometry: &Geometry, build: &[u8]) -> Result<Vec<u8>, AttachError>
 //!     ensures { IfOk result (λ normal. (m : Meant) × Accepts (image_of geometry.now build.now) m × (normal.items ≡ normal_bytes m)) }
 //! {
 //!     normalise(alloc, geometry, build)
