@@ -139,7 +139,8 @@ class Changer(Mutator):
     def right(self, blocks):
         blocks = list(blocks)
         for _ in range(self.rng.choice(self.times) if self.rng.random() < 0.9 else 0):
-            self.rng.choice(self.ways)(blocks)
+            if blocks:
+                self.rng.choice(self.ways)(blocks)
         return b"".join(self.worn(blocks))
 
 
