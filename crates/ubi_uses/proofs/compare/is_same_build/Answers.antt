@@ -1,5 +1,5 @@
 use Rattle.std.proofs.lemmas.Result.{IfOk-weaker}
-use Rattle.ubi_uses.proofs.compose.is_same_build.Goals as goal
+use Rattle.ubi_uses.proofs.compare.is_same_build.Goals as goal
 
 pub returns : goal.returns
 returns c =
