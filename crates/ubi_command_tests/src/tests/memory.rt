@@ -140,7 +140,9 @@ fn tells_all(rt: &impl Abort, alloc: Global, geometry: &Geometry) -> Result<bool
     let (root, spare) = (image(alloc, geometry, 2560)?, image(alloc, geometry, 3072)?);
     let (spares, text) = (image(alloc, geometry, 3584)?, bytes_of(alloc, TEXT)?);
     let mut other = image(alloc, geometry, 2560)?;
-    other.as_mut_slice()[OTHER_BYTE] = b'c';
+    if let Some(byte) = other.as_mut_slice().get_mut(OTHER_BYTE) {
+        *byte = b'c';
+    }
     let (image, spare) = (root.as_slice(), spare.as_slice());
     let changed = run_change(alloc, geometry, spare, 0, 1, &[0x61; 64], None);
     let renamed = run_rename(alloc, geometry, spares.as_slice(), 0, b"data", None);
