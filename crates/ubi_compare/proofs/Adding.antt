@@ -64,6 +64,22 @@ adds_brief old new more d is some one = record {
   tells = λ ds told. tells_one old.is_brief new.list.items ds more d is some (one.tells ds told);
 }
 
+-- what tells the same as some differences is as good as these
+tells_alike : (brief : Bool) (new ds told more : List Difference) → Tells brief told more → Tells brief new (ds ++ told)
+    → Tells brief new (ds ++ more)
+tells_alike false new ds told more alike is = is ∙ ap (λ (xs : List Difference). ds ++ xs) alike
+tells_alike true new ds told more alike is = (
+  λ none. (let parts = both_none ds told (is.0 none) in none_both ds more parts.0 (alike.0 parts.1)),
+  λ none. (let parts = both_none ds more none in is.1 (none_both ds told parts.0 (alike.1 parts.1))),
+)
+
+pub adds_alike : (old new : Found) (told more : List Difference) → Tells old.is_brief told more → Adds old new told
+    → Adds old new more
+adds_alike old new told more alike adds = record {
+  brief = adds.brief;
+  tells = λ ds is. tells_alike old.is_brief new.list.items ds told more alike (adds.tells ds is);
+}
+
 -- what is found from the beginning is all
 none_tells : (brief : Bool) → Tells brief [] []
 none_tells true = (λ none. refl, λ none. refl)

@@ -75,15 +75,15 @@ begun_if : (next : Bool) (r : ℕ × ℕ) (xs ys : List (ℕ × ℕ)) → (xs �
 begun_if true r xs ys some none = some none
 begun_if false r xs ys some none = cc
 
-begun : (r : ℕ × ℕ) (ns : List ℕ) → ranges_after (Some r) ns ≡ [] → ⊥
-begun r [] none = cc
-begun r (n ∷ ns) none =
-    begun_if (n == r.1 + 1) r (ranges_after (Some (r.0, n)) ns) (ranges_after (Some (n, n)) ns) (begun (r.0, n) ns) none
+pub range_begun : (r : ℕ × ℕ) (ns : List ℕ) → ranges_after (Some r) ns ≡ [] → ⊥
+range_begun r [] none = cc
+range_begun r (n ∷ ns) none =
+    begun_if (n == r.1 + 1) r (ranges_after (Some (r.0, n)) ns) (ranges_after (Some (n, n)) ns) (range_begun (r.0, n) ns) none
 
 -- there is no range of no number
 pub ranges_none : (ns : List ℕ) → ranges_after None ns ≡ [] → ns ≡ []
 ranges_none [] none = refl
-ranges_none (n ∷ ns) none = absurd (begun (n, n) ns none)
+ranges_none (n ∷ ns) none = absurd (range_begun (n, n) ns none)
 
 -- whether a list is empty
 pub is_none : {A : Type 0} (xs : List A) → (length xs == 0) ≡ true → xs ≡ []

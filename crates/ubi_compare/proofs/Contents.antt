@@ -27,12 +27,12 @@ pub none_apart : (s : Sizes) (id : ℕ) (v w : Volume) → usable s v.entry ≡ 
     → read_apart (leb_read s v.entry lnum v.content) (leb_read s w.entry lnum w.content) ≡ false
 none_apart s id v w same none lnum inside =
     let told = λ (r : ℕ × ℕ). difference.Lebs id r.0 r.1 in
-    let all = ranges_after None (lebs_apart s v w) in
+    let all = ranges_after None (lebs_apart s v w v.entry.reserved) in
     let listed : map told all ≡ [] =
     sym (chosen (usable s v.entry == usable s w.entry) (map told all) []
     ((unsigned_Decides (usable s v.entry) (usable s w.entry)).1 same)) ∙ none in
     none_pass (λ lnum. read_apart (leb_read s v.entry lnum v.content) (leb_read s w.entry lnum w.content))
-    0 v.entry.reserved (ranges_none (lebs_apart s v w) (map_none told all listed)) lnum (omega arith) (omega arith)
+    0 v.entry.reserved (ranges_none (lebs_apart s v w v.entry.reserved) (map_none told all listed)) lnum (omega arith) (omega arith)
 
 -- texts of one length whose shares are the same are the same
 shares_so_far : (size : ℕ) (t u : List ℕ) (n : ℕ) → ((k : ℕ) → k < n → share size t k ≡ share size u k)
@@ -149,7 +149,7 @@ length_itself id (content.Dynamic l) = refl
 lebs_itself : (s : Sizes) (id : ℕ) (v : Volume) → leb_differences s id v v ≡ []
 lebs_itself s id v =
     let told = λ (r : ℕ × ℕ). difference.Lebs id r.0 r.1 in
-    chosen (usable s v.entry == usable s v.entry) (map told (ranges_after None (lebs_apart s v v))) []
+    chosen (usable s v.entry == usable s v.entry) (map told (ranges_after None (lebs_apart s v v v.entry.reserved))) []
     (number_itself (usable s v.entry))
     ∙ ap (λ ns. map told (ranges_after None ns))
     (pass_none (λ lnum. read_apart (leb_read s v.entry lnum v.content) (leb_read s v.entry lnum v.content))

@@ -47,7 +47,7 @@ module _ (s : Sizes) (id : ℕ) (v w : Volume) where
   none_told : ((n : ℕ) → read_apart (leb_read s v.entry n v.content) (leb_read s w.entry n w.content) ≡ false)
       → leb_differences s id v w ≡ []
   none_told none =
-      either_none (usable s v.entry == usable s w.entry) (told_of id (ranges_after None (lebs_apart s v w)))
+      either_none (usable s v.entry == usable s w.entry) (told_of id (ranges_after None (lebs_apart s v w v.entry.reserved)))
       (ap (λ ns. told_of id (ranges_after None ns))
       (pass_none (λ n. read_apart (leb_read s v.entry n v.content) (leb_read s w.entry n w.content)) 0 v.entry.reserved
       (λ k low high. none k)))
@@ -93,7 +93,7 @@ module _ (s : Sizes) (id : ℕ) (v w : Volume) where
     pub other_sizes : (r q : VolumeRecord) (one other : Extent) → v.entry ≡ r → w.entry ≡ q → extent_of s r a ≡ Ok one
         → extent_of s q b ≡ Ok other → one.size ≢ other.size → leb_differences s id v w ≡ []
     other_sizes r q one other here there first second apart =
-        not_chosen (usable s v.entry == usable s w.entry) (told_of id (ranges_after None (lebs_apart s v w))) []
+        not_chosen (usable s v.entry == usable s w.entry) (told_of id (ranges_after None (lebs_apart s v w v.entry.reserved))) []
         (by_test (usable s v.entry == usable s w.entry) refl)
       where
         by_test : (test : Bool) → (usable s v.entry == usable s w.entry) ≡ test → test ≡ false

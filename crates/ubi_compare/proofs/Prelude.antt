@@ -43,12 +43,13 @@ pub use Rattle.ubi_volume.specs.Meant.{Fits, IsMeaning, IsVolume, KeepsNoBlank, 
 pub use Rattle.ubi_volume.specs.Places.{ArePlacesError, case_of}
 pub use Rattle.ubi_volume.specs.Reading.{leb_read, leb_text}
 pub use Rattle.ubi_volume.specs.Survey.{IsSurvey, IsSurveyOf, Seen}
-pub use Rattle.ubi_volume.specs.Texts.{PieceIs, TextLebs}
+pub use Rattle.ubi_volume.specs.Texts.{PieceIs}
 pub use Rattle.ubi_volume.specs.declared.content.Content.{Content}
 pub use Rattle.ubi_volume.specs.declared.content.Volume.{Volume}
 pub use Rattle.ubi_volume.specs.declared.errors.ReadError.{ReadError}
 pub use Rattle.ubi_volume.specs.declared.places.Extent.{Extent}
 pub use Rattle.ubi_volume.specs.declared.places.PlaceContent.{PlaceContent}
+pub use Rattle.ubi_volume.specs.inner.Cases.{SizeIsRead}
 pub use Rattle.ubi_compare.specs.Compared.{IsCompareFault, WhereBothHeld}
 pub use Rattle.ubi_compare.specs.Differences.{condition_of, content_differences, differences, leb_differences, lebs_apart, length_differences, ranges_after, read_apart, record_differences, same_condition, same_kind, unless, volume_differences}
 pub use Rattle.ubi_compare.specs.Laws.{NothingDiffers}
@@ -57,11 +58,12 @@ pub use Rattle.ubi_compare.specs.declared.difference.Difference.{Difference}
 pub use Rattle.ubi_compare.specs.declared.difference.Side.{Side}
 pub use Rattle.ubi_compare.specs.declared.errors.CompareFault.{CompareFault}
 pub use Rattle.ubi_compare.specs.declared.found.Found.{Found}
+pub use Rattle.ubi_compare.specs.declared.pieces.LebsOfBoth.{LebsOfBoth}
+pub use Rattle.ubi_compare.specs.declared.pieces.Pieces.{Pieces}
 pub use Rattle.ubi_compare.specs.declared.ranges.Ranges.{Ranges}
 pub use Rattle.ubi_compare.specs.declared.sides.OneSide.{OneSide}
-pub use Rattle.ubi_compare.specs.declared.texts.Pieces.{Pieces}
 pub use Rattle.ubi_compare.specs.declared.texts.Texts.{Texts}
 pub use Rattle.ubi_compare.specs.inner.Found.{Adds, Tells}
-pub use Rattle.ubi_compare.specs.inner.Ranges.{HaveFound, first_apart, told_of, told_with}
+pub use Rattle.ubi_compare.specs.inner.Ranges.{AddsLeb, HaveFound, HaveTold, told_of, told_with}
 pub use Rattle.ubi_compare.specs.inner.Sides.{IsSideOf, IsSidesError, OfMeanings, OfVolumes, case_condition, case_lengths, first_differences}
-pub use Rattle.ubi_compare.specs.inner.Texts.{ArePieces, AreTexts, IsText}
+pub use Rattle.ubi_compare.specs.inner.Texts.{ArePieces, AreTexts, AreToldApart, AreWhole, IsText}

@@ -1,6 +1,6 @@
 -- Ranges of LEBs that are found one after the other.
-use Rattle.ubi_compare.proofs.Prelude.{◌≡◌, ℕ, ◌+◌, ◌==◌, true, false, List, [], ◌∷◌, ◌++◌, append_assoc, append-nil, ap, sym, ◌∙◌, None, Some, ranges_after, Difference, Ranges, told_of, told_with}
-use Rattle.ubi_compare.proofs.Apart.{chosen, not_chosen}
+use Rattle.ubi_compare.proofs.Prelude.{◌≡◌, ℕ, ◌+◌, ◌==◌, Bool, true, false, List, [], ◌∷◌, ◌++◌, append_assoc, append-nil, ap, sym, ◌∙◌, None, Option, Some, ranges_after, Difference, Ranges, AddsLeb, told_of, told_with}
+use Rattle.ubi_compare.proofs.Apart.{both_none, chosen, map_none, not_chosen, range_begun}
 use Rattle.ubi_compare.specs.declared.difference.Difference.TheVariants as difference
 
 -- a LEB that follows the last joins it
@@ -42,3 +42,16 @@ module _ (old new : Ranges) (lnum : ℕ) (id : new.id ≡ old.id) (told : new.to
       ap (λ o. old.told.items ++ told_of old.id (ranges_after o (lnum ∷ rest))) begun
       ∙ ap (λ xs. xs ++ next) (sym (append-nil old.told.items))
       ∙ ap (λ o. old.told.items ++ told_of old.id (ranges_after o []) ++ next) (sym begun) ∙ after
+
+-- a range there is once a LEB was added
+some_range : (o : Option (ℕ × ℕ)) (lnum : ℕ) → ranges_after o (lnum ∷ []) ≡ [] → ⊥
+some_range None lnum none = range_begun (lnum, lnum) [] none
+some_range (Some r) lnum none = range_begun r (lnum ∷ []) none
+
+pub adds_leb : (brief : Bool) (lnum : ℕ) (old new : Ranges)
+    → ((rest : List ℕ) → told_with old (lnum ∷ rest) ≡ told_with new rest) → AddsLeb brief lnum old new
+adds_leb false lnum old new more = more
+adds_leb true lnum old new more = λ none.
+    let told = both_none old.told.items (told_of old.id (ranges_after old.begun (lnum ∷ []))) (more [] ∙ none) in
+    some_range old.begun lnum
+    (map_none (λ (e : ℕ × ℕ). difference.Lebs old.id e.0 e.1) (ranges_after old.begun (lnum ∷ [])) told.1)

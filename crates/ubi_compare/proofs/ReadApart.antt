@@ -1,10 +1,11 @@
 -- The LEBs of a volume that are read differently, by their places.
-use Rattle.ubi_compare.proofs.Prelude.{◌≡◌, ◌≢◌, ℕ, zero, suc, ◌+◌, ◌*◌, ◌-◌, ◌<◌, ◌≤◌, Bool, true, false, cond, not, inl, inr, List, [], ◌∷◌, ◌++◌, append-nil, append_assoc, length, refl, ap, ap₂, sym, ◌∙◌, subst, arith, ◌==◌, false≢true, cases_lt, le-ltb, filter-append, unsigned_Decides, range_with_len, Err, IsTrue, None, Ok, Result, Some, filter, min, nat_lt, ◌↔◌, same_bytes, Sizes, rec_fault, usable, VolumeRecord, usable_some, image_of, Agreed, Source, bytes_Decides, leb_is, piece_is, same_Ok, placed_of, places_of, pieces_few, content_has, reads_of, extent_of, leb_bytes, share_len, Fits, pieces, share, case_of, leb_read, leb_text, IsSurvey, Seen, Content, Volume, ReadError, Extent, PlaceContent, leb_differences, lebs_apart, ranges_after, read_apart, Ranges, OneSide, IsSideOf, HaveFound, first_apart, told_of, told_with}
+use Rattle.ubi_compare.proofs.Prelude.{◌≡◌, ◌≢◌, ℕ, zero, suc, ◌+◌, ◌*◌, ◌-◌, ◌<◌, ◌≤◌, Bool, true, false, cond, not, inl, inr, List, [], ◌∷◌, ◌++◌, append-nil, append_assoc, length, refl, ap, ap₂, sym, ◌∙◌, subst, arith, ◌==◌, false≢true, cases_lt, le-ltb, filter-append, unsigned_Decides, range_with_len, Err, IsTrue, None, Ok, Result, Some, filter, min, nat_lt, ◌↔◌, same_bytes, Sizes, rec_fault, usable, VolumeRecord, usable_some, image_of, Agreed, Source, bytes_Decides, leb_is, piece_is, same_Ok, placed_of, places_of, pieces_few, content_has, reads_of, extent_of, leb_bytes, share_len, Fits, pieces, share, case_of, leb_read, leb_text, IsSurvey, Seen, Content, Volume, ReadError, Extent, PlaceContent, leb_differences, lebs_apart, ranges_after, read_apart, Difference, Ranges, OneSide, Tells, IsSideOf, HaveFound, HaveTold, AddsLeb, told_of, told_with}
 use Rattle.std.specs.FinMap as finite
 use Rattle.ubi_volume.specs.declared.content.Content.TheVariants as content
 use Rattle.ubi_volume.specs.declared.errors.ReadError.TheVariants as error
-use Rattle.ubi_compare.proofs.Apart.{chosen, not_chosen, pass_none}
+use Rattle.ubi_compare.proofs.Apart.{both_none, chosen, map_none, not_chosen, pass_none, ranges_none}
 use Rattle.ubi_compare.proofs.Contents.{dynamic_leb, none_apart, static_leb}
+use Rattle.ubi_compare.specs.declared.difference.Difference.TheVariants as difference
 
 -- the LEBs of a volume that can be read, by its extent
 pub record AreLebs (s : Sizes) (v : Volume) (e : Extent) (texts : ℕ → List ℕ) : Type 0 where
@@ -124,25 +125,38 @@ module _ (s : Sizes) (id : ℕ) (v w : Volume) (one other : Extent) (a b : ℕ �
     | inr beyond ↦ ap (λ o. read_apart o (leb_read s w.entry n w.content)) (left.beyond n beyond)
   ]
 
-  all_found : first_apart s v w count ≡ lebs_apart s v w
+  all_found : lebs_apart s v w count ≡ lebs_apart s v w v.entry.reserved
   all_found =
       let few = left.few in
       let total : count + (v.entry.reserved - count) ≡ v.entry.reserved = omega arith in
-      sym (append-nil (first_apart s v w count))
-      ∙ ap (λ xs. first_apart s v w count ++ xs)
+      sym (append-nil (lebs_apart s v w count))
+      ∙ ap (λ xs. lebs_apart s v w count ++ xs)
       (sym (pass_none apart (0 + count) (v.entry.reserved - count) (λ k low high. apart_beyond k (omega arith))))
       ∙ sym (passed_more apart count (v.entry.reserved - count))
-      ∙ ap (λ n. first_apart s v w n) total
+      ∙ ap (λ n. lebs_apart s v w n) total
+
+  listed : (n : ℕ) → n ≡ count → told_of id (ranges_after None (lebs_apart s v w n)) ≡ leb_differences s id v w
+  listed n all =
+      ap (λ k. told_of id (ranges_after None (lebs_apart s v w k))) all
+      ∙ ap (λ ns. told_of id (ranges_after None ns)) all_found
+      ∙ sym (chosen (usable s v.entry == usable s w.entry) (told_of id (ranges_after None (lebs_apart s v w v.entry.reserved))) []
+      ((unsigned_Decides (usable s v.entry) (usable s w.entry)).1 size_is))
 
   -- once all of them were found, these are the differences
   pub all_told : (ranges : Ranges) (n : ℕ) → n ≡ count → HaveFound s id v w ranges n
       → told_with ranges [] ≡ leb_differences s id v w
   all_told ranges n all found =
-      sym (found []) ∙ ap (λ ns. told_of id (ranges_after None ns)) (append-nil (first_apart s v w n))
-      ∙ ap (λ k. told_of id (ranges_after None (first_apart s v w k))) all
-      ∙ ap (λ ns. told_of id (ranges_after None ns)) all_found
-      ∙ sym (chosen (usable s v.entry == usable s w.entry) (told_of id (ranges_after None (lebs_apart s v w))) []
-      ((unsigned_Decides (usable s v.entry) (usable s w.entry)).1 size_is))
+      sym (found []) ∙ ap (λ ns. told_of id (ranges_after None ns)) (append-nil (lebs_apart s v w n)) ∙ listed n all
+
+  pub all_alike : (brief : Bool) (ranges : Ranges) (n : ℕ) → n ≡ count → HaveTold brief s id v w ranges n
+      → Tells brief (told_with ranges []) (leb_differences s id v w)
+  all_alike false ranges n all told = all_told ranges n all told
+  all_alike true ranges n all told =
+      subst (λ (ds : List Difference). (told_with ranges [] ≡ []) ↔ (ds ≡ [])) (listed n all) (
+        λ none. ap (λ ns. told_of id (ranges_after None ns)) (told.0 none),
+        λ none. told.1 (ranges_none (lebs_apart s v w n)
+            (map_none (λ (e : ℕ × ℕ). difference.Lebs id e.0 e.1) (ranges_after None (lebs_apart s v w n)) none)),
+      )
 
   -- one that is read differently is told
   pub some_told : (n : ℕ) → n < count → apart n ≡ true → leb_differences s id v w ≢ []
@@ -150,14 +164,16 @@ module _ (s : Sizes) (id : ℕ) (v w : Volume) (one other : Extent) (a b : ℕ �
       let few = left.few in
       false≢true (sym (none_apart s id v w size_is none n (omega arith)) ∙ differs)
 
-  next : (n : ℕ) → (test : Bool) → apart n ≡ test → (rest : List ℕ)
-      → first_apart s v w (n + 1) ++ rest ≡ first_apart s v w n ++ (cond test (n ∷ []) [] ++ rest)
-  next n test is rest =
+  grown : (n : ℕ) → (test : Bool) → apart n ≡ test → lebs_apart s v w (n + 1) ≡ lebs_apart s v w n ++ cond test (n ∷ []) []
+  grown n test is =
       let here : 0 + n ≡ n = omega arith in
-      let more : first_apart s v w (n + 1) ≡ first_apart s v w n ++ cond test (n ∷ []) [] =
-      passed_more apart n 1 ∙ ap (λ k. first_apart s v w n ++ cond (apart k) (k ∷ []) []) here
-      ∙ ap (λ t. first_apart s v w n ++ cond t (n ∷ []) []) is in
-      ap (λ xs. xs ++ rest) more ∙ append_assoc (first_apart s v w n) (cond test (n ∷ []) []) rest
+      passed_more apart n 1 ∙ ap (λ k. lebs_apart s v w n ++ cond (apart k) (k ∷ []) []) here
+      ∙ ap (λ t. lebs_apart s v w n ++ cond t (n ∷ []) []) is
+
+  next : (n : ℕ) → (test : Bool) → apart n ≡ test → (rest : List ℕ)
+      → lebs_apart s v w (n + 1) ++ rest ≡ lebs_apart s v w n ++ (cond test (n ∷ []) [] ++ rest)
+  next n test is rest =
+      ap (λ xs. xs ++ rest) (grown n test is) ∙ append_assoc (lebs_apart s v w n) (cond test (n ∷ []) []) rest
 
   -- one more LEB that is read the same
   pub one_same : (ranges : Ranges) (n : ℕ) → apart n ≡ false → HaveFound s id v w ranges n
@@ -171,9 +187,36 @@ module _ (s : Sizes) (id : ℕ) (v w : Volume) (one other : Extent) (a b : ℕ �
   one_apart old new n is found more rest =
       ap (λ ns. told_of id (ranges_after None ns)) (next n true is rest) ∙ found (n ∷ rest) ∙ more rest
 
+  -- the same, in brief or not
+  pub told_same : (brief : Bool) (ranges : Ranges) (n : ℕ) → apart n ≡ false → HaveTold brief s id v w ranges n
+      → HaveTold brief s id v w ranges (n + 1)
+  told_same false ranges n is told = one_same ranges n is told
+  told_same true ranges n is told =
+      subst (λ (ns : List ℕ). (told_with ranges [] ≡ []) ↔ (ns ≡ []))
+      (sym (grown n false is ∙ append-nil (lebs_apart s v w n))) told
+
+  one_there : (n : ℕ) → n ∷ [] ≡ [] → ⊥
+  one_there n e = cc
+
+  pub told_apart : (brief : Bool) (old new : Ranges) (n : ℕ) → apart n ≡ true → HaveTold brief s id v w old n
+      → AddsLeb brief n old new → HaveTold brief s id v w new (n + 1)
+  told_apart false old new n is told adds = one_apart old new n is told adds
+  told_apart true old new n is told some = (
+    λ none. absurd (some none),
+    λ none. absurd (one_there n (both_none (lebs_apart s v w n) (n ∷ []) (sym (grown n true is) ∙ none)).1),
+  )
+
 -- none is found yet
 pub none_found : (s : Sizes) (id : ℕ) (v w : Volume) (ranges : Ranges) → ranges.id ≡ id → ranges.told.items ≡ []
     → ranges.begun ≡ None → HaveFound s id v w ranges 0
 none_found s id v w ranges number told begun rest =
     ap (λ o. told_of id (ranges_after o rest)) (sym begun) ∙ ap (λ i. told_of i (ranges_after ranges.begun rest)) (sym number)
     ∙ ap (λ xs. xs ++ told_of ranges.id (ranges_after ranges.begun rest)) (sym told)
+
+pub none_yet : (brief : Bool) (s : Sizes) (id : ℕ) (v w : Volume) (ranges : Ranges) → ranges.id ≡ id → ranges.told.items ≡ []
+    → ranges.begun ≡ None → HaveTold brief s id v w ranges 0
+none_yet false s id v w ranges number told begun = none_found s id v w ranges number told begun
+none_yet true s id v w ranges number told begun = (
+  λ none. refl,
+  λ none. sym (none_found s id v w ranges number told begun []),
+)

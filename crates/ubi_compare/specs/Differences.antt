@@ -64,11 +64,10 @@ abbrev pub read_apart : Result (List ℕ) ReadError → Result (List ℕ) ReadEr
 read_apart (Ok t) (Ok u) = not (same_bytes t u)
 read_apart _ _ = false
 
--- the LEBs that can be read on both sides and read differently
-abbrev pub lebs_apart : Sizes → Volume → Volume → List ℕ
-lebs_apart s v w =
-    filter (λ lnum. read_apart (leb_read s v.entry lnum v.content) (leb_read s w.entry lnum w.content))
-    (range_with_len 0 v.entry.reserved)
+-- of the first n LEBs, those that can be read on both sides and read differently
+abbrev pub lebs_apart : Sizes → Volume → Volume → ℕ → List ℕ
+lebs_apart s v w n =
+    filter (λ lnum. read_apart (leb_read s v.entry lnum v.content) (leb_read s w.entry lnum w.content)) (range_with_len 0 n)
 
 -- the ranges of consecutive numbers in a rising list, each with its first and its last, where one has begun or none
 abbrev pub ranges_after : Option (ℕ × ℕ) → List ℕ → List (ℕ × ℕ)
@@ -82,7 +81,7 @@ ranges_after (Some r) (n ∷ ns) =
 abbrev pub leb_differences : Sizes → ℕ → Volume → Volume → List Difference
 leb_differences s id v w =
     if usable s v.entry == usable s w.entry
-    then map (λ (r : ℕ × ℕ). difference.Lebs id r.0 r.1) (ranges_after None (lebs_apart s v w))
+    then map (λ (r : ℕ × ℕ). difference.Lebs id r.0 r.1) (ranges_after None (lebs_apart s v w v.entry.reserved))
     else []
 
 -- what a volume reads

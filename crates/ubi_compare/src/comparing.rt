@@ -86,7 +86,8 @@ fn same_surveyed<L: BlockSource, R: BlockSource>(
 }
 
 /// Whether two sources of one geometry mean the same, as [`same`] says of images. It holds one eraseblock of contents of
-/// each, and reads those of a volume only where the tables agree, and up to the first that differ.
+/// each, reads those of a volume only where the tables agree, and ends with the first that differ; but two static volumes are
+/// read to their ends, since one that isn't whole reads nothing.
 ///
 /// # Errors
 ///
@@ -118,9 +119,8 @@ pub fn same_from<L: BlockSource, R: BlockSource>(
     same_surveyed(alloc, geometry, left, right, &here, &there)
 }
 
-/// In what two sources of one geometry differ, whose list is empty exactly if they mean the same. It holds one eraseblock of contents of each, and
-/// reads each logical eraseblock once on either side; but for static volumes of which one isn't whole, or which lie in other numbers of
-/// these: they are read twice.
+/// In what two sources of one geometry differ, whose list is empty exactly if they mean the same. It holds one eraseblock of contents
+/// of each, and reads each logical eraseblock once on either side; but two static volumes of which one isn't whole are read twice.
 ///
 /// # Errors
 ///

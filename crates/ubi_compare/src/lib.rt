@@ -30,6 +30,7 @@ mod errors;
 mod found;
 pub mod laws;
 mod lebs;
+mod pieces;
 mod ranges;
 mod records;
 mod shares;

@@ -1,6 +1,6 @@
 //! Ranges of logical eraseblocks that read differently.
 
-ghost use Rattle.std.specs.Prelude.{◌≡◌, ◌∷◌, ◌+◌, ◌==◌, [], ℕ, IfOk, List, None, OnOk};
+ghost use Rattle.std.specs.Prelude.{◌≡◌, ◌↔◌, ◌∷◌, ◌+◌, ◌==◌, [], ℕ, IfOk, IsTrue, List, None, OnOk};
 ghost use Rattle.ubi_compare.specs.inner.Ranges.{told_with};
 
 use crate::difference::Difference;
@@ -29,6 +29,13 @@ impl Ranges {
             told: Vec::new(alloc),
             begun: None,
         }
+    }
+
+    /// Whether none was found.
+    pub fn is_empty(&self) -> bool
+        ensures { IsTrue result ↔ (told_with self.now [] ≡ []) }
+    {
+        self.begun.is_none() && self.told.is_empty()
     }
 
     /// Ends the range that has begun, if there is one.

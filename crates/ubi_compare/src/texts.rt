@@ -1,45 +1,26 @@
 //! Texts of static volumes, which are checked and compared in one go.
 
-ghost use Rattle.std.specs.Prelude.{◌≡◌, ◌↔◌, ◌*◌, IfErr, IfOk, IfSome, IsTrue, false, length};
+ghost use Rattle.std.specs.Prelude.{◌≡◌, ◌*◌, ◌≤◌, IfErr, IfOk, IfSome, IsTrue, OnOk, false, length};
 ghost use Rattle.ubi_media.specs.Record.{usable};
-ghost use Rattle.ubi_media.specs.declared.vid.VolKind.TheVariants.{Static};
-ghost use Rattle.ubi_scan.specs.Source.{Narrows, blocks_in};
+ghost use Rattle.ubi_scan.specs.Source.{Narrows, WhereHeld, blocks_in, blocks_of};
+ghost use Rattle.ubi_scan.specs.Stream.{IsReadFault, NamesBlock, after};
 ghost use Rattle.ubi_volume.specs.Survey.{IsSurveyOf};
 ghost use Rattle.ubi_compare.specs.Compared.{NamesSide, WhereBothHeld, after_left, after_right};
 ghost use Rattle.ubi_compare.specs.Differences.{content_differences};
 ghost use Rattle.ubi_compare.specs.inner.Found.{Adds};
-ghost use Rattle.ubi_compare.specs.inner.Sides.{IsSideRead, IsSidesError, OfMeanings, OfVolumes};
-ghost use Rattle.ubi_compare.specs.inner.Texts.{ArePieces, AreTexts, BothLie, IsTextOf};
+ghost use Rattle.ubi_compare.specs.inner.Ranges.{AddsLeb};
+ghost use Rattle.ubi_compare.specs.inner.Sides.{IsSidesError, OfMeanings, OfVolumes};
+ghost use Rattle.ubi_compare.specs.inner.Texts.{AreTexts, AreWhole, GoesOn, IsTextOf};
 
 use crate::difference::Difference;
 use crate::errors::CompareFault;
 use crate::found::Found;
+use crate::pieces::{LebsOfBoth, OneText, lebs_of_both, pieces_beside};
 use crate::ranges::Ranges;
-use crate::shares::are_equal;
-use std::alloc::Global;
-use ubi_media::{Geometry, VolKind, VolumeRecord};
-use ubi_scan::BlockSource;
-use ubi_volume::{Surveyed, text_lebs_from, text_piece_from};
-
-/// A static volume without update marker of one of two images.
-#[derive(Clone, Copy)]
-pub struct OneText<'a> {
-    /// What is known of its image.
-    pub survey: &'a Surveyed,
-    /// Its record.
-    pub entry: &'a VolumeRecord,
-}
-
-/// The pieces of two texts in a logical eraseblock.
-#[derive(Clone, Copy)]
-pub struct Pieces {
-    /// The size of the left one in bytes.
-    pub left: u32,
-    /// The size of the right one.
-    pub right: u32,
-    /// Whether they are the same.
-    pub is_same: bool,
-}
+use std::alloc::{AllocError, Global};
+use ubi_media::Geometry;
+use ubi_scan::{BlockSource, StreamError};
+use ubi_volume::{Surveyed, text_piece_from};
 
 /// Two texts that were read.
 #[derive(Drop)]
@@ -48,107 +29,21 @@ pub struct Texts {
     pub left: u64,
     /// The length of the right one.
     pub right: u64,
-    /// The logical eraseblocks that read differently.
+    /// The logical eraseblocks that read differently; in brief the first of them.
     pub ranges: Ranges,
 }
 
-/// Whether a volume is static and has no update marker.
-pub fn is_text(entry: &VolumeRecord) -> bool
-    ensures { IsTrue result ↔ ((entry.now.marker ≡ false) × (entry.now.kind ≡ Static)) }
+/// Adds a logical eraseblock that is read differently; in brief just the first of them.
+fn add_asked(ranges: &mut Ranges, is_brief: bool, lnum: u32) -> Result<(), AllocError>
+    ensures { OnOk result (AddsLeb is_brief lnum ranges.old ranges.new) }
 {
-    !entry.marker && entry.kind == VolKind::Static
-}
-
-/// In how many logical eraseblocks both texts lie, if they are whole. None where one isn't, or they lie in other numbers of these.
-///
-/// # Errors
-///
-/// A read of a side failed.
-fn lebs_of_both<L: BlockSource, R: BlockSource>(
-    geometry: &Geometry,
-    left: &mut L,
-    right: &mut R,
-    here: OneText<'_>,
-    there: OneText<'_>,
-    id: u32,
-    buffer: &mut [u8],
-) -> Result<Option<u32>, CompareFault>
-    requires here { IsTextOf geometry.now (L.known left.old) (L.agrees left.old) id here }
-    requires there { IsTextOf geometry.now (R.known right.old) (R.agrees right.old) id there }
-    requires room { length buffer.old ≡ geometry.now.peb_size }
-    ensures left { L.known left.new ≡ after_left (L.known left.old) result }
-    ensures right { R.known right.new ≡ after_right (R.known right.old) result }
-    ensures left_narrows { Narrows (L.agrees left.old) (L.agrees left.new) }
-    ensures right_narrows { Narrows (R.agrees right.old) (R.agrees right.new) }
-    ensures lebs { IfOk result (λ lebs. IfSome lebs (λ used. WhereBothHeld (L.agrees left.new) (R.agrees right.new) (λ x y. BothLie geometry.now id here.entry there.entry x y used))) }
-    ensures failed { IfErr result (IsSideRead (blocks_in geometry.now (L.known left.old)) (blocks_in geometry.now (R.known right.old))) }
-    ensures named { IfErr result (NamesSide geometry.now (L.failed_at left.new) (R.failed_at right.new)) }
-{
-    let one = match text_lebs_from(geometry, left, here.survey, id, here.entry, buffer) {
-        Ok(Some(used)) => used,
-        Ok(None) => return Ok(None),
-        Err(error) => return Err(CompareFault::Left(error)),
-    };
-    let other = match text_lebs_from(geometry, right, there.survey, id, there.entry, buffer) {
-        Ok(Some(used)) => used,
-        Ok(None) => return Ok(None),
-        Err(error) => return Err(CompareFault::Right(error)),
-    };
-    if one != other {
-        return Ok(None);
+    if is_brief && !ranges.is_empty() {
+        return Ok(());
     }
-    Ok(Some(one))
+    ranges.add(lnum)
 }
 
-/// The pieces of two texts in a logical eraseblock. None where one of them isn't there.
-///
-/// # Errors
-///
-/// A read of a side failed.
-fn pieces_beside<L: BlockSource, R: BlockSource>(
-    geometry: &Geometry,
-    left: &mut L,
-    right: &mut R,
-    here: &Surveyed,
-    there: &Surveyed,
-    id: u32,
-    used: u32,
-    lnum: u32,
-    one: &mut [u8],
-    other: &mut [u8],
-) -> Result<Option<Pieces>, CompareFault>
-    requires here { IsSurveyOf geometry.now (L.known left.old) (L.agrees left.old) here.now }
-    requires there { IsSurveyOf geometry.now (R.known right.old) (R.agrees right.old) there.now }
-    requires one { length one.old ≡ geometry.now.peb_size }
-    requires other { length other.old ≡ geometry.now.peb_size }
-    ensures left { L.known left.new ≡ after_left (L.known left.old) result }
-    ensures right { R.known right.new ≡ after_right (R.known right.old) result }
-    ensures left_narrows { Narrows (L.agrees left.old) (L.agrees left.new) }
-    ensures right_narrows { Narrows (R.agrees right.old) (R.agrees right.new) }
-    ensures read { IfOk result (λ pieces. IfSome pieces (λ p. WhereBothHeld (L.agrees left.new) (R.agrees right.new) (λ x y. ArePieces geometry.now id used lnum x y p))) }
-    ensures failed { IfErr result (IsSideRead (blocks_in geometry.now (L.known left.old)) (blocks_in geometry.now (R.known right.old))) }
-    ensures named { IfErr result (NamesSide geometry.now (L.failed_at left.new) (R.failed_at right.new)) }
-{
-    let size = match text_piece_from(geometry, left, here, id, used, lnum, one) {
-        Ok(Some(size)) => size,
-        Ok(None) => return Ok(None),
-        Err(error) => return Err(CompareFault::Left(error)),
-    };
-    let more = match text_piece_from(geometry, right, there, id, used, lnum, other) {
-        Ok(Some(size)) => size,
-        Ok(None) => return Ok(None),
-        Err(error) => return Err(CompareFault::Right(error)),
-    };
-    prove!(geometry.data_offset() <= geometry.peb_size());
-    let is_same = are_equal(&one[..size as usize], &other[..more as usize]);
-    Ok(Some(Pieces {
-        left: size,
-        right: more,
-        is_same,
-    }))
-}
-
-/// Reads two texts of as many logical eraseblocks side by side. None where one isn't whole.
+/// Reads the first pieces of two texts side by side. None where one of them isn't there.
 ///
 /// # Errors
 ///
@@ -161,7 +56,100 @@ fn texts_beside<L: BlockSource, R: BlockSource>(
     here: OneText<'_>,
     there: OneText<'_>,
     id: u32,
+    lebs: LebsOfBoth,
+    count: u32,
+    is_brief: bool,
+    one: &mut [u8],
+    other: &mut [u8],
+) -> Result<Option<Texts>, CompareFault>
+    requires here { IsTextOf geometry.now (L.known left.old) (L.agrees left.old) id here }
+    requires there { IsTextOf geometry.now (R.known right.old) (R.agrees right.old) id there }
+    requires size { usable geometry.now here.entry.now ≡ usable geometry.now there.entry.now }
+    requires count { (count ≤ lebs.left) × (count ≤ lebs.right) }
+    requires one { length one.old ≡ geometry.now.peb_size }
+    requires other { length other.old ≡ geometry.now.peb_size }
+    ensures left { L.known left.new ≡ after_left (L.known left.old) result }
+    ensures right { R.known right.new ≡ after_right (R.known right.old) result }
+    ensures left_narrows { Narrows (L.agrees left.old) (L.agrees left.new) }
+    ensures right_narrows { Narrows (R.agrees right.old) (R.agrees right.new) }
+    ensures read { IfOk result (λ texts. IfSome texts (λ t. WhereBothHeld (L.agrees left.new) (R.agrees right.new) (λ x y. AreTexts is_brief geometry.now id lebs count here.entry.survey.now there.entry.survey.now x y t))) }
+    ensures small { IfOk result (λ texts. IfSome texts (λ t. (t.left ≤ count * 0xFFFFFFFF) × (t.right ≤ count * 0xFFFFFFFF))) }
+    ensures failed { IfErr result (IsSidesError (blocks_in geometry.now (L.known left.old)) (blocks_in geometry.now (R.known right.old))) }
+    ensures named { IfErr result (NamesSide geometry.now (L.failed_at left.new) (R.failed_at right.new)) }
+{
+    let mut bytes = 0;
+    let mut others = 0;
+    let mut ranges = Ranges::new(alloc, id);
+    for lnum in 0..count {
+        let (a, b) = (here.survey, there.survey);
+        let Some(pieces) = pieces_beside(geometry, left, right, a, b, id, lebs, lnum, one, other)?
+        else {
+            return Ok(None);
+        };
+        bytes += u64::from(pieces.left);
+        others += u64::from(pieces.right);
+        if !pieces.is_same {
+            add_asked(&mut ranges, is_brief, lnum)?;
+        }
+    }
+    Ok(Some(Texts {
+        left: bytes,
+        right: others,
+        ranges,
+    }))
+}
+
+/// The length in bytes of a text, whose pieces below the logical eraseblock `first` have so many bytes together. The others are read. None
+/// where one of them isn't there.
+///
+/// # Errors
+///
+/// Read where a read failed.
+fn length_from<S: BlockSource>(
+    geometry: &Geometry,
+    source: &mut S,
+    survey: &Surveyed,
+    id: u32,
     used: u32,
+    first: u32,
+    bytes: u64,
+    buffer: &mut [u8],
+) -> Result<Option<u64>, StreamError>
+    requires survey { IsSurveyOf geometry.now (S.known source.old) (S.agrees source.old) survey.now }
+    requires inside { first ≤ used }
+    requires small { bytes ≤ first * 0xFFFFFFFF }
+    requires room { length buffer.old ≡ geometry.now.peb_size }
+    ensures known { S.known source.new ≡ after (S.known source.old) result }
+    ensures narrows { Narrows (S.agrees source.old) (S.agrees source.new) }
+    ensures read { IfOk result (λ whole. IfSome whole (λ n. WhereHeld (S.agrees source.new) (λ x. GoesOn geometry.now (blocks_of geometry.now x) id used first bytes n))) }
+    ensures failed { IfErr result (IsReadFault (blocks_in geometry.now (S.known source.old))) }
+    ensures named { IfErr result (NamesBlock geometry.now (S.failed_at source.new)) }
+{
+    let mut bytes = bytes;
+    for lnum in first..used {
+        let Some(size) = text_piece_from(geometry, source, survey, id, used, lnum, buffer)? else {
+            return Ok(None);
+        };
+        bytes += u64::from(size);
+    }
+    Ok(Some(bytes))
+}
+
+/// Reads two texts: side by side as far as both go, and then the rest of the longer one. None where one of them isn't whole.
+///
+/// # Errors
+///
+/// A read of a side failed, or memory ran out.
+fn whole_texts<L: BlockSource, R: BlockSource>(
+    alloc: Global,
+    geometry: &Geometry,
+    left: &mut L,
+    right: &mut R,
+    here: OneText<'_>,
+    there: OneText<'_>,
+    id: u32,
+    lebs: LebsOfBoth,
+    is_brief: bool,
     buffers: &mut [u8],
 ) -> Result<Option<Texts>, CompareFault>
     requires here { IsTextOf geometry.now (L.known left.old) (L.agrees left.old) id here }
@@ -172,35 +160,54 @@ fn texts_beside<L: BlockSource, R: BlockSource>(
     ensures right { R.known right.new ≡ after_right (R.known right.old) result }
     ensures left_narrows { Narrows (L.agrees left.old) (L.agrees left.new) }
     ensures right_narrows { Narrows (R.agrees right.old) (R.agrees right.new) }
-    ensures read { IfOk result (λ texts. IfSome texts (λ t. WhereBothHeld (L.agrees left.new) (R.agrees right.new) (λ x y. AreTexts geometry.now id used used here.entry.survey.now there.entry.survey.now x y t))) }
+    ensures read { IfOk result (λ texts. IfSome texts (λ t. WhereBothHeld (L.agrees left.new) (R.agrees right.new) (λ x y. AreWhole is_brief geometry.now id lebs here.entry.survey.now there.entry.survey.now x y t))) }
     ensures failed { IfErr result (IsSidesError (blocks_in geometry.now (L.known left.old)) (blocks_in geometry.now (R.known right.old))) }
     ensures named { IfErr result (NamesSide geometry.now (L.failed_at left.new) (R.failed_at right.new)) }
 {
     let (one, other) = buffers.split_at_mut(geometry.peb_size() as usize);
-    let mut bytes = 0;
-    let mut others = 0;
-    let mut ranges = Ranges::new(alloc, id);
-    for lnum in 0..used {
-        let (a, b) = (here.survey, there.survey);
-        let Some(pieces) = pieces_beside(geometry, left, right, a, b, id, used, lnum, one, other)?
-        else {
-            return Ok(None);
-        };
-        bytes += u64::from(pieces.left);
-        others += u64::from(pieces.right);
-        if !pieces.is_same {
-            ranges.add(lnum)?;
-        }
-    }
+    let count = lebs.left.min(lebs.right);
+    let Some(texts) = texts_beside(
+        alloc, geometry, left, right, here, there, id, lebs, count, is_brief, one, other,
+    )?
+    else {
+        return Ok(None);
+    };
+    let bytes = match length_from(
+        geometry,
+        left,
+        here.survey,
+        id,
+        lebs.left,
+        count,
+        texts.left,
+        one,
+    ) {
+        Ok(Some(bytes)) => bytes,
+        Ok(None) => return Ok(None),
+        Err(error) => return Err(CompareFault::Left(error)),
+    };
+    let others = match length_from(
+        geometry,
+        right,
+        there.survey,
+        id,
+        lebs.right,
+        count,
+        texts.right,
+        other,
+    ) {
+        Ok(Some(bytes)) => bytes,
+        Ok(None) => return Ok(None),
+        Err(error) => return Err(CompareFault::Right(error)),
+    };
     Ok(Some(Texts {
         left: bytes,
         right: others,
-        ranges,
+        ranges: texts.ranges,
     }))
 }
 
-/// Adds in what two texts differ, unless one isn't whole or they lie in other numbers of logical eraseblocks. Whether it did; else
-/// nothing was added.
+/// Adds in what two texts differ, unless one isn't whole. Whether it did; else nothing was added.
 ///
 /// # Errors
 ///
@@ -230,10 +237,13 @@ pub fn compare_texts<L: BlockSource, R: BlockSource>(
     ensures named { IfErr result (NamesSide geometry.now (L.failed_at left.new) (R.failed_at right.new)) }
 {
     let (buffer, _) = buffers.split_at_mut(geometry.peb_size() as usize);
-    let Some(used) = lebs_of_both(geometry, left, right, here, there, id, buffer)? else {
+    let Some(lebs) = lebs_of_both(geometry, left, right, here, there, id, buffer)? else {
         return Ok(false);
     };
-    let Some(texts) = texts_beside(alloc, geometry, left, right, here, there, id, used, buffers)?
+    let is_brief = found.is_brief;
+    let Some(texts) = whole_texts(
+        alloc, geometry, left, right, here, there, id, lebs, is_brief, buffers,
+    )?
     else {
         return Ok(false);
     };

@@ -15,9 +15,10 @@ use crate::difference::{Difference, Side};
 use crate::errors::CompareFault;
 use crate::found::Found;
 use crate::lebs::compare_lebs;
+use crate::pieces::{OneText, is_text};
 use crate::records::compare_records;
 use crate::sides::{OneSide, compare_lengths, condition_of, is_same_condition};
-use crate::texts::{OneText, compare_texts, is_text};
+use crate::texts::compare_texts;
 use std::alloc::Global;
 use ubi_media::{Geometry, VolumeRecord};
 use ubi_scan::BlockSource;
@@ -80,7 +81,7 @@ fn compare_contents<L: BlockSource, R: BlockSource>(
     )
 }
 
-/// Adds in what a volume reads differently on the two sides. The cases are told first, so that a text is read twice.
+/// Adds in what a volume reads differently on the two sides. The cases are told first, for which a text is read.
 ///
 /// # Errors
 ///
@@ -144,8 +145,8 @@ fn are_texts(entry: &VolumeRecord, other: &VolumeRecord) -> bool
     is_text(entry) && is_text(other) && entry.alignment == other.alignment
 }
 
-/// Adds in what a volume reads differently on the two sides. Two texts are read side by side first, each once; if one isn't whole, or
-/// they lie in other numbers of logical eraseblocks, their cases are told after all.
+/// Adds in what a volume reads differently on the two sides. Two texts are read side by side first, each once; if one isn't whole,
+/// their cases are told after all.
 ///
 /// # Errors
 ///

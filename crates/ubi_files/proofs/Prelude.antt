@@ -11,7 +11,7 @@ pub use Rattle.std.proofs.lemmas.List.Elements.{filter_map-append}
 pub use Rattle.std.proofs.lemmas.List.Splits.{length-slice_split}
 pub use Rattle.std.proofs.lemmas.List.Sums.{sum_by-append}
 pub use Rattle.std.proofs.lemmas.Nat.{div-add-mod', div-mul-add, mod-mul-add, mod_below, mul-le}
-pub use Rattle.std.proofs.lemmas.Result.{IfOk-weaker, err_from_is_err_and}
+pub use Rattle.std.proofs.lemmas.Result.{err_from_is_err_and}
 pub use Rattle.std.specs.Bool.{then_some}
 pub use Rattle.std.specs.Borrow.{Bor}
 pub use Rattle.std.specs.Io.{ReadsAtMost}
@@ -31,7 +31,7 @@ pub use Rattle.ubi_files.specs.Dump.{Fits, as_read, marks_of, misfit_of, most_of
 pub use Rattle.ubi_files.specs.Numbers.{sizes_of}
 pub use Rattle.ubi_files.specs.OverFile.{bad_limit, cannot_read, unfit, unfit_whole, unreadable}
 pub use Rattle.ubi_files.specs.Row.{row_bytes}
-pub use Rattle.ubi_files.specs.Told.{Tells, outcome, read_failed}
+pub use Rattle.ubi_files.specs.Told.{Tells}
 pub use Rattle.ubi_files.specs.Views.{misfit, pages_from, pages_of, part_len, part_of}
 pub use Rattle.ubi_files.specs.declared.bad_blocks.BlockRange.{BlockRange}
 pub use Rattle.ubi_files.specs.declared.dump.Dump.{Dump}

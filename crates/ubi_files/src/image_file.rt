@@ -4,8 +4,6 @@ ghost use Rattle.std.specs.Io.KnownBytes.{Consumes};
 ghost use Rattle.std.specs.Prelude.{◌≡◌, ◌+◌, ◌*◌, ◌≤◌, IfErr, IfOk, IfSome, List, MatchResult, None, OnErr, codes, vec_len, ℕ};
 ghost use Rattle.ubi_media.specs.Limits.{first_broken};
 ghost use Rattle.ubi_scan.specs.Image.{judged};
-ghost use Rattle.ubi_files.specs.AfterRun.{IsNoWrite};
-ghost use Rattle.ubi_files.specs.Told.{IsTold};
 ghost use Rattle.ubi_files.specs.Answer.{Gives, says};
 ghost use Rattle.ubi_files.specs.Disk.{IsJudgedOf};
 ghost use Rattle.ubi_files.specs.Lines.{file_line, geometry_line};
@@ -137,30 +135,6 @@ pub fn allowed_geometry(alloc: Global, numbers: Numbers) -> Result<Geometry, Unr
     match geometry_of(numbers) {
         Ok(geometry) => Ok(geometry),
         Err(limit) => Err(Unread::Told(limit_line(alloc, limit)?)),
-    }
-}
-
-/// What is told of work over a file once it is done: its outcome, or the line of the file, where a read of it failed.
-///
-/// # Errors
-///
-/// Memory ran out.
-pub fn told(
-    alloc: Global,
-    work: Result<Outcome, ToolError>,
-    path: &str,
-) -> Result<Outcome, AllocError>
-    requires { IfErr work IsNoWrite }
-    ensures { IfOk result (IsTold work path.now) }
-{
-    match work {
-        Ok(outcome) => Ok(outcome),
-        Err(error) => match error {
-            ToolError::Read => unread_line(alloc, path),
-            ToolError::Memory => Err(AllocError),
-            // Nothing is written.
-            ToolError::Write => unreachable!(),
-        },
     }
 }
 

@@ -31,7 +31,7 @@ pub use disk::{Disk, OutputFile, WholeFile};
 pub use dump::Dump;
 pub use file_row::{FileRow, SizedFile};
 pub use host::{Host, HostFile};
-pub use image_file::{ImageFile, Unread, allowed_geometry, load, told, unread_file, unread_line};
+pub use image_file::{ImageFile, Unread, allowed_geometry, load, unread_file, unread_line};
 pub use late_file::{LateFile, Target};
 pub use lines::{
     file_line, geometry_line, misfit_line, put_number, put_word, refusal_line, refused,

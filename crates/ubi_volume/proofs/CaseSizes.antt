@@ -29,14 +29,9 @@ module _ (s : Sizes) (bytes : List ℕ) (found : Found) (scan : IsScan s (blocks
     pub held_checked : h.used_ebs ≡ used → check text ≡ h.data_crc → PieceIs s (blocks_of s bytes) vol used lnum (Some text)
     held_checked u right = piece_checked s (blocks_of s bytes) scan.clean vol used lnum p h text wins (sym e) whole u right
 
-    pub size_checked : h.used_ebs ≡ used → check text ≡ h.data_crc
-        → PieceSizeIs s (blocks_of s bytes) vol used lnum (Some size)
-    size_checked u right = (Some text, held_checked u right, ap Some (sym long))
-
-    pub size_unchecked : ((h.used_ebs ≡ used) × (check text ≡ h.data_crc) → ⊥)
-        → PieceSizeIs s (blocks_of s bytes) vol used lnum None
-    size_unchecked other =
-        (None, piece_unchecked s (blocks_of s bytes) scan.clean vol used lnum p h text wins (sym e) whole other, refl)
+    pub held_unchecked : ((h.used_ebs ≡ used) × (check text ≡ h.data_crc) → ⊥)
+        → PieceIs s (blocks_of s bytes) vol used lnum None
+    held_unchecked other = piece_unchecked s (blocks_of s bytes) scan.clean vol used lnum p h text wins (sym e) whole other
 
 -- the pieces read so far
 module _ (s : Sizes) (bs : List (List ℕ)) (vol used : ℕ) where

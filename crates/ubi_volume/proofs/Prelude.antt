@@ -114,9 +114,10 @@ pub use Rattle.ubi_volume.specs.PageLaws.{LesserPage, image_with_page, meaning_w
 pub use Rattle.ubi_volume.specs.Places.{AreListed, ArePlaces, ArePlacesError, ArePlacesOf, AreWithin, CaseFits, Placed, case_of}
 pub use Rattle.ubi_volume.specs.Reading.{leb_text, lebs_text, volume_len, volume_read}
 pub use Rattle.ubi_volume.specs.Survey.{IsAttachedOf, IsSurvey, IsSurveyOf, Seen}
-pub use Rattle.ubi_volume.specs.Texts.{TextLebs}
+pub use Rattle.ubi_volume.specs.Texts.{RawIs, TextLebs}
 pub use Rattle.ubi_volume.specs.Wrote.{All, First, IsWroteError, NotAll, Wanted, Wrote}
 pub use Rattle.ubi_volume.specs.declared.attached.BlockState.{BlockState}
+pub use Rattle.ubi_volume.specs.declared.cases.RawPiece.{RawPiece}
 pub use Rattle.ubi_volume.specs.declared.content.Content.{Content}
 pub use Rattle.ubi_volume.specs.declared.content.Volume.{Volume}
 pub use Rattle.ubi_volume.specs.declared.errors.MeaningCause.{MeaningCause}

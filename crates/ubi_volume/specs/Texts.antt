@@ -1,6 +1,7 @@
 -- The text of a static volume, piece by piece.
-use Rattle.std.specs.Prelude.{◌≡◌, ℕ, ◌<◌, ◌≤◌, ◌⊎◌, List, None, Option, MatchOption, Some}
+use Rattle.std.specs.Prelude.{◌≡◌, ◌≢◌, ℕ, ◌≤◌, ◌⊎◌, List, None, Option, MatchOption, Some}
 use Rattle.std.specs.Option.{option_map_or}
+use Rattle.ubi_media.specs.Check.{check}
 use Rattle.ubi_media.specs.Geometry.{Sizes}
 use Rattle.ubi_media.specs.declared.record.VolumeRecord.{VolumeRecord}
 use Rattle.ubi_scan.specs.Image.{block}
@@ -22,6 +23,13 @@ abbrev pub PieceIs : Sizes → List (List ℕ) → ℕ → ℕ → ℕ → Optio
 PieceIs s bs vol used lnum held = MatchOption held
     ((p : ℕ) → Wins s bs (vol, lnum) p → IsPiece s bs used p → ⊥)
     (λ text. (p : ℕ) × Wins s bs (vol, lnum) p × IsPiece s bs used p × (text ≡ piece s bs p))
+
+-- the data of a piece, unchecked, and the check that its header says: it is the piece if it has that check, and else there is none; or there
+-- is none
+abbrev pub RawIs : Sizes → List (List ℕ) → ℕ → ℕ → ℕ → Option (List ℕ × ℕ) → Type 0
+RawIs s bs vol used lnum None = PieceIs s bs vol used lnum None
+RawIs s bs vol used lnum (Some (text, crc)) =
+    (check text ≡ crc → PieceIs s bs vol used lnum (Some text)) × (check text ≢ crc → PieceIs s bs vol used lnum None)
 
 -- in how many LEBs a text lies that is whole if all its pieces are there; or none, where it isn't whole
 abbrev pub TextLebs : Sizes → List (List ℕ) → ℕ → VolumeRecord → Option ℕ → Type 0

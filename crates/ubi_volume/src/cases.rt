@@ -2,7 +2,6 @@
 
 ghost use Rattle.std.specs.FinMap as finite;
 ghost use Rattle.std.specs.Prelude.{◌≡◌, ◌↔◌, ◌≤◌, IfErr, IfOk, IfSome, IsSome, IsTrue, Some, None, false, length, option_map, take};
-ghost use Rattle.ubi_media.specs.Check.{check};
 ghost use Rattle.ubi_media.specs.Geometry.{leb_size};
 ghost use Rattle.ubi_media.specs.Record.{rec_fault};
 ghost use Rattle.ubi_media.specs.declared.vid.VolKind.TheVariants.{Static};
@@ -12,7 +11,7 @@ ghost use Rattle.ubi_scan.specs.Stream.{IsReadFault, IsScanOf, NamesBlock, after
 ghost use Rattle.ubi_volume.specs.Accepts.{NoMismatch};
 ghost use Rattle.ubi_volume.specs.Places.{CaseFits, IsReadFailure};
 ghost use Rattle.ubi_volume.specs.Survey.{IsSurveyOf, TellsCase};
-ghost use Rattle.ubi_volume.specs.Texts.{PieceIs, TextLebs};
+ghost use Rattle.ubi_volume.specs.Texts.{PieceIs, RawIs, TextLebs};
 ghost use Rattle.ubi_volume.specs.inner.Cases.{AreCases, AreNumbered, CaseIs, PieceSizeIs};
 ghost use Rattle.ubi_volume.specs.inner.Gathered.{UsedIs};
 ghost use Rattle.ubi_volume.specs.inner.Surveying.{AreChecked};
@@ -20,7 +19,7 @@ ghost use Rattle.ubi_volume.specs.inner.Surveying.{AreChecked};
 use crate::places::PlaceContent;
 use crate::surveyed::Surveyed;
 use std::alloc::{AllocError, Global};
-use ubi_media::{Geometry, VidHeader, VolKind, VolumeRecord, crc};
+use ubi_media::{Geometry, VolKind, VolumeRecord, crc};
 use ubi_scan::{BlockSource, Scan, StreamError, read_leb, read_member};
 use ubi_table::Table;
 
@@ -50,11 +49,52 @@ fn used_ebs<S: BlockSource>(
     }
 }
 
-/// Whether a header says that its volume uses so many logical eraseblocks, and that its data are these.
-fn holds_piece(header: &VidHeader, used: u32, text: &[u8]) -> bool
-    ensures { IsTrue result ↔ ((header.now.used_ebs ≡ used) × (check text.now ≡ header.now.data_crc)) }
+/// A piece of a text as its eraseblock holds it, unchecked.
+#[derive(Clone, Copy)]
+pub struct RawPiece {
+    /// Its size in bytes.
+    pub size: u32,
+    /// The check that its header says that it has (`data_crc` of `struct ubi_vid_hdr`).
+    pub data_crc: u32,
+}
+
+/// The piece that the winner of a logical eraseblock holds of a text of `used` of them, unchecked. None where there is no winner, or it
+/// says that the volume uses another number of them. The buffer begins with the piece then.
+fn raw_piece<S: BlockSource>(
+    geometry: &Geometry,
+    source: &mut S,
+    scan: &Scan,
+    id: u32,
+    used: u32,
+    lnum: u32,
+    buffer: &mut [u8],
+) -> Result<Option<RawPiece>, StreamError>
+    requires scan { IsScanOf geometry.now (S.known source.old) (S.agrees source.old) scan.now }
+    requires room { length buffer.old ≡ geometry.now.peb_size }
+    ensures known { S.known source.new ≡ after (S.known source.old) result }
+    ensures narrows { Narrows (S.agrees source.old) (S.agrees source.new) }
+    ensures won { IfOk result (λ raw. IsSome raw → IsSome (finite.get scan.now.winners (id, lnum))) }
+    ensures held { IfOk result (λ raw. WhereHeld (S.agrees source.new) (λ bytes. RawIs geometry.now (blocks_of geometry.now bytes) id used lnum (option_map (λ r. (take r.size buffer.new, r.data_crc)) raw))) }
+    ensures fits { IfOk result (λ raw. IfSome raw (λ r. r.size ≤ leb_size geometry.now)) }
+    ensures failed { IfErr result (IsReadFault (blocks_in geometry.now (S.known source.old))) }
+    ensures named { IfErr result (NamesBlock geometry.now (S.failed_at source.new)) }
 {
-    header.used_ebs == used && crc(text) == header.data_crc
+    let Some(p) = scan.winner(id, lnum) else {
+        return Ok(None);
+    };
+    let Some(header) = read_member(source, geometry, p, buffer)? else {
+        return Ok(None);
+    };
+    let size = header.data_size.min(geometry.leb_size());
+    prove!(geometry.data_offset() <= geometry.peb_size());
+    let text = &mut buffer[..size as usize];
+    read_leb(source, geometry, p, text)?;
+    if header.used_ebs == used {
+        let data_crc = header.data_crc;
+        Ok(Some(RawPiece { size, data_crc }))
+    } else {
+        Ok(None)
+    }
 }
 
 /// The size in bytes of the piece that the winner of a logical eraseblock holds of a text of `used` of them. None where
@@ -79,18 +119,13 @@ fn piece_size<S: BlockSource>(
     ensures failed { IfErr result (IsReadFault (blocks_in geometry.now (S.known source.old))) }
     ensures named { IfErr result (NamesBlock geometry.now (S.failed_at source.new)) }
 {
-    let Some(p) = scan.winner(id, lnum) else {
+    let Some(raw) = raw_piece(geometry, source, scan, id, used, lnum, buffer)? else {
         return Ok(None);
     };
-    let Some(header) = read_member(source, geometry, p, buffer)? else {
-        return Ok(None);
-    };
-    let size = header.data_size.min(geometry.leb_size());
     prove!(geometry.data_offset() <= geometry.peb_size());
-    let text = &mut buffer[..size as usize];
-    read_leb(source, geometry, p, text)?;
-    if holds_piece(&header, used, text) {
-        Ok(Some(size))
+    let check = crc(&buffer[..raw.size as usize]);
+    if check == raw.data_crc {
+        Ok(Some(raw.size))
     } else {
         Ok(None)
     }
@@ -306,4 +341,31 @@ pub fn text_piece_from<S: BlockSource>(
     ensures named { IfErr result (NamesBlock geometry.now (S.failed_at source.new)) }
 {
     piece_size(geometry, source, survey.scan(), id, used, lnum, buffer)
+}
+
+/// The piece of the text of a static volume of a surveyed source, as [`text_piece_from`] gives it, but unchecked: it isn't there if its bytes
+/// have another check than it says.
+///
+/// # Errors
+///
+/// Read where a read failed.
+pub fn raw_piece_from<S: BlockSource>(
+    geometry: &Geometry,
+    source: &mut S,
+    survey: &Surveyed,
+    id: u32,
+    used: u32,
+    lnum: u32,
+    buffer: &mut [u8],
+) -> Result<Option<RawPiece>, StreamError>
+    requires survey { IsSurveyOf geometry.now (S.known source.old) (S.agrees source.old) survey.now }
+    requires room { length buffer.old ≡ geometry.now.peb_size }
+    ensures known { S.known source.new ≡ after (S.known source.old) result }
+    ensures narrows { Narrows (S.agrees source.old) (S.agrees source.new) }
+    ensures held { IfOk result (λ raw. WhereHeld (S.agrees source.new) (λ bytes. RawIs geometry.now (blocks_of geometry.now bytes) id used lnum (option_map (λ r. (take r.size buffer.new, r.data_crc)) raw))) }
+    ensures fits { IfOk result (λ raw. IfSome raw (λ r. r.size ≤ leb_size geometry.now)) }
+    ensures failed { IfErr result (IsReadFault (blocks_in geometry.now (S.known source.old))) }
+    ensures named { IfErr result (NamesBlock geometry.now (S.failed_at source.new)) }
+{
+    raw_piece(geometry, source, survey.scan(), id, used, lnum, buffer)
 }

@@ -47,7 +47,7 @@ mod write;
 
 pub use attached::{Attached, BlockState, attach, attach_from};
 pub use block::{Amount, amount_of, is_blank_part, read_place};
-pub use cases::{case_from, text_lebs_from, text_piece_from};
+pub use cases::{RawPiece, case_from, raw_piece_from, text_lebs_from, text_piece_from};
 pub use content::{Bytes, Content, Lebs, Volume};
 pub use errors::{MeaningCause, MeaningError, ReadError};
 pub use extract::write_places;

@@ -1,10 +1,8 @@
 -- The ranges of LEBs that are found one after the other.
-use Rattle.std.specs.Prelude.{◌≡◌, ℕ, List, ◌++◌, None, filter, map}
-use Rattle.std.specs.List.{range_with_len}
+use Rattle.std.specs.Prelude.{◌≡◌, ◌≢◌, ◌↔◌, ℕ, Bool, true, false, List, [], ◌∷◌, ◌++◌, None, map}
 use Rattle.ubi_media.specs.Geometry.{Sizes}
-use Rattle.ubi_volume.specs.Reading.{leb_read}
 use Rattle.ubi_volume.specs.declared.content.Volume.{Volume}
-use Rattle.ubi_compare.specs.Differences.{ranges_after, read_apart}
+use Rattle.ubi_compare.specs.Differences.{lebs_apart, ranges_after}
 use Rattle.ubi_compare.specs.declared.difference.Difference.{Difference}
 use Rattle.ubi_compare.specs.declared.difference.Difference.TheVariants as difference
 use Rattle.ubi_compare.specs.declared.ranges.Ranges.{Ranges}
@@ -17,12 +15,17 @@ told_of id = map (λ (e : ℕ × ℕ). difference.Lebs id e.0 e.1)
 abbrev pub told_with : Ranges → List ℕ → List Difference
 told_with r rest = r.told.items ++ told_of r.id (ranges_after r.begun rest)
 
--- of the first n LEBs, those that can be read on both sides and read differently
-abbrev pub first_apart : Sizes → Volume → Volume → ℕ → List ℕ
-first_apart s v w n =
-    filter (λ lnum. read_apart (leb_read s v.entry lnum v.content) (leb_read s w.entry lnum w.content)) (range_with_len 0 n)
-
--- these were found
+-- of the first n LEBs these were found
 abbrev pub HaveFound : Sizes → ℕ → Volume → Volume → Ranges → ℕ → Type 0
 HaveFound s id v w ranges n =
-    (rest : List ℕ) → told_of id (ranges_after None (first_apart s v w n ++ rest)) ≡ told_with ranges rest
+    (rest : List ℕ) → told_of id (ranges_after None (lebs_apart s v w n ++ rest)) ≡ told_with ranges rest
+
+-- the same; in brief just whether there is one
+abbrev pub HaveTold : Bool → Sizes → ℕ → Volume → Volume → Ranges → ℕ → Type 0
+HaveTold false s id v w ranges n = HaveFound s id v w ranges n
+HaveTold true s id v w ranges n = (told_with ranges [] ≡ []) ↔ (lebs_apart s v w n ≡ [])
+
+-- a LEB was added; in brief there is one
+abbrev pub AddsLeb : Bool → ℕ → Ranges → Ranges → Type 0
+AddsLeb false lnum old new = (rest : List ℕ) → told_with old (lnum ∷ rest) ≡ told_with new rest
+AddsLeb true lnum old new = told_with new [] ≢ []

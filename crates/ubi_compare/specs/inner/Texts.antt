@@ -1,5 +1,5 @@
 -- Two texts that are read side by side, piece by piece.
-use Rattle.std.specs.Prelude.{◌≡◌, ◌↔◌, ℕ, IsTrue, List, None, Some, false, length}
+use Rattle.std.specs.Prelude.{◌≡◌, ◌↔◌, ℕ, Bool, IsTrue, List, None, Some, false, length, min}
 use Rattle.std.specs.FinMap.{get}
 use Rattle.ubi_media.specs.Geometry.{Sizes}
 use Rattle.ubi_media.specs.Record.{rec_fault, usable}
@@ -11,10 +11,12 @@ use Rattle.ubi_volume.specs.Texts.{PieceIs, TextLebs}
 use Rattle.ubi_volume.specs.inner.Cases.{SizeIsRead}
 use Rattle.ubi_volume.specs.declared.content.Content.TheVariants as content
 use Rattle.ubi_volume.specs.declared.content.Volume.{Volume}
-use Rattle.ubi_compare.specs.inner.Ranges.{HaveFound}
+use Rattle.ubi_compare.specs.inner.Ranges.{HaveTold}
 use Rattle.ubi_compare.specs.inner.Sides.{OfMeanings, OfVolumes}
-use Rattle.ubi_compare.specs.declared.texts.OneText.{OneText}
-use Rattle.ubi_compare.specs.declared.texts.Pieces.{Pieces}
+use Rattle.ubi_compare.specs.declared.ranges.Ranges.{Ranges}
+use Rattle.ubi_compare.specs.declared.pieces.LebsOfBoth.{LebsOfBoth}
+use Rattle.ubi_compare.specs.declared.pieces.OneText.{OneText}
+use Rattle.ubi_compare.specs.declared.pieces.Pieces.{Pieces}
 use Rattle.ubi_compare.specs.declared.texts.Texts.{Texts}
 
 -- a static volume without update marker of a side
@@ -25,17 +27,18 @@ pub record IsTextOf (s : Sizes) (k : Source) (agrees : Agreed) (id : ℕ) (side 
   pub unmarked : side.entry.now.marker ≡ false
   pub static : side.entry.now.kind ≡ kind.Static
 
--- both texts lie in so many LEBs, if they are whole
-abbrev pub BothLie : Sizes → ℕ → OneText → OneText → List ℕ → List ℕ → ℕ → Type 0
-BothLie s id here there x y used =
-    TextLebs s (blocks_of s x) id here.entry.now (Some used) × TextLebs s (blocks_of s y) id there.entry.now (Some used)
+-- the texts lie in so many LEBs, if they are whole
+abbrev pub BothLie : Sizes → ℕ → OneText → OneText → List ℕ → List ℕ → LebsOfBoth → Type 0
+BothLie s id here there x y lebs =
+    TextLebs s (blocks_of s x) id here.entry.now (Some lebs.left)
+    × TextLebs s (blocks_of s y) id there.entry.now (Some lebs.right)
 
 -- the pieces in a LEB were read, and whether they are the same
-pub record ArePieces (s : Sizes) (id used lnum : ℕ) (x y : List ℕ) (p : Pieces) : Type 0 where
+pub record ArePieces (s : Sizes) (id : ℕ) (lebs : LebsOfBoth) (lnum : ℕ) (x y : List ℕ) (p : Pieces) : Type 0 where
   pub one : List ℕ
   pub other : List ℕ
-  pub left : PieceIs s (blocks_of s x) id used lnum (Some one)
-  pub right : PieceIs s (blocks_of s y) id used lnum (Some other)
+  pub left : PieceIs s (blocks_of s x) id lebs.left lnum (Some one)
+  pub right : PieceIs s (blocks_of s y) id lebs.right lnum (Some other)
   pub left_len : p.left ≡ length one
   pub right_len : p.right ≡ length other
   pub same : IsTrue p.is_same ↔ (one ≡ other)
@@ -44,9 +47,26 @@ pub record ArePieces (s : Sizes) (id used lnum : ℕ) (x y : List ℕ) (p : Piec
 abbrev pub IsText : Sizes → ℕ → Volume → Type 0
 IsText s used v = (t : List ℕ) × (v.content ≡ content.Static t) × (pieces (usable s v.entry) (length t) ≡ used)
 
--- the first n pieces of both texts were read, and the LEBs were found that read differently if both are whole
-pub record AreTexts (s : Sizes) (id used n : ℕ) (p q : Seen) (x y : List ℕ) (t : Texts) : Type 0 where
-  pub left : SizeIsRead s (blocks_of s x) id used n t.left
-  pub right : SizeIsRead s (blocks_of s y) id used n t.right
-  pub found : OfMeanings s p q x y
-      (λ a b. OfVolumes id a b (λ v w. IsText s used v → IsText s used w → HaveFound s id v w t.ranges n))
+-- a text goes on from the pieces below a LEB, of so many bytes, and has so many in all
+abbrev pub GoesOn : Sizes → List (List ℕ) → ℕ → ℕ → ℕ → ℕ → ℕ → Type 0
+GoesOn s bs id used first bytes whole = SizeIsRead s bs id used first bytes → SizeIsRead s bs id used used whole
+
+-- of the first n LEBs these were found that read differently if both texts are whole; in brief just whether there is one
+abbrev pub AreToldApart : Bool → Sizes → ℕ → LebsOfBoth → ℕ → Seen → Seen → List ℕ → List ℕ → Ranges → Type 0
+AreToldApart brief s id lebs n p q x y ranges =
+    OfMeanings s p q x y
+    (λ a b. OfVolumes id a b (λ v w. IsText s lebs.left v → IsText s lebs.right w → HaveTold brief s id v w ranges n))
+
+-- the first n pieces of both texts were read
+pub record AreTexts (brief : Bool) (s : Sizes) (id : ℕ) (lebs : LebsOfBoth) (n : ℕ) (p q : Seen) (x y : List ℕ)
+    (t : Texts) : Type 0 where
+  pub left : SizeIsRead s (blocks_of s x) id lebs.left n t.left
+  pub right : SizeIsRead s (blocks_of s y) id lebs.right n t.right
+  pub found : AreToldApart brief s id lebs n p q x y t.ranges
+
+-- all pieces of both were read, and compared where both have one
+pub record AreWhole (brief : Bool) (s : Sizes) (id : ℕ) (lebs : LebsOfBoth) (p q : Seen) (x y : List ℕ)
+    (t : Texts) : Type 0 where
+  pub left : SizeIsRead s (blocks_of s x) id lebs.left lebs.left t.left
+  pub right : SizeIsRead s (blocks_of s y) id lebs.right lebs.right t.right
+  pub found : AreToldApart brief s id lebs (min lebs.left lebs.right) p q x y t.ranges

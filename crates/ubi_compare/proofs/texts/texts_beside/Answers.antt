@@ -1,6 +1,6 @@
 use Rattle.ubi_compare.proofs.Prelude.{◌≡◌, ◌∙◌, ℕ, refl, sym, subst, arith, Source, survey_narrowed, IsSurveyOf, Ranges, AreTexts}
 use Rattle.ubi_compare.proofs.TextsRead.{Follows, follows_apart, follows_same, more_texts, no_texts}
-use Rattle.ubi_compare.proofs.texts.texts_beside.Goals.{then-not-pieces+in_ok-add, else-not-pieces}
+use Rattle.ubi_compare.proofs.texts.texts_beside.Goals.{then-not-pieces+in_ok-add_asked, else-not-pieces}
 use Rattle.ubi_compare.proofs.texts.texts_beside.Goals as goal
 
 pub loop-lnum-init : goal.loop-lnum-init
@@ -12,7 +12,7 @@ loop-lnum-init g c = record {
   small = omega arith;
   few = omega arith;
   read = λ x xs y ys.
-      no_texts c.args.geometry.now c.args.id c.args.used c.args.here.survey.now c.args.there.survey.now x y
+      no_texts c.args.is_brief c.args.geometry.now c.args.id c.args.lebs c.args.here.survey.now c.args.there.survey.now x y
       c.new-ranges.result c.new-ranges.ensures.id c.new-ranges.ensures.told c.new-ranges.ensures.begun;
 }
 
@@ -47,24 +47,27 @@ loop-lnum-preserved g c = record {
       let read = rw c.in-Some.is at c.in_ok-pieces.ensures.read in
       let before = c.loop-lnum.invariant.read x (c.in_ok-pieces.ensures.left_narrows x xs) y
       (c.in_ok-pieces.ensures.right_narrows y ys) in
-      let follows : Follows pieces.is_same n old c.if-not-pieces.ranges = elim c.if-not-pieces.branch [
-        | then-not-pieces+in_ok-add u ↦
-            subst (λ (r : Ranges). Follows pieces.is_same n old r) (sym u.ranges-is)
-            (follows_apart pieces.is_same n old u.add.new.self u.if-not-pieces.true u.in_ok-add.ensures)
+      let brief = c.args.is_brief in
+      let follows : Follows brief pieces.is_same n old c.if-not-pieces.ranges = elim c.if-not-pieces.branch [
+        | then-not-pieces+in_ok-add_asked u ↦
+            subst (λ (r : Ranges). Follows brief pieces.is_same n old r) (sym u.ranges-is)
+            (follows_apart brief pieces.is_same n old u.add_asked.new.ranges u.if-not-pieces.true u.in_ok-add_asked.ensures)
         | else-not-pieces u ↦
-            follows_same pieces.is_same n old c.if-not-pieces.ranges u.if-not-pieces.false u.ranges-is
+            follows_same brief pieces.is_same n old c.if-not-pieces.ranges u.if-not-pieces.false u.ranges-is
       ] in
       rw (c.from-bytes.ensures, c.from-others.ensures)
-      (more_texts c.args.geometry.now c.args.id c.args.used c.args.here.survey.now c.args.there.survey.now x y
+      (more_texts brief c.args.geometry.now c.args.id c.args.lebs c.args.here.survey.now c.args.there.survey.now x y
       c.args.here.entry.now c.args.there.entry.now here.recorded there.recorded here.sound there.sound c.requires.size n
-      c.loop-lnum-test.true (record { left = c.loop-lnum.bytes; right = c.loop-lnum.others; ranges = old }) before pieces
+      (let test = c.loop-lnum-test.true in let count = c.requires.count.0 in omega (arith, test, count))
+      (let test = c.loop-lnum-test.true in let count = c.requires.count.1 in omega (arith, test, count))
+      (record { left = c.loop-lnum.bytes; right = c.loop-lnum.others; ranges = old }) before pieces
       (read x xs y ys) c.if-not-pieces.ranges follows);
 }
 
 pub returns-clause-read : goal.returns-clause-read
 returns-clause-read g c = λ x xs y ys.
-    let last : c.loop-lnum.lnum ≡ c.args.used =
+    let last : c.loop-lnum.lnum ≡ c.args.count =
     (let end = c.loop-lnum.auto.lnum-end in let test = c.loop-lnum-test.false in omega (arith, end, test)) in
-    subst (λ (n : ℕ). AreTexts c.args.geometry.now c.args.id c.args.used n c.args.here.survey.now c.args.there.survey.now x y
-    (record { left = c.loop-lnum.bytes; right = c.loop-lnum.others; ranges = c.loop-lnum.ranges })) last
-    (c.loop-lnum.invariant.read x xs y ys)
+    subst (λ (n : ℕ). AreTexts c.args.is_brief c.args.geometry.now c.args.id c.args.lebs n c.args.here.survey.now
+    c.args.there.survey.now x y (record { left = c.loop-lnum.bytes; right = c.loop-lnum.others; ranges = c.loop-lnum.ranges }))
+    last (c.loop-lnum.invariant.read x xs y ys)
