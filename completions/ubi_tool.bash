@@ -3,7 +3,7 @@ _ubi_tool() {
     local word=${COMP_WORDS[COMP_CWORD]} words=
     COMPREPLY=()
     if [ "$COMP_CWORD" -eq 1 ]; then
-        mapfile -t COMPREPLY < <(compgen -W 'geometry list check show extract unpack compose build normalise same diff change rename --help --version' -- "$word")
+        mapfile -t COMPREPLY < <(compgen -W 'geometry list check show map extract unpack compose build normalise same diff change rename --help --version' -- "$word")
         return
     fi
     case ${COMP_WORDS[1]} in
@@ -11,13 +11,14 @@ _ubi_tool() {
         list) words='--start --length --oob --bad --format --peb --page --vid --data --pebs --help' ;;
         check) words='--start --length --oob --bad --format --peb --page --vid --data --pebs --help' ;;
         show) words='--start --length --oob --bad --block --peb --page --vid --data --pebs --help' ;;
+        map) words='--start --length --oob --bad --help' ;;
         extract) words='--start --length --oob --bad --out --id --name --peb --page --vid --data --pebs --help' ;;
         unpack) words='--start --length --oob --bad --out --peb --page --vid --data --pebs --help' ;;
         compose) words='--out --spares --seq --peb --page --vid --data --pebs --help' ;;
         build) words='--out --spares --seq --peb --page --vid --data --pebs --help' ;;
         normalise) words='--start --length --oob --bad --out --peb --page --vid --data --pebs --help' ;;
-        same) words='--start --length --oob --bad --peb --page --vid --data --pebs --help' ;;
-        diff) words='--start --length --oob --bad --peb --page --vid --data --pebs --help' ;;
+        same) words='--start --length --oob --bad --format --peb --page --vid --data --pebs --help' ;;
+        diff) words='--start --length --oob --bad --format --peb --page --vid --data --pebs --help' ;;
         change) words='--start --length --oob --bad --out --id --lnum --from --stop --blank --pages --peb --page --vid --data --pebs --help' ;;
         rename) words='--start --length --oob --bad --out --id --name --stop --blank --pages --peb --page --vid --data --pebs --help' ;;
     esac

@@ -1,6 +1,7 @@
 mod answers;
 mod bad_blocks;
 mod build;
+mod calls;
 mod cases;
 mod change;
 mod changing;
@@ -20,6 +21,7 @@ mod json;
 mod large;
 mod lines;
 mod list;
+mod map;
 mod memory;
 mod normalise;
 mod normalise_files;

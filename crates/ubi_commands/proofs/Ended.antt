@@ -1,5 +1,5 @@
 -- How work ends that reads a source, and maybe writes a file meanwhile.
-use Rattle.ubi_commands.proofs.Prelude.{◌≡◌, ℕ, List, ap, arith, refl, subst, sym, ◌∙◌, IfOk-at_ok, IfOk, IfSome, IsSome, Option, is_some, MatchResult, Result, Ok, Err, codes, AllocError, Sizes, first_broken, Agreed, Narrows, Source, holds, known_by, memory, IsTold, after_left, after_right, after_run, outcome, read_failed, Gives, says, IsEnded, IsToldOfSides, Works, answered, comparison, left_failed, no_read, no_source, no_write, right_failed, unopened, Files, IsJudgedOf, Fits, FitsWhole, seen, file_line, sizes_of, IsOpened, OpenImage, IsRead, OfFile, WhereRead, cannot_read, file, no_file, places, unreadable, whole, Dump, Outcome, SidesError, ToolError, None}
+use Rattle.ubi_commands.proofs.Prelude.{◌≡◌, ℕ, List, ap, arith, refl, subst, sym, ◌∙◌, IfOk-at_ok, IfOk, IfSome, IsSome, Option, is_some, MatchResult, Result, Ok, Err, codes, AllocError, Sizes, first_broken, Agreed, Narrows, Source, holds, known_by, memory, IsTold, after_left, after_right, after_run, outcome, read_failed, Gives, says, IsEnded, IsUnreadSide, Works, answered, left_failed, no_read, no_source, no_write, right_failed, unopened, Files, IsJudgedOf, Fits, FitsWhole, seen, file_line, sizes_of, IsOpened, OpenImage, IsRead, IsUnseen, OfRead, OfReadDumps, Unread, OfFile, WhereRead, cannot_read, file, no_file, places, unreadable, whole, Dump, Outcome, SidesError, ToolError, None}
 use Rattle.std.specs.Prelude.{Bool, Some, true}
 use Rattle.ubi_commands.specs.inner.Ended.{done}
 use Rattle.ubi_files.specs.declared.open_image.OpenImage.TheVariants as image
@@ -145,15 +145,6 @@ OfFile-weaker d dump path P Q f o (file (whole bytes read named fits h)) = file 
 OfFile-weaker d dump path P Q f o (file (places k reads limits zero named fits h)) =
     file (places k reads limits zero named fits (f _ _ _ o h))
 
--- and by other sizes, where these are those of the dump
-pub OfFile-sized : (d : Files) (dump : Dump) (path : List ℕ) (P : Sizes → Source → Agreed → Outcome → Type 0) (s : Sizes)
-    → sizes_of dump.numbers ≡ s → (o : Outcome) → OfFile d dump path P o → OfFile d dump path (λ _. P s) o
-OfFile-sized d dump path P s same o (no_file h) = no_file h
-OfFile-sized d dump path P s same o (file (whole bytes read named fits h)) =
-    file (whole bytes read named fits (subst (λ (t : Sizes). P t (memory bytes) (holds bytes) o) same h))
-OfFile-sized d dump path P s same o (file (places k reads limits zero named fits h)) =
-    file (places k reads limits zero named fits (subst (λ (t : Sizes). P t k (known_by k.size reads) o) same h))
-
 pub Works-weaker : (k after : Source) (path : List ℕ) (P Q : Outcome → Type 0) → ((o : Outcome) → P o → Q o) → (o : Outcome)
     → Works k after path P o → Works k after path Q o
 Works-weaker k after path P Q f o (answered is h) = answered is (f o h)
@@ -165,53 +156,62 @@ pub both : {X E : Type 0} (work : Result X E) (P Q : X → Type 0) → IfOk work
 both (Ok o) P Q p q = (p, q)
 both (Err e) P Q p q = tt
 
--- a comparison of two files, once it is told
+-- the outcome of a comparison of a source with a dump that was opened
 module _ (work : Result Outcome SidesError) (k after : Source) (left right : List ℕ) (d : Files) (dump : Dump)
     (answers : Sizes → Source → Agreed → Outcome → Type 0) (s : Sizes) (same : s ≡ sizes_of dump.numbers) where
-  sides_at_places : (l later : Source) (reads : List (ℕ × List ℕ)) (o : Outcome)
-      → first_broken (sizes_of dump.numbers) ≡ None → (l.failures ≡ 0) × (l.held ≡ (seen dump d).holds right) → Fits d dump right → IfSome later.held (known_by later.size reads)
-      → after ≡ after_left k work → later ≡ after_right l work
-      → IfOk work (answers s l (known_by later.size reads))
-      → IsToldOfSides work left right o → Works k after left (OfFile d dump right answers) o
-  sides_at_places l later reads o limits opened fits told here there ok (comparison is) =
-      answered (here ∙ ap (after_left k) is)
-      (at_places d dump right answers s same l later reads o limits opened fits told
-      (answered (there ∙ ap (after_right l) is) (IfOk-at_ok _ is ok)))
-  sides_at_places l later reads o limits opened fits told here there ok (left_failed is line) =
-      no_source (here ∙ ap (after_left k) is) line
-  sides_at_places l later reads o limits opened fits told here there ok (right_failed is line) =
-      answered (here ∙ ap (after_left k) is) (no_file (unreadable (cannot_read limits line)))
+  pub beside_places : (l later : Source) (reads : List (ℕ × List ℕ)) (r : Result Outcome Unread)
+      → first_broken (sizes_of dump.numbers) ≡ None → (l.failures ≡ 0) × (l.held ≡ (seen dump d).holds right) → Fits d dump right
+      → IfSome later.held (known_by later.size reads) → after ≡ after_left k work → later ≡ after_right l work
+      → IfOk work (answers s l (known_by later.size reads)) → IfOk r (λ o. work ≡ Ok o)
+      → IfOk r (λ o. (after ≡ k) × OfRead d dump right answers o)
+  beside_places l later reads (Ok o) limits opened fits told here there ok is = (
+    here ∙ ap (after_left k) is,
+    read_at_places d dump right (λ x agrees. answers (sizes_of dump.numbers) x agrees o) l later reads limits opened fits told
+        (there ∙ ap (after_right l) is)
+        (subst (λ (t : Sizes). answers t l (known_by later.size reads) o) same
+        (IfOk-at_ok (answers s l (known_by later.size reads)) is ok)),
+  )
+  beside_places l later reads (Err e) limits opened fits told here there ok is = tt
 
-  pub beside_places : (l later : Source) (reads : List (ℕ × List ℕ)) (r : Result Outcome AllocError)
-      → first_broken (sizes_of dump.numbers) ≡ None → (l.failures ≡ 0) × (l.held ≡ (seen dump d).holds right) → Fits d dump right → IfSome later.held (known_by later.size reads)
-      → after ≡ after_left k work → later ≡ after_right l work
-      → IfOk work (answers s l (known_by later.size reads))
-      → IfOk r (IsToldOfSides work left right) → IfOk r (Works k after left (OfFile d dump right answers))
-  beside_places l later reads (Ok o) limits opened fits told here there ok h =
-      sides_at_places l later reads o limits opened fits told here there ok h
-  beside_places l later reads (Err e) limits opened fits told here there ok h = tt
-
-  sides_by_bytes : (bytes start later : List ℕ) (o : Outcome) → IsRead (sizes_of dump.numbers) bytes
+  pub beside_bytes : (bytes start later : List ℕ) (r : Result Outcome Unread) → IsRead (sizes_of dump.numbers) bytes
       → IsJudgedOf (seen dump d) right (sizes_of dump.numbers) bytes → FitsWhole d dump right → start ≡ bytes
-      → Narrows (holds start) (holds later) → after ≡ after_left k work
-      → memory later ≡ after_right (memory start) work
-      → IfOk work (answers s (memory start) (holds later))
-      → IsToldOfSides work left right o → Works k after left (OfFile d dump right answers) o
-  sides_by_bytes bytes start later o read named fits is narrows here there ok (comparison came) =
-      answered (here ∙ ap (after_left k) came)
-      (by_bytes d dump right answers s same bytes start later o read named fits is narrows
-      (answered (there ∙ ap (after_right _) came) (IfOk-at_ok _ came ok)))
-  sides_by_bytes bytes start later o read named fits is narrows here there ok (left_failed came line) =
-      no_source (here ∙ ap (after_left k) came) line
-  sides_by_bytes bytes start later o read named fits is narrows here there ok (right_failed came line) =
-      let e = ap (λ (k : Source). k.failures) (there ∙ ap (after_right _) came) in absurd (omega (arith, e))
+      → Narrows (holds start) (holds later) → after ≡ after_left k work → IfOk work (answers s (memory start) (holds later))
+      → IfOk r (λ o. work ≡ Ok o) → IfOk r (λ o. (after ≡ k) × OfRead d dump right answers o)
+  beside_bytes bytes start later (Ok o) read named fits is narrows here ok came = (
+    here ∙ ap (after_left k) came,
+    read_by_bytes d dump right (λ x agrees. answers (sizes_of dump.numbers) x agrees o) bytes start later read named fits is narrows
+        (subst (λ (t : Sizes). answers t (memory start) (holds later) o) same
+        (IfOk-at_ok (answers s (memory start) (holds later)) came ok)),
+  )
+  beside_bytes bytes start later (Err e) read named fits is narrows here ok came = tt
 
-  pub beside_bytes : (bytes start later : List ℕ) (r : Result Outcome AllocError) → IsRead (sizes_of dump.numbers) bytes
-      → IsJudgedOf (seen dump d) right (sizes_of dump.numbers) bytes → FitsWhole d dump right → start ≡ bytes
-      → Narrows (holds start) (holds later) → after ≡ after_left k work
-      → memory later ≡ after_right (memory start) work
-      → IfOk work (answers s (memory start) (holds later))
-      → IfOk r (IsToldOfSides work left right) → IfOk r (Works k after left (OfFile d dump right answers))
-  beside_bytes bytes start later (Ok o) read named fits is narrows here there ok h =
-      sides_by_bytes bytes start later o read named fits is narrows here there ok h
-  beside_bytes bytes start later (Err e) read named fits is narrows here there ok h = tt
+  -- and the line of the side of which a read failed
+  pub unread_side : (o : Outcome) → first_broken (sizes_of dump.numbers) ≡ None → after ≡ after_left k work
+      → IsUnreadSide work left right o → Works k after left (IsUnseen d dump right) o
+  unread_side o limits here (left_failed is line) = no_source (here ∙ ap (after_left k) is) line
+  unread_side o limits here (right_failed is line) =
+      answered (here ∙ ap (after_left k) is) (unreadable (cannot_read limits line))
+
+-- the outcome of a comparison of a dump that was opened with another one
+module _ (d : Files) (dump there : Dump) (path right : List ℕ)
+    (answers : Sizes → Source → Agreed → Source → Agreed → Outcome → Type 0) (same : sizes_of there.numbers ≡ sizes_of dump.numbers) where
+  -- what is read of the other one, by the sizes of this
+  sized : (k : Source) (agrees : Agreed) (o : Outcome) → OfRead d there right (λ s l fits. answers s k agrees l fits) o
+      → OfRead d there right (λ _ l fits. answers (sizes_of dump.numbers) k agrees l fits) o
+  sized k agrees o h = subst (λ (t : Sizes). OfRead d there right (λ _ l fits. answers t k agrees l fits) o) same h
+
+  pub dumps_at_places : (k after : Source) (reads : List (ℕ × List ℕ)) (o : Outcome) → first_broken (sizes_of dump.numbers) ≡ None
+      → (k.failures ≡ 0) × (k.held ≡ (seen dump d).holds path) → Fits d dump path → IfSome after.held (known_by after.size reads)
+      → (after ≡ k) × OfRead d there right (λ s l fits. answers s k (known_by after.size reads) l fits) o
+      → OfReadDumps d dump path there right answers o
+  dumps_at_places k after reads o limits opened fits told h =
+      read_at_places d dump path (λ x agrees. OfRead d there right (λ _ l fits. answers (sizes_of dump.numbers) x agrees l fits) o)
+      k after reads limits opened fits told h.0 (sized k (known_by after.size reads) o h.1)
+
+  pub dumps_by_bytes : (bytes start later : List ℕ) (o : Outcome) → IsRead (sizes_of dump.numbers) bytes
+      → IsJudgedOf (seen dump d) path (sizes_of dump.numbers) bytes → FitsWhole d dump path → start ≡ bytes
+      → Narrows (holds start) (holds later) → OfRead d there right (λ s l fits. answers s (memory start) (holds later) l fits) o
+      → OfReadDumps d dump path there right answers o
+  dumps_by_bytes bytes start later o read named fits is narrows h =
+      read_by_bytes d dump path (λ x agrees. OfRead d there right (λ _ l fits. answers (sizes_of dump.numbers) x agrees l fits) o)
+      bytes start later read named fits is narrows (sized (memory start) (holds later) o h)

@@ -1,5 +1,5 @@
 -- What the words of a request say: the volume that they name, what they list as bad, and what they keep.
-use Rattle.ubi_commands.proofs.Prelude.{◌≡◌, ◌∙◌, ◌&&◌, ◌||◌, Bool, List, Some, ap, ap₂, false, not, refl, subst, sym, true, true≢false, ℕ, Bor, ForSome, same_Some, find, is_some, option_and_then, option_map, slice_get, bytes_eq, without_leading_plus, Row, Text, first_of, one_of, is_block_list, Asks, AsksAsked, AsksBlank, AsksDump, AsksKey, AsksPlan, HasNumber, HasText, IsRequest, MayHaveText, command_name, gives, gives_no_geometry, HasOneVolume, Mean, finds, plans, reads_dump, Asked, Dump, Plan, Request, VolumeKey, reading_command, inl, inr, ◌⊎◌, AsksFormat, format_word, formats, Format, comparing_command}
+use Rattle.ubi_commands.proofs.Prelude.{◌≡◌, ◌∙◌, ◌&&◌, ◌||◌, Bool, List, Some, ap, ap₂, false, not, refl, subst, sym, true, true≢false, ℕ, Bor, ForSome, same_Some, find, is_some, option_and_then, option_map, slice_get, bytes_eq, without_leading_plus, Row, Text, first_of, one_of, is_block_list, Asks, AsksAsked, AsksBlank, AsksDump, AsksKey, AsksPlan, HasNumber, HasText, IsRequest, MayHaveText, command_name, gives, gives_no_geometry, HasOneVolume, Mean, finds, plans, reads_dump, Asked, Dump, Plan, Request, VolumeKey, reading_command, inl, inr, ◌⊎◌, AsksFormat, format_word, formats, Format, comparing_command, comparison_format}
 use Rattle.std.proofs.Common.{None}
 use Rattle.std.proofs.Common.{Option, codes, unwrap_or}
 use Rattle.ubi_commands.specs.declared.format.Format.TheVariants as told
@@ -78,8 +78,8 @@ request_names_one named r asked words is = go r asked.1 asked.2
     go (request.Extract n x) at asks =
         rw (← (same (request.Extract n x) at).1) (one_volume asked.0 x.key asks.1.1)
     go (request.Tell d image (reading.List format)) at asks = absurd (apart _ _ refl (same (request.Tell d image (reading.List format)) at).0)
-    go (request.Compare comparison.Same d left right) at asks =
-        absurd (apart _ _ refl (same (request.Compare comparison.Same d left right) at).0)
+    go (request.Compare (comparison.Same format) d left right) at asks =
+        absurd (apart _ _ refl (same (request.Compare (comparison.Same format) d left right) at).0)
     go q at asks = absurd (apart _ _ refl (same q at).0)
 
 -- what the words of a request list as bad is a list
@@ -166,6 +166,7 @@ request_means named r asked = record {
     lists : (q : Request) → named ≡ Some (command_name q, asked.0) → Asks asked.0 q → (name : Text) (words : List Row)
         → named ≡ Some (name, words) → reads_dump name ≡ true → ForSome (first_of (codes "bad") words) (λ list. is_block_list list ≡ true)
     lists (request.Tell d image what) at asks name words is holds = listed_asked (reading_command what).name d at asks.0 name words is
+    lists (request.Map d image page) at asks name words is holds = listed_asked (codes "map") d at asks.0 name words is
     lists (request.Extract d extract) at asks name words is holds = listed_asked (codes "extract") d at asks.0 name words is
     lists (request.Unpack d paths) at asks name words is holds = listed_asked (codes "unpack") d at asks.0 name words is
     lists (request.Normalise d paths) at asks name words is holds = listed_asked (codes "normalise") d at asks.0 name words is
@@ -179,6 +180,7 @@ request_means named r asked = record {
         → named ≡ Some (name, words) → finds name ≡ true
         → ((gives words (codes "peb") && gives words (codes "page")) || gives_no_geometry words) ≡ true
     sizes (request.Tell d image what) at asks name words is holds = sized (reading_command what).name d at asks.0 name words is
+    sizes (request.Map d image page) at asks name words is holds = sized (codes "map") d at asks.0 name words is
     sizes (request.Extract d extract) at asks name words is holds = sized (codes "extract") d at asks.0 name words is
     sizes (request.Unpack d paths) at asks name words is holds = sized (codes "unpack") d at asks.0 name words is
     sizes (request.Normalise d paths) at asks name words is holds = sized (codes "normalise") d at asks.0 name words is
@@ -191,7 +193,7 @@ request_means named r asked = record {
     keeps (request.Change d change) at asks name words is holds = kept (codes "change") change.plan at asks.1.0 name words is
     keeps (request.Rename d rename) at asks name words is holds = kept (codes "rename") rename.plan at asks.1.0 name words is
     keeps (request.Tell d image (reading.Show block)) at asks name words is holds = other plans (codes "show") refl at name words is holds
-    keeps (request.Compare comparison.Same d left right) at asks name words is holds = other plans _ refl at name words is holds
+    keeps (request.Compare (comparison.Same format) d left right) at asks name words is holds = other plans _ refl at name words is holds
     keeps _ at asks name words is holds = other plans _ refl at name words is holds
 
     in_format : (a : Text) (f : Format) → named ≡ Some (a, asked.0) → AsksFormat asked.0 f → (name : Text) (words : List Row)
@@ -209,7 +211,8 @@ request_means named r asked = record {
     tells (request.Tell d image (reading.Check f)) at asks name words is holds = in_format (codes "check") f at asks.2 name words is
     tells (request.Tell d image (reading.Geometry part f)) at asks name words is holds = absurd asks.2
     tells (request.Tell d image (reading.Show block)) at asks name words is holds = other formats (codes "show") refl at name words is holds
-    tells (request.Compare comparison.Same d left right) at asks name words is holds = other formats _ refl at name words is holds
+    tells (request.Compare how d left right) at asks name words is holds =
+        in_format (comparing_command how).name (comparison_format how) at asks.3 name words is
     tells _ at asks name words is holds = other formats _ refl at name words is holds
 
 -- words that name just one volume name it by a number or by a text

@@ -1,6 +1,6 @@
--- What is told in a format of work over a file.
-use Rattle.ubi_commands.proofs.Prelude.{◌≡◌, ◌∙◌, ap, List, Result, Ok, Err, IfOk, IfErr, IfSome, AllocError, IfOk-at_ok, inl, inr, subst, sym, ℕ, ◌⊎◌, first_broken, Narrows, holds, known_by, memory, after_run, IsJudgedOf, Fits, FitsWhole, seen, sizes_of, IsRead, ToolError, Sizes, Agreed, Source, Files, IsUnseen, file, no_file, places, whole, Tells, Dump, Unread, Outcome, IsUnreadOfAsked, OfAskedIn, OfFileIn, OfRead, OfReadAsked, failed, OfAsked, of_dump, untold, Asked, Format, IsLineIn, IsToldIn, its_own, printed, None}
-use Rattle.ubi_commands.proofs.Ended.{read_at_places, read_by_bytes}
+-- What is told in a format of work over a file, or over two.
+use Rattle.ubi_commands.proofs.Prelude.{◌≡◌, ◌∙◌, ap, List, Result, Ok, Err, IfOk, IfErr, IfSome, AllocError, IfOk-at_ok, inl, inr, subst, sym, ℕ, ◌⊎◌, first_broken, Narrows, holds, known_by, memory, after_run, IsJudgedOf, Fits, FitsWhole, seen, sizes_of, IsRead, ToolError, Sizes, Agreed, Source, Files, IsUnseen, file, no_file, places, whole, Tells, Dump, Unread, Outcome, IsUnreadOfAsked, IsUnreadOfBoth, OfAskedIn, OfBoth, OfBothIn, OfReadBoth, WhereRead, alike, no_left, no_right, unlike, OfFileIn, OfRead, OfReadAsked, failed, OfAsked, of_dump, untold, Asked, Format, IsLineIn, IsToldIn, its_own, printed, None}
+use Rattle.ubi_commands.proofs.Ended.{OfFile-weaker, read_at_places, read_by_bytes}
 use Rattle.ubi_commands.specs.InFormat.{answered}
 use Rattle.ubi_commands.specs.declared.format.Format.TheVariants as way
 
@@ -47,6 +47,35 @@ module _ (d : Files) (path : List ℕ) (answers : Sizes → Source → Agreed �
       → IfOk r (IsToldIn format work) → IfOk r (OfAskedIn format d d asked path answers)
   asked_told format asked work (Ok o) ok err told = in_asked format asked o (told_of format work _ _ o ok err told)
   asked_told format asked work (Err e) ok err told = tt
+
+-- what is known of a dump that can be read is no less than more
+WhereRead-weaker : (d : Files) (dump : Dump) (path : List ℕ) (P Q : Source → Agreed → Type 0)
+    → ((k : Source) (agrees : Agreed) → P k agrees → Q k agrees) → WhereRead d dump path P → WhereRead d dump path Q
+WhereRead-weaker d dump path P Q f (whole bytes read named fits h) = whole bytes read named fits (f _ _ h)
+WhereRead-weaker d dump path P Q f (places k reads limits zero named fits h) = places k reads limits zero named fits (f _ _ h)
+
+module _ (d : Files) (asked : Asked) (left right : List ℕ) (answers : Sizes → Source → Agreed → Source → Agreed → Outcome → Type 0) where
+  -- what fails of two dumps is what may be answered of them
+  as_text_of_both : (o : Outcome) → IsUnreadOfBoth d asked left right o → OfBoth d asked left right answers o
+  as_text_of_both o (no_left h) = no_left h
+  as_text_of_both o (no_right here is h) = no_right here is h
+  as_text_of_both o (unlike here there is at differ gives) = unlike here there is at differ gives
+  as_text_of_both o (alike here there is at same h) = alike here there is at same
+      (OfFile-weaker d here left _ _ (λ s k agrees p e. OfFile-weaker d there right _ _ (λ _ l fits q never. absurd never) p e) o h)
+
+  in_both : (format : Format) (o : Outcome)
+      → ((plain : Outcome) × IsUnreadOfBoth d asked left right plain × IsLineIn format plain o) ⊎ OfReadBoth d asked left right answers o
+      → OfBothIn format d asked left right answers o
+  in_both way.Text o (inl h) = as_text_of_both o (subst (IsUnreadOfBoth d asked left right) (sym h.2) h.1)
+  in_both way.Text o (inr h) = alike h.0 h.1 h.2 h.3 h.4 (file (WhereRead-weaker d h.0 left _ _ (λ k agrees r. file r) h.5))
+  in_both way.Json o (inl h) = failed h.0 h.1 h.2
+  in_both way.Json o (inr h) = answered h
+
+  pub both_told : (format : Format) (work : Result Outcome Unread) (r : Result Outcome AllocError)
+      → IfOk work (OfReadBoth d asked left right answers) → IfErr work (Tells (IsUnreadOfBoth d asked left right))
+      → IfOk r (IsToldIn format work) → IfOk r (OfBothIn format d asked left right answers)
+  both_told format work (Ok o) ok err told = in_both format o (told_of format work _ _ o ok err told)
+  both_told format work (Err e) ok err told = tt
 
 -- what is answered of a dump that is read is answered of one that can be
 module _ (d : Files) (dump : Dump) (path : List ℕ) (answers : Sizes → Source → Agreed → Outcome → Type 0) (s : Sizes)

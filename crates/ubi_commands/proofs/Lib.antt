@@ -23,6 +23,7 @@ pub mod Lacking
 pub mod LeastTold
 pub mod Levels
 pub mod ListedLines
+pub mod MappedLines
 pub mod Normalised
 pub mod Outcomes
 pub mod Planned

@@ -134,7 +134,7 @@ pub use Rattle.ubi_files.specs.Numbers.{greatest, sizes_of}
 pub use Rattle.ubi_files.specs.Opened.{IsOpened}
 pub use Rattle.ubi_files.specs.OverFile.{IsRead, IsUnseen, OfFile, WhereRead, bad_limit, cannot_read, file, image, no_file, places, unfit, unfit_whole, unreadable, whole}
 pub use Rattle.ubi_files.specs.Row.{row_bytes}
-pub use Rattle.ubi_files.specs.Told.{IsTold, Tells, outcome, read_failed}
+pub use Rattle.ubi_files.specs.Told.{Tells}
 pub use Rattle.ubi_files.specs.Views.{misfit, pages_of, part_of, whole_file}
 pub use Rattle.ubi_files.specs.declared.dump.Dump.{Dump}
 pub use Rattle.ubi_files.specs.declared.image_file.Unread.{Unread}
@@ -145,9 +145,14 @@ pub use Rattle.ubi_files.specs.declared.outcome.Outcome.{Outcome}
 pub use Rattle.ubi_files.specs.declared.outcome.SidesError.{SidesError}
 pub use Rattle.ubi_files.specs.declared.outcome.ToolError.{ToolError}
 pub use Rattle.ubi_files.specs.declared.view.FilePart.{FilePart}
+pub use Rattle.ubi_json.specs.Differences.{are_none}
 pub use Rattle.ubi_json.specs.Line.{json_line}
 pub use Rattle.ubi_json.specs.List.{list_data, listed_data, listed_volume}
 pub use Rattle.ubi_json.specs.declared.list.ListedVolume.{ListedVolume}
+pub use Rattle.ubi_map.specs.Headers.{block_lines}
+pub use Rattle.ubi_map.specs.Letters.{header_letters, rows}
+pub use Rattle.ubi_map.specs.Map.{block_texts, refused_data, surveyed_data}
+pub use Rattle.ubi_map.specs.Page.{page_of}
 pub use Rattle.ubi_media.specs.Fields.{same_bytes}
 pub use Rattle.ubi_media.specs.Geometry.{IsGeometry, Sizes, slots}
 unfoldable pub use Rattle.ubi_media.specs.Limits.{first_broken}
@@ -174,16 +179,18 @@ pub use Rattle.ubi_volume.proofs.Gathered.{listed_at, listed_item}
 pub use Rattle.ubi_volume.proofs.LesserPage.{lesser_page}
 pub use Rattle.ubi_volume.proofs.MeantRecords.{meant_by, records_are, volume_is}
 pub use Rattle.ubi_volume.proofs.Narrowed.{places_narrowed}
+pub use Rattle.ubi_volume.proofs.OfSurvey.{survey_narrowed}
 pub use Rattle.ubi_volume.proofs.One.{Accepts-unique, never_accepted_and_refused}
 pub use Rattle.ubi_volume.proofs.OneCause.{one_cause}
 pub use Rattle.ubi_volume.proofs.Received.{error_as}
-pub use Rattle.ubi_volume.specs.Accepts.{Accepts, AcceptsBlocks}
+pub use Rattle.ubi_volume.specs.Accepts.{Accepts, AcceptsBlocks, Refuses}
 pub use Rattle.ubi_volume.specs.Amounts.{AmountIs}
 pub use Rattle.ubi_volume.specs.Extract.{extent_in, extent_len, extent_of, read_text}
 pub use Rattle.ubi_volume.specs.Meant.{IsMeaning, Meant, records_of}
 pub use Rattle.ubi_volume.specs.PageLaws.{meaning_with_page}
-pub use Rattle.ubi_volume.specs.Places.{ArePlaces, ArePlacesOf, AreWithin, Placed}
+pub use Rattle.ubi_volume.specs.Places.{ArePlaces, ArePlacesError, ArePlacesOf, AreWithin, Placed}
 pub use Rattle.ubi_volume.specs.Reading.{read_volume, volume_len, volume_read}
+pub use Rattle.ubi_volume.specs.Survey.{IsSurvey, Seen}
 pub use Rattle.ubi_volume.specs.Wrote.{All, First, IsWroteError, NotAll, Wanted, Wrote}
 pub use Rattle.ubi_volume.specs.declared.block.Amount.{Amount}
 pub use Rattle.ubi_volume.specs.declared.content.Volume.{Volume}
@@ -199,26 +206,27 @@ unfoldable pub use Rattle.ubi_commands.specs.Check.{printed_states}
 pub use Rattle.ubi_commands.specs.CommandLine.{AsksAsked, AsksBlank, AsksChange, AsksDump, AsksExtract, AsksFormat, AsksKey, AsksNewImage, AsksNumbers, AsksPart, AsksPaths, AsksPlan, AsksRename, HasBelow, HasNumber, HasText, MayHaveBelow, MayHaveLong, MayHaveNumber, MayHaveText, gives, gives_no_geometry}
 pub use Rattle.ubi_commands.specs.Commands.{Asks, IsAllElse, IsAnswer, IsAnswerTo, IsRequest, Takes, command_name, comparing_command, reading_command, wrong_words}
 unfoldable pub use Rattle.ubi_commands.specs.Commands.{tool}
-pub use Rattle.ubi_commands.specs.Comparisons.{AnswersOf, ComparesOf, are_none, compared, compared_from, comparison_status, difference_line, differences_text, left_refused, left_refused_from, right_refused, right_refused_from}
+pub use Rattle.ubi_commands.specs.Comparisons.{AnswersOf, ComparesOf, compared, compared_from, comparison_format, comparison_status, difference_line, differences_told, left_refused, left_refused_from, right_refused, right_refused_from, same_told}
 pub use Rattle.ubi_commands.specs.Compose.{Composes, ComposesInto, ComposesOf, fits, meaning_line, spec_line}
 pub use Rattle.ubi_commands.specs.Extract.{Extracts, HasTextIn, IsExtractError, ReadsVolume, accepted, read, read_key, refused_from, unread_from, wrote}
 pub use Rattle.ubi_commands.specs.FolderLaws.{AreAllDescribed, BuildsTheImage, FolderConfigReads, HoldVolumes}
 pub use Rattle.ubi_commands.specs.Formats.{format_word, undetected_told}
 pub use Rattle.ubi_commands.specs.Geometry.{Detects, detected, detected_from, geometry_told, options_lines, undetected, undetected_from}
 unfoldable pub use Rattle.ubi_commands.specs.Geometry.{options, sizes_options}
-pub use Rattle.ubi_commands.specs.InFormat.{IsUnreadOfAsked, OfAskedIn, OfFileIn, OfRead, OfReadAsked, failed}
+pub use Rattle.ubi_commands.specs.InFormat.{IsUnreadOfAsked, IsUnreadOfBoth, OfAskedIn, OfBothIn, OfFileIn, OfRead, OfReadAsked, OfReadBoth, OfReadDumps, failed}
 pub use Rattle.ubi_commands.specs.Key.{number_in}
-pub use Rattle.ubi_commands.specs.Lines.{blocks_line, bytes_line, comparison_line, no_block_line, undetected_line}
+pub use Rattle.ubi_commands.specs.Lines.{blocks_line, bytes_line, no_block_line, undetected_line}
 unfoldable pub use Rattle.ubi_commands.specs.Lines.{layout_words}
 pub use Rattle.ubi_commands.specs.List.{Lists, list_lines, record_line, unlisted, volume_line}
 unfoldable pub use Rattle.ubi_commands.specs.List.{room_words, sizes_line}
+pub use Rattle.ubi_commands.specs.Map.{IsPageOf, Maps, MapsFrom, PicturesInto, accepted_page, mapped, mapped_from, no_blocks, no_blocks_from, no_page, pictured, refused_map, refused_map_from, refused_page, unpictured}
 pub use Rattle.ubi_commands.specs.Normalise.{HasMeaning, IsNormaliseError, Normalises, wrote_nothing}
 pub use Rattle.ubi_commands.specs.PageLaws.{AreOfFirst, LeastTold}
 pub use Rattle.ubi_commands.specs.Plan.{CutAccepts, IsCarryFault, cut_bytes, cut_text, plan_answer, plan_lines, step_line, steps_done}
-pub use Rattle.ubi_commands.specs.Program.{IsDump, IsToldFirst, OfAsked, OfText, TellsNothing, WritesInto, WritesPlan, alike, avoided, given, no_left, no_list, no_pages, no_right, no_text, of_dump, planned, text_limit, told, told_dump, unlike, untold, with_list, written}
+pub use Rattle.ubi_commands.specs.Program.{IsDump, IsToldFirst, OfAsked, OfBoth, OfText, TellsNothing, WritesInto, WritesPlan, alike, avoided, given, no_left, no_list, no_pages, no_right, no_text, of_dump, planned, text_limit, told, told_dump, unlike, untold, with_list, written}
 pub use Rattle.ubi_commands.specs.Reads.{format_of, reads}
 pub use Rattle.ubi_commands.specs.Rename.{CutIsNamed, HasRename, IsRenameFault, Renames, RenamesFrom, nameless_from}
-pub use Rattle.ubi_commands.specs.Show.{Shows, block_lines, no_block, no_block_from, no_size, shown, shown_from}
+pub use Rattle.ubi_commands.specs.Show.{Shows, no_block, no_block_from, no_size, shown, shown_from}
 pub use Rattle.ubi_commands.specs.Tool.{HasOneVolume, Mean, finds, formats, plans, reads_dump}
 pub use Rattle.ubi_commands.specs.Unpack.{AreUnpacked, AreUnpackedUntil, IsUnpacked, IsWritten, Listed, Unpacks, UnpacksOf, all_described, config_path, described, file_byte, file_path, folder_config, listed, no_config, no_folder, unpacked, unpacked_line, unpacked_lines, unpacked_status}
 unfoldable pub use Rattle.ubi_commands.specs.Unpack.{file_name}
@@ -240,12 +248,13 @@ pub use Rattle.ubi_commands.specs.declared.unpack.VolumeFile.{VolumeFile}
 pub use Rattle.ubi_commands.specs.declared.volume_key.VolumeKey.{VolumeKey}
 pub use Rattle.ubi_commands.specs.inner.Built.{AreAnswers, IsNotBegun, IsToldOf}
 pub use Rattle.ubi_commands.specs.inner.CommandLine.{IsAskedBy, IsOneOf, bare_tool, rule, words_in}
-unfoldable pub use Rattle.ubi_commands.specs.inner.CommandLine.{command_row, with_commands, with_groups, with_rows}
-pub use Rattle.ubi_commands.specs.inner.Ended.{IsEnded, IsToldOfSides, Works, answered, comparison, left_failed, no_read, no_source, no_write, right_failed, unopened}
+unfoldable pub use Rattle.ubi_commands.specs.inner.CommandLine.{command_row, telling_tool, with_commands, with_groups, with_rows}
+pub use Rattle.ubi_commands.specs.inner.Ended.{IsEnded, IsTold, IsUnreadSide, Works, answered, left_failed, no_read, no_source, no_write, outcome, read_failed, right_failed, unopened}
 pub use Rattle.ubi_commands.specs.inner.Extracting.{HasFirst, IsExtractFault}
 pub use Rattle.ubi_commands.specs.inner.FileAnswers.{WritesFile, kept, lost}
 pub use Rattle.ubi_commands.specs.inner.Folder.{AreFilesOf, Ends, IsFileOf, config_in}
 pub use Rattle.ubi_commands.specs.inner.Formatted.{IsLineIn, IsToldIn, its_own, printed}
 pub use Rattle.ubi_commands.specs.inner.Gathering.{AreSoFar, AreUnread, IsFound, IsPartOf}
+pub use Rattle.ubi_commands.specs.inner.Pictured.{IsPageBy, by_cause, by_meaning}
 pub use Rattle.ubi_commands.specs.inner.Planning.{AreCut, HasFile, IsCut, refused_file}
 pub use Rattle.ubi_commands.specs.inner.Writes.{HasWork, writes}

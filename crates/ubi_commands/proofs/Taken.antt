@@ -204,6 +204,13 @@ module _ (s : Shape) (rows : List Row) (given : AreGiven s rows) where
       let b = number (codes "block") refl block in
       (request.Tell n.0 i.0 (reading.Show b.0), refl, (n.1, i.1, b.1))
 
+  map_asked : Mean (Some (codes "map", rows)) → Needs s (codes "IMAGE") → IsAsked (codes "map") rows
+  map_asked mean image =
+      let n = asked_dump (codes "map") refl refl mean in
+      let i = text (codes "IMAGE") image in
+      let page = text_in (codes "out") in
+      (request.Map n.0 i.0 page.0, refl, (n.1, i.1, page.1))
+
   extract_asked : Mean (Some (codes "extract", rows)) → Needs s (codes "IMAGE") → Needs s (codes "out")
       → IsAsked (codes "extract") rows
   extract_asked mean image out =
@@ -247,7 +254,8 @@ module _ (s : Shape) (rows : List Row) (given : AreGiven s rows) where
       let n = asked_dump (codes "same") refl refl mean in
       let i = text (codes "IMAGE") image in
       let o = text (codes "OTHER") other in
-      (request.Compare comparison.Same n.0 i.0 o.0, refl, (n.1, i.1, o.1))
+      let f = format (codes "same") refl mean in
+      (request.Compare (comparison.Same f.0) n.0 i.0 o.0, refl, (n.1, i.1, o.1, f.1))
 
   diff_asked : Mean (Some (codes "diff", rows)) → Needs s (codes "IMAGE") → Needs s (codes "OTHER")
       → IsAsked (codes "diff") rows
@@ -255,7 +263,8 @@ module _ (s : Shape) (rows : List Row) (given : AreGiven s rows) where
       let n = asked_dump (codes "diff") refl refl mean in
       let i = text (codes "IMAGE") image in
       let o = text (codes "OTHER") other in
-      (request.Compare comparison.Diff n.0 i.0 o.0, refl, (n.1, i.1, o.1))
+      let f = format (codes "diff") refl mean in
+      (request.Compare (comparison.Diff f.0) n.0 i.0 o.0, refl, (n.1, i.1, o.1, f.1))
 
   change_asked : Mean (Some (codes "change", rows)) → Needs s (codes "peb") → Needs s (codes "page") → Needs s (codes "IMAGE") → Needs s (codes "id")
       → Needs s (codes "lnum") → Needs s (codes "from") → Needs s (codes "out") → IsAsked (codes "change") rows
@@ -336,6 +345,7 @@ each_asks =
     (also (asks_it _ refl refl refl (λ rows given mean. list_asked _ rows given mean refl))
     (also (asks_it _ refl refl refl (λ rows given mean. check_asked _ rows given mean refl))
     (also (asks_it _ refl refl refl (λ rows given mean. show_asked _ rows given mean refl refl))
+    (also (asks_it _ refl refl refl (λ rows given mean. map_asked _ rows given mean refl))
     (also (asks_it _ refl refl refl (λ rows given mean. extract_asked _ rows given mean refl refl))
     (also (asks_it _ refl refl refl (λ rows given mean. unpack_asked _ rows given mean refl refl))
     (also (asks_it _ refl refl refl (λ rows given mean. compose_asked _ rows given refl refl refl refl))
@@ -345,7 +355,7 @@ each_asks =
     (also (asks_it _ refl refl refl (λ rows given mean. diff_asked _ rows given mean refl refl))
     (also (asks_it _ refl refl refl (λ rows given mean. change_asked _ rows given mean refl refl refl refl refl refl refl))
     (also (asks_it _ refl refl refl (λ rows given mean. rename_asked _ rows given mean refl refl refl refl refl refl))
-    (also (help_asks _ refl refl) none)))))))))))))
+    (also (help_asks _ refl refl) none))))))))))))))
 
 tool_met : (words : List Text) → fault_of tool words ≡ [] → IsMet (built tool) (argument_words tool words)
 unfolding tool

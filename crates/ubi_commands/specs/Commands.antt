@@ -1,27 +1,30 @@
 -- The commands: a row for each, with what it takes, what its words ask, what it can be answered, and which files it leaves alone.
-use Rattle.std.specs.Prelude.{◌≡◌, ◌∷◌, ◌++◌, [], List, Option, Some, codes, false, true, ℕ}
+use Rattle.std.specs.Borrow.{Bor}
+use Rattle.std.specs.Prelude.{◌≡◌, ◌∷◌, ◌++◌, [], List, None, Option, Some, codes, false, true, ℕ}
 use Rattle.clap.specs.Faults.{fault_of}
 use Rattle.clap.specs.Simple.{App, Shape, new_rule, new_shape, subcommand_of}
 use Rattle.clap.specs.Walk.{Row, Text}
 use Rattle.ubi_files.specs.Answer.{Gives, says}
 use Rattle.ubi_commands.specs.Build.{Builds}
 use Rattle.ubi_commands.specs.Change.{ChangesFrom, HasPlan}
-use Rattle.ubi_commands.specs.CommandLine.{AsksAsked, AsksChange, AsksDump, AsksExtract, AsksFormat, AsksNewImage, AsksNumbers, AsksPart, AsksPaths, AsksRename, HasNumber, HasText}
-use Rattle.ubi_commands.specs.Comparisons.{ComparesOf}
+use Rattle.ubi_commands.specs.CommandLine.{AsksAsked, AsksChange, AsksDump, AsksExtract, AsksFormat, AsksNewImage, AsksNumbers, AsksPart, AsksPaths, AsksRename, HasNumber, HasText, MayHaveText}
+use Rattle.ubi_commands.specs.Comparisons.{ComparesOf, comparison_format}
 use Rattle.ubi_commands.specs.Compose.{ComposesInto}
 use Rattle.ubi_files.specs.Disk.{AllStay, Files, OthersStay, OutsideStay, Stays}
 use Rattle.ubi_files.specs.Dump.{greatest_dump}
 use Rattle.ubi_commands.specs.Extract.{ExtractsOf, HasTextIn}
 use Rattle.ubi_commands.specs.Geometry.{DetectsOf}
+use Rattle.ubi_commands.specs.Map.{MapsOf, PicturesInto, PicturesOf}
 use Rattle.ubi_commands.specs.Normalise.{HasMeaning, NormalisesOf}
-use Rattle.ubi_commands.specs.Program.{OfAsked, OfBoth, OfText, PlanStays, WithList, WritesInto, WritesPlan, avoided}
+use Rattle.ubi_commands.specs.Program.{OfAsked, OfText, PlanStays, WithList, WritesInto, WritesPlan, avoided}
 use Rattle.ubi_files.specs.OverFile.{OfFile, OfImage}
-use Rattle.ubi_commands.specs.InFormat.{OfAskedIn, OfFileIn}
+use Rattle.ubi_commands.specs.InFormat.{OfAskedIn, OfBothIn, OfFileIn}
 use Rattle.ubi_commands.specs.Reads.{format_of, reads}
 use Rattle.ubi_commands.specs.Rename.{HasRename, RenamesFrom}
 use Rattle.ubi_commands.specs.Tool.{Mean, answer_format, command as takes, image_part, needed, number, on_image, option, output, plan_options, volume}
 use Rattle.ubi_commands.specs.Unpack.{UnpacksOf}
 use Rattle.ubi_files.specs.declared.outcome.Outcome.{Outcome}
+use Rattle.ubi_commands.specs.declared.asked.Asked.{Asked}
 use Rattle.ubi_commands.specs.declared.comparison.Comparison.{Comparison}
 use Rattle.ubi_commands.specs.declared.comparison.Comparison.TheVariants as comparison
 use Rattle.ubi_commands.specs.declared.readers.Reading.{Reading}
@@ -44,6 +47,10 @@ check = on_image false (codes "check") (answer_format ∷ [])
 -- `show`, over an image, with the eraseblock to show
 abbrev pub show : Shape
 show = on_image false (codes "show") (needed (number (codes "block")) ∷ [])
+
+-- `map`, over an image, with the page to write, if one is asked for
+abbrev pub map : Shape
+map = on_image false (codes "map") (option (codes "out") ∷ [])
 
 -- `extract`, over an image, with the file to write, and the number or the name of the volume
 abbrev pub extract : Shape
@@ -69,13 +76,13 @@ build =
 abbrev pub normalise : Shape
 normalise = on_image false (codes "normalise") (output ∷ [])
 
--- `same`, over an image and another
+-- `same`, over an image and another, with the format of the answer
 abbrev pub same : Shape
-same = on_image false (codes "same") (needed (record (new_rule (codes "OTHER")) { value_names = 1 }) ∷ [])
+same = on_image false (codes "same") (needed (record (new_rule (codes "OTHER")) { value_names = 1 }) ∷ answer_format ∷ [])
 
 -- `diff`, likewise
 abbrev pub diff : Shape
-diff = on_image false (codes "diff") (needed (record (new_rule (codes "OTHER")) { value_names = 1 }) ∷ [])
+diff = on_image false (codes "diff") (needed (record (new_rule (codes "OTHER")) { value_names = 1 }) ∷ answer_format ∷ [])
 
 -- `change`, over an image, with the file to write, the volume, the LEB and the file of its bytes
 abbrev pub change : Shape
@@ -89,7 +96,8 @@ rename = on_image true (codes "rename") (output ∷ volume ∷ needed (option (c
 
 -- all of them, in the order of the help
 abbrev pub commands : List Shape
-commands = geometry ∷ list ∷ check ∷ show ∷ extract ∷ unpack ∷ compose ∷ build ∷ normalise ∷ same ∷ diff ∷ change ∷ rename ∷ []
+commands =
+    geometry ∷ list ∷ check ∷ show ∷ map ∷ extract ∷ unpack ∷ compose ∷ build ∷ normalise ∷ same ∷ diff ∷ change ∷ rename ∷ []
 
 -- the program: it has a version, and a command has to be named
 unfoldable pub tool : App
@@ -104,18 +112,32 @@ reading_command (reading.Geometry part format) = geometry
 reading_command (reading.List format) = list
 reading_command (reading.Check format) = check
 reading_command (reading.Show block) = show
+reading_command reading.Map = map
+reading_command reading.Page = map
 
 -- the command that compares two images so
 abbrev pub comparing_command : Comparison → Shape
-comparing_command comparison.Same = same
-comparing_command comparison.Diff = diff
+comparing_command (comparison.Same format) = same
+comparing_command (comparison.Diff format) = diff
 
--- what its words say beside the dump and the image. A geometry is asked for by a request of its own
+-- what its words say beside the dump and the image. A geometry and a map are asked for by requests of their own
 abbrev pub AsksReading : List Row → Reading → Type 0
 AsksReading words (reading.Geometry part format) = ⊥
 AsksReading words (reading.List format) = AsksFormat words format
 AsksReading words (reading.Check format) = AsksFormat words format
 AsksReading words (reading.Show block) = HasNumber words (codes "block") block
+AsksReading words reading.Map = ⊥
+AsksReading words reading.Page = ⊥
+
+-- what can be answered where a map is asked for: without a page, and with one, which is written
+abbrev pub AnswersMap : Files → Files → Asked → List ℕ → Option (Bor (List ℕ)) → Outcome → Type 0
+AnswersMap d e dump image None = OfAsked d e dump image MapsOf
+AnswersMap d e dump image (Some page) = PicturesInto page.now d e (OfAsked d d dump image PicturesOf)
+
+-- and which files hold what they held: all but the page
+abbrev pub LeavesMap : Files → Files → List ℕ → Option (Bor (List ℕ)) → Type 0
+LeavesMap d e image None = AllStay d e
+LeavesMap d e image (Some page) = OthersStay d e page.now × Stays d e image
 
 -- what is said of a request: by which command it is made; that the words give what it says; what it can be answered, of the files
 -- before and after; and which of them hold what they held
@@ -138,6 +160,12 @@ said (request.Tell dump image what) = record {
   asks = λ words. AsksAsked words dump × HasText words (codes "IMAGE") image × AsksReading words what;
   answers = λ d e. OfAskedIn (format_of what) d e dump image.now (reads what);
   leaves = AllStay;
+}
+said (request.Map dump image page) = record {
+  command = map;
+  asks = λ words. AsksAsked words dump × HasText words (codes "IMAGE") image × MayHaveText words (codes "out") page;
+  answers = λ d e. AnswersMap d e dump image.now page;
+  leaves = λ d e. LeavesMap d e image.now page;
 }
 said (request.Extract dump extract_it) =
     let out = extract_it.paths.out.now in
@@ -175,8 +203,9 @@ said (request.Normalise dump paths) = record {
 }
 said (request.Compare how dump left right) = record {
   command = comparing_command how;
-  asks = λ words. AsksAsked words dump × HasText words (codes "IMAGE") left × HasText words (codes "OTHER") right;
-  answers = λ d e. OfBoth d dump left.now right.now (ComparesOf how);
+  asks = λ words. AsksAsked words dump × HasText words (codes "IMAGE") left × HasText words (codes "OTHER") right
+      × AsksFormat words (comparison_format how);
+  answers = λ d e. OfBothIn (comparison_format how) d dump left.now right.now (ComparesOf how);
   leaves = AllStay;
 }
 said (request.Change dump change_it) =

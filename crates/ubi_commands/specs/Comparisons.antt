@@ -1,5 +1,5 @@
 -- What the commands answer that compare two images: `same` and `diff`.
-use Rattle.std.specs.Prelude.{◌≡◌, ◌≢◌, ◌⊎◌, ◌==◌, ℕ, ◌++◌, Bool, List, ◌∷◌, [], codes, decimal, false, flat_map, if◌then◌else◌, length, true}
+use Rattle.std.specs.Prelude.{◌≡◌, ◌≢◌, ◌⊎◌, ◌==◌, ℕ, ◌++◌, Bool, List, ◌∷◌, [], codes, decimal, false, flat_map, if◌then◌else◌, true}
 use Rattle.hex.specs.Hex.{encode_lower}
 use Rattle.ubi_media.specs.Geometry.{Sizes}
 use Rattle.ubi_media.specs.declared.refusal.Refusal.{Refusal}
@@ -11,16 +11,18 @@ use Rattle.ubi_volume.specs.Meant.{Meant}
 use Rattle.ubi_volume.specs.Places.{ArePlacesError}
 use Rattle.ubi_compare.specs.Compared.{WhereBothHeld}
 use Rattle.ubi_compare.specs.Differences.{differences}
-use Rattle.ubi_compare.specs.declared.difference.Condition.{Condition}
-use Rattle.ubi_compare.specs.declared.difference.Condition.TheVariants as condition
 use Rattle.ubi_compare.specs.declared.difference.Difference.{Difference}
 use Rattle.ubi_compare.specs.declared.difference.Difference.TheVariants as difference
-use Rattle.ubi_compare.specs.declared.difference.Side.{Side}
 use Rattle.ubi_compare.specs.declared.difference.Side.TheVariants as side
 use Rattle.ubi_files.specs.Answer.{Gives, says}
-use Rattle.ubi_commands.specs.Lines.{comparison_line, side_line}
-use Rattle.ubi_json.specs.Words.{kind_word, shown}
+use Rattle.ubi_json.specs.Differences.{are_none, differences_data, same_data}
+use Rattle.ubi_json.specs.Line.{json_line}
+use Rattle.ubi_json.specs.Words.{condition_word, kind_word, shown, side_word}
+use Rattle.ubi_commands.specs.Formats.{side_told}
+use Rattle.ubi_commands.specs.Lines.{comparison_line}
 use Rattle.ubi_files.specs.declared.outcome.Outcome.{Outcome}
+use Rattle.ubi_commands.specs.declared.format.Format.{Format}
+use Rattle.ubi_commands.specs.declared.format.Format.TheVariants as format
 use Rattle.ubi_commands.specs.declared.comparison.Comparison.{Comparison}
 use Rattle.ubi_commands.specs.declared.comparison.Comparison.TheVariants as comparison
 
@@ -31,17 +33,6 @@ side_words left right = codes " left=" ++ left ++ codes " right=" ++ right ++ co
 -- the beginning of a line of a volume
 abbrev pub volume_words : ℕ → List ℕ → List ℕ
 volume_words id word = codes "volume " ++ decimal id ++ codes " " ++ word
-
--- the word of a side
-abbrev pub side_word : Side → List ℕ
-side_word side.Left = codes "left"
-side_word side.Right = codes "right"
-
--- the word of a condition
-abbrev pub condition_word : Condition → List ℕ
-condition_word condition.Updating = codes "updating"
-condition_word condition.Damaged = codes "damaged"
-condition_word condition.Whole = codes "whole"
 
 -- a range of LEBs: its number where it is one
 abbrev pub range_words : ℕ → ℕ → List ℕ
@@ -67,41 +58,53 @@ abbrev pub comparison_status : Bool → ℕ
 comparison_status true = 0
 comparison_status false = 1
 
--- whether there are none
-abbrev pub are_none : List Difference → Bool
-are_none ds = length ds == 0
-
 -- a line for each difference, and whether there are none
 abbrev pub differences_text : List Difference → List ℕ
 differences_text ds = flat_map difference_line ds ++ comparison_line (are_none ds)
 
+-- what is told in a format of two images that mean the same, or don't: that line, or the line of its object
+abbrev pub same_told : Format → Bool → List ℕ
+same_told format.Text same = comparison_line same
+same_told format.Json same = json_line (same_data same)
+
+-- and of their differences
+abbrev pub differences_told : Format → List Difference → List ℕ
+differences_told format.Text ds = differences_text ds
+differences_told format.Json ds = json_line (differences_data ds)
+
+-- the format in which a comparison is answered
+abbrev pub comparison_format : Comparison → Format
+comparison_format (comparison.Same format) = format
+comparison_format (comparison.Diff format) = format
+
 -- what is answered of two meanings: whether they are the same, or in what they differ
 abbrev pub AnswersOf : Comparison → Meant → Meant → Outcome → Type 0
-AnswersOf comparison.Same m n o =
-    ((m ≡ n) × Gives o (says (comparison_line true) 0)) ⊎ ((m ≢ n) × Gives o (says (comparison_line false) 1))
-AnswersOf comparison.Diff m n o =
-    Gives o (says (differences_text (differences m n)) (comparison_status (are_none (differences m n))))
+AnswersOf (comparison.Same format) m n o =
+    ((m ≡ n) × Gives o (says (same_told format true) 0)) ⊎ ((m ≢ n) × Gives o (says (same_told format false) 1))
+AnswersOf (comparison.Diff format) m n o =
+    Gives o (says (differences_told format (differences m n)) (comparison_status (are_none (differences m n))))
 
--- what a command answers of two images: that of their meanings, or the line of the first that is refused
+-- what a command answers of two images: that of their meanings, or what is told of the first that is refused
 pub data Compares (how : Comparison) (left right : Image) : Outcome → Type 0 where
   compared : {o : Outcome} (m n : Meant) → Accepts left m → Accepts right n → AnswersOf how m n o → Compares how left right o
-  left_refused : {o : Outcome} (c : Refusal) → Refuses left c → Gives o (says (side_line (codes "left ") c) 1)
+  left_refused : {o : Outcome} (c : Refusal) → Refuses left c → Gives o (says (side_told (comparison_format how) side.Left c) 1)
       → Compares how left right o
   right_refused : {o : Outcome} (m : Meant) (c : Refusal) → Accepts left m → Refuses right c
-      → Gives o (says (side_line (codes "right ") c) 1) → Compares how left right o
+      → Gives o (says (side_told (comparison_format how) side.Right c) 1) → Compares how left right o
 
 -- what can be answered of any two sources that were compared
 abbrev pub AnswersAny : Comparison → Outcome → Type 0
-AnswersAny comparison.Same o = (answer : Bool) × Gives o (says (comparison_line answer) (comparison_status answer))
-AnswersAny comparison.Diff o = (ds : List Difference) × Gives o (says (differences_text ds) (comparison_status (are_none ds)))
+AnswersAny (comparison.Same format) o = (answer : Bool) × Gives o (says (same_told format answer) (comparison_status answer))
+AnswersAny (comparison.Diff format) o =
+    (ds : List Difference) × Gives o (says (differences_told format ds) (comparison_status (are_none ds)))
 
--- what it answers of any two sources: such an answer, or the line of the first that is refused
+-- what it answers of any two sources: such an answer, or what is told of the first that is refused
 pub data ComparesFrom (how : Comparison) (s : Sizes) (k : Source) (left : Agreed) (l : Source) (right : Agreed) : Outcome → Type 0 where
   compared_from : {o : Outcome} → AnswersAny how o → ComparesFrom how s k left l right o
   left_refused_from : {o : Outcome} (c : Refusal) → ArePlacesError s k left (stream.Refused c)
-      → Gives o (says (side_line (codes "left ") c) 1) → ComparesFrom how s k left l right o
+      → Gives o (says (side_told (comparison_format how) side.Left c) 1) → ComparesFrom how s k left l right o
   right_refused_from : {o : Outcome} (c : Refusal) → ArePlacesError s l right (stream.Refused c)
-      → Gives o (says (side_line (codes "right ") c) 1) → ComparesFrom how s k left l right o
+      → Gives o (says (side_told (comparison_format how) side.Right c) 1) → ComparesFrom how s k left l right o
 
 -- what it answers of two sources: whatever these may hold, it is what it answers of those images
 abbrev pub ComparesOf : Comparison → Sizes → Source → Agreed → Source → Agreed → Outcome → Type 0

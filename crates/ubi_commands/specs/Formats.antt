@@ -2,10 +2,11 @@
 use Rattle.std.specs.Prelude.{List, codes, ℕ}
 use Rattle.ubi_media.specs.declared.refusal.Refusal.{Refusal}
 use Rattle.ubi_detect.specs.declared.detect.Undetected.{Undetected}
+use Rattle.ubi_compare.specs.declared.difference.Side.{Side}
 use Rattle.ubi_files.specs.Lines.{refusal_line}
 use Rattle.ubi_json.specs.Line.{json_line}
-use Rattle.ubi_json.specs.Told.{refusal_data, undetected_data}
-use Rattle.ubi_commands.specs.Lines.{undetected_line}
+use Rattle.ubi_json.specs.Told.{refusal_data, side_data, undetected_data}
+use Rattle.ubi_commands.specs.Lines.{side_line, undetected_line}
 use Rattle.ubi_commands.specs.declared.format.Format.{Format}
 use Rattle.ubi_commands.specs.declared.format.Format.TheVariants as format
 
@@ -18,6 +19,11 @@ format_word format.Json = codes "json"
 abbrev pub refusal_told : Format → Refusal → List ℕ
 refusal_told format.Text c = refusal_line c
 refusal_told format.Json c = json_line (refusal_data c)
+
+-- of one of two images that is refused
+abbrev pub side_told : Format → Side → Refusal → List ℕ
+side_told format.Text side c = side_line side c
+side_told format.Json side c = json_line (side_data side c)
 
 -- and of a file of which no geometry is told
 abbrev pub undetected_told : Format → Undetected → List ℕ

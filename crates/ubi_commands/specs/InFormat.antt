@@ -1,4 +1,4 @@
--- What a command can answer over one file, in a format.
+-- What a command can answer over one file or two, in a format.
 use Rattle.std.specs.Prelude.{◌≡◌, List, Result, Ok, Err, ℕ}
 use Rattle.ubi_media.specs.Geometry.{Sizes}
 use Rattle.ubi_scan.specs.Source.{Agreed, Source}
@@ -10,7 +10,7 @@ use Rattle.ubi_files.specs.declared.dump.Dump.{Dump}
 use Rattle.ubi_files.specs.declared.outcome.Outcome.{Outcome}
 use Rattle.ubi_json.specs.Line.{json_line}
 use Rattle.ubi_json.specs.Told.{error_data}
-use Rattle.ubi_commands.specs.Program.{IsDump, OfAsked}
+use Rattle.ubi_commands.specs.Program.{IsDump, OfAsked, OfBoth}
 use Rattle.ubi_commands.specs.declared.asked.Asked.{Asked}
 use Rattle.ubi_commands.specs.declared.format.Format.{Format}
 use Rattle.ubi_commands.specs.declared.format.Format.TheVariants as format
@@ -44,3 +44,25 @@ OfReadAsked d asked path answers o = (dump : Dump) × IsDump d path asked dump �
 abbrev pub OfAskedIn : Format → Files → Files → Asked → List ℕ → (Sizes → Source → Agreed → Outcome → Type 0) → Outcome → Type 0
 OfAskedIn format.Text d e asked path answers = OfAsked d e asked path answers
 OfAskedIn format.Json d e asked path answers = InJson (IsUnreadOfAsked d e asked path) (OfReadAsked d asked path answers)
+
+-- what is printed of two files where no dump is told of one of them, their geometries differ, or a dump can't be had: what can be
+-- answered over them by a command that answers nothing of what it reads
+abbrev pub IsUnreadOfBoth : Files → Asked → List ℕ → List ℕ → Outcome → Type 0
+IsUnreadOfBoth d asked left right = OfBoth d asked left right (λ _ _ _ _ _ _. ⊥)
+
+-- what a command answers of two dumps that can be read
+abbrev pub OfReadDumps : Files → Dump → List ℕ → Dump → List ℕ → (Sizes → Source → Agreed → Source → Agreed → Outcome → Type 0) → Outcome
+    → Type 0
+OfReadDumps d here left there right answers =
+    OfRead d here left (λ s k agrees. OfRead d there right (λ _ l fits. answers s k agrees l fits))
+
+-- of those that are asked for, where they have one geometry and can be read
+abbrev pub OfReadBoth : Files → Asked → List ℕ → List ℕ → (Sizes → Source → Agreed → Source → Agreed → Outcome → Type 0) → Outcome → Type 0
+OfReadBoth d asked left right answers o = (here : Dump) × (there : Dump) × IsDump d left asked here × IsDump d right asked there
+    × (here.numbers ≡ there.numbers) × OfReadDumps d here left there right answers o
+
+-- what it can answer over two files
+abbrev pub OfBothIn : Format → Files → Asked → List ℕ → List ℕ → (Sizes → Source → Agreed → Source → Agreed → Outcome → Type 0) → Outcome
+    → Type 0
+OfBothIn format.Text d asked left right answers = OfBoth d asked left right answers
+OfBothIn format.Json d asked left right answers = InJson (IsUnreadOfBoth d asked left right) (OfReadBoth d asked left right answers)

@@ -15,6 +15,7 @@ pub mod Key
 pub mod Laws
 pub mod Lines
 pub mod List
+pub mod Map
 pub mod Normalise
 pub mod PageLaws
 pub mod Plan

@@ -4,7 +4,9 @@ use Rattle.ubi_media.specs.Geometry.{Sizes}
 use Rattle.ubi_media.specs.declared.refusal.Refusal.{Refusal}
 use Rattle.ubi_detect.specs.ErrorTexts.{undetected_text}
 use Rattle.ubi_detect.specs.declared.detect.Undetected.{Undetected}
+use Rattle.ubi_compare.specs.declared.difference.Side.{Side}
 use Rattle.ubi_files.specs.Lines.{refusal_line, refused_line}
+use Rattle.ubi_json.specs.Words.{side_word}
 
 -- the line of a file of which no geometry is told
 abbrev pub undetected_line : Undetected → List ℕ
@@ -25,8 +27,8 @@ abbrev pub unlike_line : Sizes → Sizes → List ℕ
 unlike_line left right = refused_line (codes "F9 Geometries left " ++ layout_words left ++ codes " right " ++ layout_words right)
 
 -- the line of one of two images that is refused, behind the side on which it stands
-abbrev pub side_line : List ℕ → Refusal → List ℕ
-side_line side c = side ++ refusal_line c
+abbrev pub side_line : Side → Refusal → List ℕ
+side_line side c = side_word side ++ codes " " ++ refusal_line c
 
 -- the line of two images that mean the same, or don't
 abbrev pub comparison_line : Bool → List ℕ

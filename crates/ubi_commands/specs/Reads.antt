@@ -4,6 +4,7 @@ use Rattle.ubi_scan.specs.Source.{Agreed, Source}
 use Rattle.ubi_commands.specs.Check.{ChecksOf}
 use Rattle.ubi_commands.specs.Geometry.{DetectsOf}
 use Rattle.ubi_commands.specs.List.{ListsOf}
+use Rattle.ubi_commands.specs.Map.{MapsOf, PicturesOf}
 use Rattle.ubi_commands.specs.Show.{ShowsOf}
 use Rattle.ubi_files.specs.declared.outcome.Outcome.{Outcome}
 use Rattle.ubi_commands.specs.declared.format.Format.{Format}
@@ -17,6 +18,8 @@ reads (reading.Geometry part format) s = DetectsOf format part
 reads (reading.List format) s = ListsOf format s
 reads (reading.Check format) s = ChecksOf format s
 reads (reading.Show block) s = ShowsOf block s
+reads reading.Map s = MapsOf s
+reads reading.Page s = PicturesOf s
 
 -- the format in which it answers
 abbrev pub format_of : Reading → Format
@@ -24,3 +27,5 @@ format_of (reading.Geometry part format) = format
 format_of (reading.List format) = format
 format_of (reading.Check format) = format
 format_of (reading.Show block) = format.Text
+format_of reading.Map = format.Text
+format_of reading.Page = format.Text

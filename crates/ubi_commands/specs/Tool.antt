@@ -105,7 +105,7 @@ HasBlankWord named = (name : Text) (words : List Row) → named ≡ Some (name, 
 
 -- the commands that answer in a format
 abbrev pub formats : Text → Bool
-formats name = list_any (bytes_eq name) (codes "geometry" ∷ codes "list" ∷ codes "check" ∷ [])
+formats name = list_any (bytes_eq name) (codes "geometry" ∷ codes "list" ∷ codes "check" ∷ codes "same" ∷ codes "diff" ∷ [])
 
 -- of the words of such a command, what names the format is the word of one
 abbrev pub HasFormatWord : Option (Text × List Row) → Type 0

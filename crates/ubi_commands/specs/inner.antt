@@ -10,3 +10,4 @@ pub mod Planning
 pub mod Telling
 pub mod Writes
 pub mod Formatted
+pub mod Pictured

@@ -306,7 +306,7 @@ pub fn text_of<'a>(matches: &'a ArgMatches<'_>, name: &str) -> Option<&'a str>
 }
 
 /// The text that a word gives, if it is there.
-fn may_text_of<'a>(matches: &'a ArgMatches<'_>, name: &str) -> Option<&'a str>
+pub fn may_text_of<'a>(matches: &'a ArgMatches<'_>, name: &str) -> Option<&'a str>
     ensures { MayHaveText (words_in matches.now) name.now result }
 {
     matches.get_str(name)

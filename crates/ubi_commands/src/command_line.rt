@@ -6,7 +6,7 @@ ghost use Rattle.clap.specs.Simple.{app_of};
 ghost use Rattle.clap.specs.Walk.{rule_of};
 ghost use Rattle.ubi_commands.specs.inner.CommandLine.{command_names};
 ghost use Rattle.ubi_commands.specs.Commands.{tool as whole};
-ghost use Rattle.ubi_commands.specs.inner.CommandLine.{bare_tool, command_row, rule, with_commands, with_rows};
+ghost use Rattle.ubi_commands.specs.inner.CommandLine.{bare_tool, command_row, rule, telling_tool, with_commands, with_rows};
 
 use self::Need::{Needed, Optional};
 use self::Takes::{Long, Measure, Number, Text, Word, WordFor};
@@ -39,8 +39,8 @@ struct CommandRow {
     arguments: &'static [&'static [Argument]],
 }
 
-/// The commands, in the order of the help.
-static COMMANDS: [CommandRow; 13] = [
+/// The commands that print what an image file holds, in the order of the help.
+static TELLING: [CommandRow; 5] = [
     CommandRow {
         name: "geometry",
         about: "Prints the geometry that the headers of a dump give and where the image lies, as options of the other commands",
@@ -61,6 +61,15 @@ static COMMANDS: [CommandRow; 13] = [
         about: "Prints the two headers of an eraseblock",
         arguments: &[FOUND, IMAGE_PART, IMAGE_PAGES, &[BLOCK]],
     },
+    CommandRow {
+        name: "map",
+        about: "Prints a letter for each eraseblock, and writes a page that shows what lies where",
+        arguments: &[FOUND, IMAGE_PART, IMAGE_PAGES, &[PAGE_FILE]],
+    },
+];
+
+/// The others, behind them.
+static WORKING: [CommandRow; 9] = [
     CommandRow {
         name: "extract",
         about: "Writes the contents of a volume to a file",
@@ -89,12 +98,12 @@ static COMMANDS: [CommandRow; 13] = [
     CommandRow {
         name: "same",
         about: "Says whether two images have the same contents",
-        arguments: &[FOUND, IMAGE_PART, IMAGE_PAGES, &[OTHER]],
+        arguments: &[FOUND, IMAGE_PART, IMAGE_PAGES, &[OTHER, FORMAT]],
     },
     CommandRow {
         name: "diff",
         about: "Prints in what the contents of two images differ",
-        arguments: &[FOUND, IMAGE_PART, IMAGE_PAGES, &[OTHER]],
+        arguments: &[FOUND, IMAGE_PART, IMAGE_PAGES, &[OTHER, FORMAT]],
     },
     CommandRow {
         name: "change",
@@ -227,6 +236,13 @@ const CONFIG: Argument = Argument(Needed, "CONFIG", Word, "Config of ubinize: an
 
 const OUT: Argument = Argument(Needed, "out", Text("FILE"), "File to write");
 
+const PAGE_FILE: Argument = Argument(
+    Optional,
+    "out",
+    Text("FILE.html"),
+    "Page to write, for a browser [default: none]",
+);
+
 const OUT_FOLDER: Argument = Argument(
     Needed,
     "out",
@@ -347,14 +363,22 @@ pub fn tool_command<'a>(alloc: Global) -> Result<Command<'a>, AllocError>
         .version(VERSION)
         .after_help(EXAMPLES)
         .subcommand_required(true);
-    with_commands(alloc, tool, command_rows())
+    let tool = with_commands(alloc, tool, telling_rows())?;
+    with_commands(alloc, tool, working_rows())
 }
 
-/// The rows of all commands.
-fn command_rows() -> &'static [CommandRow]
-    ensures { with_commands bare_tool result.now ≡ whole }
+/// The rows of the commands that print what an image file holds.
+fn telling_rows() -> &'static [CommandRow]
+    ensures { with_commands bare_tool result.now ≡ telling_tool }
 {
-    &COMMANDS
+    &TELLING
+}
+
+/// Those of the others.
+fn working_rows() -> &'static [CommandRow]
+    ensures { with_commands telling_tool result.now ≡ whole }
+{
+    &WORKING
 }
 
 /// Adds commands to the command line.

@@ -2,7 +2,7 @@
 
 ghost use Rattle.std.specs.Bool.{Decides};
 ghost use Rattle.std.specs.Option.{ForSome};
-ghost use Rattle.std.specs.Prelude.{◌≡◌, IfErr, IfOk};
+ghost use Rattle.std.specs.Prelude.{◌≡◌, IfErr, IfOk, Ok};
 ghost use Rattle.ubi_scan.specs.Image.{image_of};
 ghost use Rattle.ubi_scan.specs.Source.{Narrows};
 ghost use Rattle.ubi_volume.specs.Accepts.{Accepts};
@@ -13,29 +13,38 @@ ghost use Rattle.ubi_files.specs.AfterRun.{after_left, after_right};
 ghost use Rattle.ubi_files.specs.Answer.{Gives, says};
 ghost use Rattle.ubi_files.specs.Kept.{IsPartOf};
 ghost use Rattle.ubi_files.specs.Numbers.{sizes_of};
-ghost use Rattle.ubi_files.specs.OverFile.{OfFile};
-ghost use Rattle.ubi_commands.specs.Comparisons.{AnswersAny, AnswersOf, Compares, ComparesFrom, ComparesOf, are_none, comparison_status, differences_text};
-ghost use Rattle.ubi_commands.specs.Lines.{comparison_line, unlike_line};
-ghost use Rattle.ubi_commands.specs.Program.{OfBoth};
-ghost use Rattle.ubi_commands.specs.inner.Ended.{IsToldOfSides, Works};
+ghost use Rattle.ubi_files.specs.OverFile.{IsUnseen};
+ghost use Rattle.ubi_files.specs.Told.{Tells};
+ghost use Rattle.ubi_commands.specs.Comparisons.{AnswersAny, AnswersOf, Compares, ComparesFrom, ComparesOf, comparison_format, comparison_status, differences_text, differences_told, same_told};
+ghost use Rattle.ubi_commands.specs.Formats.{side_told};
+ghost use Rattle.ubi_commands.specs.InFormat.{IsUnreadOfBoth, OfBothIn, OfRead, OfReadBoth, OfReadDumps};
+ghost use Rattle.ubi_commands.specs.Lines.{unlike_line};
+ghost use Rattle.ubi_commands.specs.inner.Ended.{IsUnreadSide, Works};
+ghost use Rattle.ubi_commands.specs.inner.Formatted.{IsUnseenOfDumps};
+ghost use Rattle.ubi_json.specs.Differences.{are_none};
 
 use crate::asked::Asked;
 use crate::differences::put_differences;
 use crate::finding::{KnownDump, find_dump, open_known};
-use crate::lines::{put_comparison, side_line, unlike_line};
+use crate::format::{Format, side_told, told_in};
+use crate::lines::{put_comparison, unlike_line};
 use std::alloc::{AllocError, Global};
-use ubi_compare::{CompareFault, Difference, diff_from, same_from};
-use ubi_files::{DONE, Disk, Dump, FAILED, OpenImage, Outcome, SidesError, frame_of, unread_line};
-use ubi_media::Geometry;
+use ubi_compare::{CompareFault, Difference, Side, diff_from, same_from};
+use ubi_files::{
+    DONE, Disk, Dump, FAILED, OpenImage, Outcome, SidesError, ToolError, Unread, frame_of,
+    unread_file,
+};
+use ubi_json::{differences_line, same_line};
+use ubi_media::{Geometry, Refusal};
 use ubi_scan::{BlockSource, MemorySource, StreamError};
 
 /// A command that compares what two images mean.
 #[derive(Clone, Copy)]
 pub enum Comparison {
     /// `same`: whether it is the same.
-    Same,
+    Same(Format),
     /// `diff`: in what it differs.
-    Diff,
+    Diff(Format),
 }
 
 /// The status of a comparison.
@@ -45,26 +54,78 @@ fn status_of(is_same: bool) -> u8
     if is_same { DONE } else { FAILED }
 }
 
-/// What is answered of two images that mean the same or don't.
-fn same_outcome(alloc: Global, is_same: bool) -> Result<Outcome, AllocError>
-    ensures { IfOk result (λ o. Gives o (says (comparison_line is_same) (comparison_status is_same))) }
+/// What is told in a format of two images that mean the same, or don't.
+fn same_told(alloc: Global, format: Format, is_same: bool) -> Result<Vec<u8>, AllocError>
+    ensures { IfOk result (λ text. text.items ≡ same_told format is_same) }
 {
-    let mut text = Vec::new(alloc);
-    put_comparison(&mut text, is_same)?;
-    Ok(Outcome::saying(text, status_of(is_same)))
+    match format {
+        Format::Text => {
+            let mut text = Vec::new(alloc);
+            put_comparison(&mut text, is_same)?;
+            Ok(text)
+        }
+        Format::Json => same_line(alloc, is_same),
+    }
 }
 
-/// What is answered of two images that differ so.
-fn diff_outcome(alloc: Global, told: &[Difference]) -> Result<Outcome, AllocError>
-    ensures { IfOk result (λ o. Gives o (says (differences_text told.now) (comparison_status (are_none told.now)))) }
+/// The lines of two images that differ so.
+fn differences_text(alloc: Global, told: &[Difference]) -> Result<Vec<u8>, AllocError>
+    ensures { IfOk result (λ text. text.items ≡ differences_text told.now) }
 {
     let mut text = Vec::new(alloc);
     put_differences(alloc, &mut text, told)?;
     put_comparison(&mut text, told.is_empty())?;
+    Ok(text)
+}
+
+/// What is told in a format of two images that differ so.
+fn differences_told(
+    alloc: Global,
+    format: Format,
+    told: &[Difference],
+) -> Result<Vec<u8>, AllocError>
+    ensures { IfOk result (λ text. text.items ≡ differences_told format told.now) }
+{
+    match format {
+        Format::Text => differences_text(alloc, told),
+        Format::Json => differences_line(alloc, told),
+    }
+}
+
+/// What is answered of two images that mean the same or don't.
+fn same_outcome(alloc: Global, format: Format, is_same: bool) -> Result<Outcome, AllocError>
+    ensures { IfOk result (λ o. Gives o (says (same_told format is_same) (comparison_status is_same))) }
+{
+    let text = same_told(alloc, format, is_same)?;
+    Ok(Outcome::saying(text, status_of(is_same)))
+}
+
+/// What is answered of two images that differ so.
+fn diff_outcome(alloc: Global, format: Format, told: &[Difference]) -> Result<Outcome, AllocError>
+    ensures { IfOk result (λ o. Gives o (says (differences_told format told.now) (comparison_status (are_none told.now)))) }
+{
+    let text = differences_told(alloc, format, told)?;
     Ok(Outcome::saying(text, status_of(told.is_empty())))
 }
 
 impl Comparison {
+    /// The format in which it is answered.
+    fn format(self) -> Format
+        ensures { result ≡ comparison_format self }
+    {
+        match self {
+            Comparison::Same(format) | Comparison::Diff(format) => format,
+        }
+    }
+
+    /// What is answered of one of two images that is refused.
+    fn refused(self, alloc: Global, side: Side, cause: Refusal) -> Result<Outcome, AllocError>
+        ensures { IfOk result (λ o. Gives o (says (side_told (comparison_format self) side cause) 1)) }
+    {
+        let line = side_told(alloc, self.format(), side, cause)?;
+        Ok(Outcome::saying(line, FAILED))
+    }
+
     /// Compares two sources of one geometry, which can be surveyed.
     ///
     /// # Errors
@@ -86,18 +147,18 @@ impl Comparison {
         ensures refused { IfErr result (IsCompareFault geometry.now (L.known left.old) (L.agrees left.new) (R.known right.old) (R.agrees right.new)) }
     {
         match self {
-            Comparison::Same => {
+            Comparison::Same(format) => {
                 let is_same = same_from(alloc, geometry, left, right)?;
-                Ok(same_outcome(alloc, is_same)?)
+                Ok(same_outcome(alloc, format, is_same)?)
             }
-            Comparison::Diff => {
+            Comparison::Diff(format) => {
                 let told = diff_from(alloc, geometry, left, right)?;
-                Ok(diff_outcome(alloc, told.as_slice())?)
+                Ok(diff_outcome(alloc, format, told.as_slice())?)
             }
         }
     }
 
-    /// Compares what two sources of one geometry mean: the lines that tell it, or that of the first that is refused. One
+    /// Compares what two sources of one geometry mean: what is told of it, or of the first that is refused. One
     /// eraseblock of contents of each is held at a time.
     ///
     /// # Errors
@@ -120,10 +181,10 @@ impl Comparison {
         match self.compare(alloc, geometry, left, right) {
             Ok(outcome) => Ok(outcome),
             Err(CompareFault::Left(StreamError::Refused(cause))) => {
-                Ok(Outcome::saying(side_line(alloc, "left ", cause)?, FAILED))
+                Ok(self.refused(alloc, Side::Left, cause)?)
             }
             Err(CompareFault::Right(StreamError::Refused(cause))) => {
-                Ok(Outcome::saying(side_line(alloc, "right ", cause)?, FAILED))
+                Ok(self.refused(alloc, Side::Right, cause)?)
             }
             Err(CompareFault::Left(StreamError::Read(..))) => Err(SidesError::Left),
             Err(CompareFault::Right(StreamError::Read(..))) => Err(SidesError::Right),
@@ -141,28 +202,33 @@ impl Comparison {
     }
 }
 
-/// What is told of a comparison of two files once it is done: its outcome, or the line of the file of which a read failed.
-fn told_of_sides(
+/// The outcome of a comparison of two files.
+///
+/// # Errors
+///
+/// The line of the file of which a read failed, or that memory ran out.
+fn done_over_sides(
     alloc: Global,
     work: Result<Outcome, SidesError>,
     left: &str,
     right: &str,
-) -> Result<Outcome, AllocError>
-    ensures { IfOk result (IsToldOfSides work left.now right.now) }
+) -> Result<Outcome, Unread>
+    ensures done { IfOk result (λ o. work ≡ Ok o) }
+    ensures unread { IfErr result (Tells (IsUnreadSide work left.now right.now)) }
 {
     match work {
         Ok(outcome) => Ok(outcome),
         Err(error) => match error {
-            SidesError::Left => unread_line(alloc, left),
-            SidesError::Right => unread_line(alloc, right),
-            SidesError::Memory => Err(AllocError),
+            SidesError::Left => Err(unread_file(alloc, left, ToolError::Read)),
+            SidesError::Right => Err(unread_file(alloc, right, ToolError::Read)),
+            SidesError::Memory => Err(Unread::Memory),
         },
     }
 }
 
 /// A dump of which it is known how it is read, and the path of its file.
 #[derive(Drop)]
-struct Side<'a, 'p> {
+struct KnownFile<'a, 'p> {
     /// The dump.
     known: KnownDump<'a>,
     /// The path.
@@ -170,71 +236,73 @@ struct Side<'a, 'p> {
 }
 
 /// Compares what the source over the left file means with what the right dump does, which has the same geometry.
+///
+/// # Errors
+///
+/// The line of a right dump that can't be had, or of the file of which a read failed; or that memory ran out.
 fn compare_beside<D: Disk, S: BlockSource>(
     disk: &D,
     alloc: Global,
     how: Comparison,
     source: &mut S,
     left: &str,
-    right: Side<'_, '_>,
-) -> Result<Outcome, AllocError>
+    right: KnownFile<'_, '_>,
+) -> Result<Outcome, Unread>
     requires kept { ForSome right.known.kept (λ bytes. IsPartOf (D.files disk.now) right.known.dump right.path.now bytes.items) }
     ensures narrows { Narrows (S.agrees source.old) (S.agrees source.new) }
-    ensures answer { IfOk result (Works (S.known source.old) (S.known source.new) left.now (OfFile (D.files disk.now) right.entry.known.dump right.entry.path.now (λ s l there. ComparesOf how s (S.known source.old) (S.agrees source.new) l there))) }
+    ensures answer { IfOk result (λ o. (S.known source.new ≡ S.known source.old) × OfRead (D.files disk.now) right.entry.known.dump right.entry.path.now (λ s l there. ComparesOf how s (S.known source.old) (S.agrees source.new) l there) o) }
+    ensures unread { IfErr result (Tells (Works (S.known source.old) (S.known source.new) left.now (IsUnseen (D.files disk.now) right.entry.known.dump right.entry.path.now))) }
 {
-    let Side {
+    let KnownFile {
         known: KnownDump { dump, kept },
         path,
     } = right;
-    let frame = match frame_of(alloc, &dump) {
-        Ok(frame) => frame,
-        Err(unread) => return unread.answer(),
-    };
-    match open_known(disk, alloc, &frame, kept, path) {
-        Ok(OpenImage::AtPlaces(mut file)) => {
+    let frame = frame_of(alloc, &dump)?;
+    match open_known(disk, alloc, &frame, kept, path)? {
+        OpenImage::AtPlaces(mut file) => {
             let geometry = file.geometry;
             let work = how.answer(alloc, &geometry, source, &mut file.source);
-            told_of_sides(alloc, work, left, path)
+            done_over_sides(alloc, work, left, path)
         }
-        Ok(OpenImage::Whole(file)) => {
+        OpenImage::Whole(file) => {
             let mut beside = MemorySource::new(file.bytes.as_slice());
             let work = how.answer(alloc, &file.geometry, source, &mut beside);
-            told_of_sides(alloc, work, left, path)
+            done_over_sides(alloc, work, left, path)
         }
-        Err(unread) => unread.answer(),
     }
 }
 
 /// Compares what two dumps of one geometry mean. Both are opened before the first is judged.
+///
+/// # Errors
+///
+/// The line of a dump that can't be had, or that memory ran out.
 fn compare_dumps<D: Disk>(
     disk: &D,
     alloc: Global,
     how: Comparison,
-    left: Side<'_, '_>,
-    right: Side<'_, '_>,
-) -> Result<Outcome, AllocError>
+    left: KnownFile<'_, '_>,
+    right: KnownFile<'_, '_>,
+) -> Result<Outcome, Unread>
     requires left { ForSome left.known.kept (λ bytes. IsPartOf (D.files disk.now) left.known.dump left.path.now bytes.items) }
     requires right { ForSome right.known.kept (λ bytes. IsPartOf (D.files disk.now) right.known.dump right.path.now bytes.items) }
     requires alike { left.known.dump.numbers ≡ right.known.dump.numbers }
-    ensures { IfOk result (OfFile (D.files disk.now) left.entry.known.dump left.entry.path.now (λ s k here. OfFile (D.files disk.now) right.entry.known.dump right.entry.path.now (λ _ l there. ComparesOf how s k here l there))) }
+    ensures answer { IfOk result (OfReadDumps (D.files disk.now) left.entry.known.dump left.entry.path.now right.entry.known.dump right.entry.path.now (ComparesOf how)) }
+    ensures unread { IfErr result (Tells (IsUnseenOfDumps (D.files disk.now) left.entry.known.dump left.entry.path.now right.entry.known.dump right.entry.path.now)) }
 {
-    let Side {
+    let KnownFile {
         known: KnownDump { dump, kept },
         path,
     } = left;
-    let frame = match frame_of(alloc, &dump) {
-        Ok(frame) => frame,
-        Err(unread) => return unread.answer(),
-    };
-    match open_known(disk, alloc, &frame, kept, path) {
-        Ok(OpenImage::AtPlaces(mut file)) => {
+    let frame = frame_of(alloc, &dump)?;
+    match open_known(disk, alloc, &frame, kept, path)? {
+        OpenImage::AtPlaces(mut file) => {
             compare_beside(disk, alloc, how, &mut file.source, path, right)
         }
-        Ok(OpenImage::Whole(file)) => {
+        OpenImage::Whole(file) => {
             let mut source = MemorySource::new(file.bytes.as_slice());
             compare_beside(disk, alloc, how, &mut source, path, right)
         }
-        Err(unread) => unread.answer(),
     }
 }
 
@@ -245,16 +313,51 @@ fn are_alike(left: &Dump<'_>, right: &Dump<'_>) -> bool
     left.numbers == right.numbers
 }
 
-/// What is answered of two dumps whose own geometries differ.
-fn unlike(alloc: Global, left: &Dump<'_>, right: &Dump<'_>) -> Result<Outcome, AllocError>
-    ensures { IfOk result (λ o. Gives o (says (unlike_line (sizes_of left.now.numbers) (sizes_of right.now.numbers)) 1)) }
+/// What is told of two dumps whose own geometries differ: the line of both; or that memory ran out.
+fn unlike(alloc: Global, left: &Dump<'_>, right: &Dump<'_>) -> Unread
+    ensures { Tells (λ o. Gives o (says (unlike_line (sizes_of left.now.numbers) (sizes_of right.now.numbers)) 1)) result }
 {
-    let line = unlike_line(alloc, left.numbers, right.numbers)?;
-    Ok(Outcome::saying(line, FAILED))
+    match unlike_line(alloc, left.numbers, right.numbers) {
+        Ok(line) => Unread::Told(Outcome::saying(line, FAILED)),
+        Err(AllocError) => Unread::Memory,
+    }
 }
 
 /// Compares what two files mean, each of which is read as the words tell, or as its own headers do. Both are opened before the first is
 /// judged.
+///
+/// # Errors
+///
+/// The line of a file of which no dump is told, of two dumps whose geometries differ, or of a dump that can't be had; or that memory
+/// ran out.
+fn compare_both<D: Disk>(
+    disk: &D,
+    alloc: Global,
+    how: Comparison,
+    asked: &Asked<'_>,
+    left: &str,
+    right: &str,
+) -> Result<Outcome, Unread>
+    ensures answer { IfOk result (OfReadBoth (D.files disk.now) asked.now left.now right.now (ComparesOf how)) }
+    ensures unread { IfErr result (Tells (IsUnreadOfBoth (D.files disk.now) asked.now left.now right.now)) }
+{
+    let here = find_dump(disk, alloc, asked, left, "left ")?;
+    let there = find_dump(disk, alloc, asked, right, "right ")?;
+    if !are_alike(&here.dump, &there.dump) {
+        return Err(unlike(alloc, &here.dump, &there.dump));
+    }
+    let left = KnownFile {
+        known: here,
+        path: left,
+    };
+    let right = KnownFile {
+        known: there,
+        path: right,
+    };
+    compare_dumps(disk, alloc, how, left, right)
+}
+
+/// What comparing two files tells, each of which is read as the words tell, or as its own headers do, in its format.
 pub fn compare_files<D: Disk>(
     disk: &D,
     alloc: Global,
@@ -263,26 +366,8 @@ pub fn compare_files<D: Disk>(
     left: &str,
     right: &str,
 ) -> Result<Outcome, AllocError>
-    ensures { IfOk result (OfBoth (D.files disk.now) asked.now left.now right.now (ComparesOf how)) }
+    ensures { IfOk result (OfBothIn (comparison_format how) (D.files disk.now) asked.now left.now right.now (ComparesOf how)) }
 {
-    let here = match find_dump(disk, alloc, asked, left, "left ") {
-        Ok(known) => known,
-        Err(unread) => return unread.answer(),
-    };
-    let there = match find_dump(disk, alloc, asked, right, "right ") {
-        Ok(known) => known,
-        Err(unread) => return unread.answer(),
-    };
-    if !are_alike(&here.dump, &there.dump) {
-        return unlike(alloc, &here.dump, &there.dump);
-    }
-    let left = Side {
-        known: here,
-        path: left,
-    };
-    let right = Side {
-        known: there,
-        path: right,
-    };
-    compare_dumps(disk, alloc, how, left, right)
+    let work = compare_both(disk, alloc, how, asked, left, right);
+    told_in(alloc, how.format(), work)
 }

@@ -2,34 +2,15 @@
 
 ghost use Rattle.std.specs.Prelude.{◌≡◌, ◌++◌, ◌∷◌, [], OnOk, decimal, flat_map};
 ghost use Rattle.hex.specs.Hex.{encode_lower};
-ghost use Rattle.ubi_commands.specs.Comparisons.{condition_word, difference_line, range_words, side_word, side_words, volume_words};
+ghost use Rattle.ubi_commands.specs.Comparisons.{difference_line, range_words, side_words, volume_words};
 ghost use Rattle.ubi_json.specs.Words.{shown};
 
 use crate::list::{put_digits, put_shown};
 use std::alloc::{AllocError, Global};
-use ubi_compare::{Condition, Difference, Side};
+use ubi_compare::Difference;
 use ubi_files::{put_number, put_word};
-use ubi_json::kind_word;
+use ubi_json::{condition_word, kind_word, side_word};
 use ubi_media::VolName;
-
-fn side_word(side: Side) -> &'static str
-    ensures { result.now ≡ side_word side }
-{
-    match side {
-        Side::Left => "left",
-        Side::Right => "right",
-    }
-}
-
-fn condition_word(condition: Condition) -> &'static str
-    ensures { result.now ≡ condition_word condition }
-{
-    match condition {
-        Condition::Updating => "updating",
-        Condition::Damaged => "damaged",
-        Condition::Whole => "whole",
-    }
-}
 
 /// Adds the beginning of a line of a volume.
 fn put_volume(text: &mut Vec<u8>, id: u32, word: &str) -> Result<(), AllocError>

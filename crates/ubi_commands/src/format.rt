@@ -1,11 +1,12 @@
 //! The formats in which commands answer.
 
 ghost use Rattle.std.specs.Prelude.{◌≡◌, IfOk};
-ghost use Rattle.ubi_commands.specs.Formats.{refusal_told, undetected_told};
+ghost use Rattle.ubi_commands.specs.Formats.{refusal_told, side_told, undetected_told};
 ghost use Rattle.ubi_commands.specs.inner.Formatted.{IsLineIn, IsToldIn};
 
-use crate::lines::undetected_line;
+use crate::lines::{side_line, undetected_line};
 use std::alloc::{AllocError, Global};
+use ubi_compare::Side;
 use ubi_detect::Undetected;
 use ubi_files::{Outcome, Unread, refusal_line};
 use ubi_json::error_line;
@@ -27,6 +28,21 @@ pub fn refusal_told(alloc: Global, format: Format, cause: Refusal) -> Result<Vec
     match format {
         Format::Text => refusal_line(alloc, cause),
         Format::Json => ubi_json::refusal_line(alloc, cause),
+    }
+}
+
+/// What is told of one of two images that is refused.
+pub fn side_told(
+    alloc: Global,
+    format: Format,
+    side: Side,
+    cause: Refusal,
+) -> Result<Vec<u8>, AllocError>
+    ensures { IfOk result (λ text. text.items ≡ side_told format side cause) }
+{
+    match format {
+        Format::Text => side_line(alloc, side, cause),
+        Format::Json => ubi_json::side_line(alloc, side, cause),
     }
 }
 

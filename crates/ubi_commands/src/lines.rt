@@ -6,8 +6,10 @@ ghost use Rattle.ubi_files.specs.Numbers.{sizes_of};
 
 use itoa::Buffer;
 use std::alloc::{AllocError, Global};
+use ubi_compare::Side;
 use ubi_detect::Undetected;
 use ubi_files::{Numbers, put_number, put_word, refusal_line, refused};
+use ubi_json::side_word;
 use ubi_media::Refusal;
 
 /// The line of a file of which no geometry is told.
@@ -64,10 +66,11 @@ pub fn unlike_line(alloc: Global, left: Numbers, right: Numbers) -> Result<Vec<u
 }
 
 /// The line of one of two images that is refused, behind the side on which it stands.
-pub fn side_line(alloc: Global, side: &str, cause: Refusal) -> Result<Vec<u8>, AllocError>
-    ensures { IfOk result (λ text. text.items ≡ side_line side.now cause) }
+pub fn side_line(alloc: Global, side: Side, cause: Refusal) -> Result<Vec<u8>, AllocError>
+    ensures { IfOk result (λ text. text.items ≡ side_line side cause) }
 {
-    let mut text = Vec::from_slice(alloc, side.as_bytes())?;
+    let mut text = Vec::from_slice(alloc, side_word(side).as_bytes())?;
+    put_word(&mut text, " ")?;
     text.extend_from_slice(refusal_line(alloc, cause)?.as_slice())?;
     Ok(text)
 }

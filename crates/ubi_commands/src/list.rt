@@ -182,7 +182,7 @@ fn list_lines<S: BlockSource>(
 /// # Errors
 ///
 /// Read where a read failed. Memory where memory ran out.
-fn keep_volumes<S: BlockSource>(
+pub(crate) fn keep_volumes<S: BlockSource>(
     listed: &mut Vec<ListedVolume>,
     geometry: &Geometry,
     source: &mut S,

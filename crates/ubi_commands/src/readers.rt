@@ -18,6 +18,7 @@ use crate::finding::{KnownDump, find_dump, open_known};
 use crate::format::{Format, told_in};
 use crate::geometry::run_geometry_from;
 use crate::list::run_list_from;
+use crate::map::{run_map_from, run_page_from};
 use crate::show::run_show_from;
 use std::alloc::{AllocError, Global};
 use ubi_files::{Disk, FilePart, OpenImage, Outcome, ToolError, Unread, frame_of, unread_file};
@@ -36,6 +37,10 @@ pub enum Reading {
     Check(Format),
     /// `show`: the headers of the eraseblock with this number.
     Show(u32),
+    /// `map`: a letter for each eraseblock.
+    Map,
+    /// `map` with a page that shows them, as the file of its outcome.
+    Page,
 }
 
 impl Reading {
@@ -47,7 +52,7 @@ impl Reading {
             Reading::Geometry(_, format) | Reading::List(format) | Reading::Check(format) => {
                 *format
             }
-            Reading::Show(_) => Format::Text,
+            Reading::Show(_) | Reading::Map | Reading::Page => Format::Text,
         }
     }
 
@@ -72,6 +77,8 @@ impl Reading {
             Reading::List(format) => run_list_from(alloc, geometry, source, *format),
             Reading::Check(format) => run_check_from(alloc, geometry, source, *format),
             Reading::Show(block) => run_show_from(alloc, geometry, source, *block),
+            Reading::Map => run_map_from(alloc, geometry, source),
+            Reading::Page => run_page_from(alloc, geometry, source),
         }
     }
 }

@@ -9,14 +9,15 @@ ghost use Rattle.ubi_commands.specs.inner.CommandLine.{IsAskedBy, words_in};
 
 use crate::asked::{
     Asked, Change, Extract, NewImage, Paths, Rename, are_listed, asked_of, blank_of, dump_of,
-    format_of, gives_no_geometry, leb_change, new_image, number_of, numbers_of, part_of, paths_of,
-    text_of, volume_extract, volume_rename,
+    format_of, gives_no_geometry, leb_change, may_text_of, new_image, number_of, numbers_of,
+    part_of, paths_of, text_of, volume_extract, volume_rename,
 };
 use crate::build::build_file;
 use crate::comparison::{Comparison, compare_files};
 use crate::compose::compose_file;
 use crate::finding::KnownDump;
 use crate::format::Format;
+use crate::map::map_file;
 use crate::planners::{change_file, rename_file};
 use crate::readers::{Reading, read_dump, read_file};
 use crate::unpack::unpack_file;
@@ -66,6 +67,12 @@ pub enum Request<'a> {
         dump: Asked<'a>,
         image: &'a str,
         command: Reading,
+    },
+    /// What lies where in one file, and a page that shows it, if one is asked for.
+    Map {
+        dump: Asked<'a>,
+        image: &'a str,
+        page: Option<&'a str>,
     },
     /// What a volume of one file reads, into another.
     Extract {
@@ -141,6 +148,7 @@ fn request_under<'a>(name: &str, matches: &'a ArgMatches<'_>) -> Option<Request<
         "list" => list_of(matches),
         "check" => check_of(matches),
         "show" => show_of(matches),
+        "map" => map_of(matches),
         "extract" => extract_of(matches),
         "unpack" => unpack_of(matches),
         "compose" => compose_of(matches),
@@ -194,6 +202,16 @@ fn show_of<'a>(matches: &'a ArgMatches<'_>) -> Option<Request<'a>>
     })
 }
 
+fn map_of<'a>(matches: &'a ArgMatches<'_>) -> Option<Request<'a>>
+    ensures { IsOneOf (IsAskedBy (codes "map") (words_in matches.now)) result }
+{
+    Some(Request::Map {
+        dump: asked_of(matches)?,
+        image: text_of(matches, "IMAGE")?,
+        page: may_text_of(matches, "out"),
+    })
+}
+
 fn extract_of<'a>(matches: &'a ArgMatches<'_>) -> Option<Request<'a>>
     ensures { IsOneOf (IsAskedBy (codes "extract") (words_in matches.now)) result }
 {
@@ -243,7 +261,7 @@ fn same_of<'a>(matches: &'a ArgMatches<'_>) -> Option<Request<'a>>
     ensures { IsOneOf (IsAskedBy (codes "same") (words_in matches.now)) result }
 {
     Some(Request::Compare {
-        how: Comparison::Same,
+        how: Comparison::Same(format_of(matches)?),
         dump: asked_of(matches)?,
         left: text_of(matches, "IMAGE")?,
         right: text_of(matches, "OTHER")?,
@@ -254,7 +272,7 @@ fn diff_of<'a>(matches: &'a ArgMatches<'_>) -> Option<Request<'a>>
     ensures { IsOneOf (IsAskedBy (codes "diff") (words_in matches.now)) result }
 {
     Some(Request::Compare {
-        how: Comparison::Diff,
+        how: Comparison::Diff(format_of(matches)?),
         dump: asked_of(matches)?,
         left: text_of(matches, "IMAGE")?,
         right: text_of(matches, "OTHER")?,
@@ -304,6 +322,7 @@ pub fn run_request<D: Disk + Eprint>(
             image,
             command,
         } => read_file(disk, alloc, &dump, image, &command),
+        Request::Map { dump, image, page } => map_file(disk, alloc, &dump, image, page),
         Request::Extract { dump, extract } => {
             let command = Writing::Extract(extract.key);
             write_file(disk, alloc, &dump, &extract.paths, &command, false)

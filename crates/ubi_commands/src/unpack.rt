@@ -10,7 +10,6 @@ ghost use Rattle.ubi_volume.specs.Extract.{extent_in, extent_len};
 ghost use Rattle.ubi_volume.specs.Places.{ArePlaces, ArePlacesOf};
 ghost use Rattle.ubi_volume.specs.Reading.{read_volume};
 ghost use Rattle.ubi_files.specs.AfterRun.{IsNoWrite, after_run};
-ghost use Rattle.ubi_files.specs.Told.{IsTold};
 ghost use Rattle.ubi_files.specs.Answer.{Gives, says};
 ghost use Rattle.ubi_files.specs.Disk.{AllStay, OthersStay, OutsideStay};
 ghost use Rattle.ubi_files.specs.Lines.{file_line};
@@ -18,6 +17,7 @@ ghost use Rattle.ubi_files.specs.Kept.{IsPartOf};
 ghost use Rattle.ubi_commands.specs.Program.{OfAsked};
 ghost use Rattle.ubi_files.specs.OverFile.{OfFile};
 ghost use Rattle.ubi_commands.specs.Unpack.{AreUnpacked, IsUnpacked, Unpacks, UnpacksFrom, UnpacksOf, file_byte, file_name, file_path, number_and_name, unpacked_amount, unpacked_line, unpacked_lines, unpacked_status};
+ghost use Rattle.ubi_commands.specs.inner.Ended.{IsTold};
 ghost use Rattle.ubi_commands.specs.inner.Folder.{AreFilesOf, Ends, IsFileOf};
 
 use crate::asked::{Asked, Paths};

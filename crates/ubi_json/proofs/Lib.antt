@@ -1,4 +1,5 @@
 pub mod ListedWhole
+pub mod DifferencesWhole
 pub mod GeometriesWhole
 pub mod Alike
 pub mod Prelude

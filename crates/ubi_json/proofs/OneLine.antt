@@ -1,5 +1,5 @@
 -- The text of data is one line: each of its bytes is 0x20 or above.
-use Rattle.ubi_json.proofs.Prelude.{◌≡◌, ◌∙◌, ◌⊎◌, ◌&&◌, ◌++◌, ◌+◌, ◌/◌, ◌%◌, ◌<◌, ◌==◌, ◌≤◌, ◌∷◌, [], Bool, List, ap, arith, cond, false, inl, inr, refl, suc, true, zero, ℕ, nat_lt, decimal, nat_le, pos, negsuc, list_all, digit_glyph, digits, digits_onto, cases_lt, le-leb, list_all-append, escape_byte_plain, escape, escape_byte, quoted, Data, Items, Members, Num, array, boolean, float, item, member, negative, no_items, no_members, null, number, object, string, unsigned, comma_if, compact_text, items_text, members_text, number_text}
+use Rattle.ubi_json.proofs.Prelude.{◌≡◌, ◌∙◌, ◌⊎◌, ◌&&◌, ◌++◌, ◌+◌, ◌/◌, ◌%◌, ◌<◌, ◌==◌, ◌≤◌, ◌∷◌, [], Bool, List, arith, cond, false, inl, inr, refl, suc, true, zero, ℕ, nat_lt, decimal, nat_le, pos, negsuc, list_all, digit_glyph, digits, digits_onto, cases_lt, le-leb, list_all-append, escape_byte_plain, escape, escape_byte, quoted, Data, Items, Members, Num, array, boolean, float, item, member, negative, no_items, no_members, null, number, object, string, unsigned, comma_if, compact_text, items_text, members_text, number_text}
 
 -- no byte is below 0x20
 abbrev Wide : List ℕ → Type 0

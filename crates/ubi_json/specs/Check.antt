@@ -1,5 +1,5 @@
 -- What is told of the eraseblocks of an image, as JSON.
-use Rattle.std.specs.Prelude.{ℕ, Bool, List, codes, length, true}
+use Rattle.std.specs.Prelude.{ℕ, List, codes, length, true}
 use Rattle.serde_json.specs.Data.{Data, boolean, member, no_members, object}
 use Rattle.ubi_volume.specs.Survey.{Seen}
 use Rattle.ubi_volume.specs.declared.attached.BlockState.{BlockState}
@@ -35,7 +35,3 @@ counts_data blocks image_seq mean states top =
 -- of an image that is surveyed
 abbrev pub check_data : Seen → Data
 check_data a = counts_data (length a.states) a.scan.image_seq a.scan.mean_ec (states_data a.states) a.scan.top_sqnum
-
--- whether two images mean the same
-abbrev pub same_data : Bool → Data
-same_data same = object (member (codes "same") (boolean same) no_members)

@@ -1,5 +1,5 @@
 -- Laws of what is told, as they stand on functions that do nothing.
-use Rattle.std.specs.Prelude.{◌≡◌, nat_le, true}
+use Rattle.std.specs.Prelude.{◌≡◌, ◌++◌, codes, nat_le, true}
 use Rattle.std.specs.List.{list_all}
 use Rattle.serde_json.specs.Data.{Data}
 use Rattle.serde_json.specs.Written.{compact_text}
@@ -7,12 +7,25 @@ use Rattle.ubi_media.specs.ErrorTexts.{refusal_text}
 use Rattle.ubi_media.specs.declared.refusal.Refusal.{Refusal}
 use Rattle.ubi_detect.specs.ErrorTexts.{undetected_text}
 use Rattle.ubi_detect.specs.declared.detect.Undetected.{Undetected}
+use Rattle.ubi_compare.specs.ErrorTexts.{compare_error_text}
+use Rattle.ubi_compare.specs.declared.difference.Side.{Side}
+use Rattle.ubi_compare.specs.declared.difference.Side.TheVariants as side
+use Rattle.ubi_compare.specs.declared.errors.CompareError.{CompareError}
+use Rattle.ubi_compare.specs.declared.errors.CompareError.TheVariants as error
 use Rattle.ubi_json.specs.Told.{told_of, told_text, undetected_told}
+use Rattle.ubi_json.specs.Words.{side_word}
 
--- what is printed of a cause is told of it as JSON: the code, the name, each number under its word, and the name of the rule
+-- one of two images is refused
+abbrev pub refused_at : Side → Refusal → CompareError
+refused_at side.Left c = error.Left c
+refused_at side.Right c = error.Right c
+
+-- what is printed of a cause is told of it as JSON: the code, the name, each number under its word, and the name of the rule; and of
+-- one of two images the side
 pub record TellAlike : Type 0 where
   pub refusals : (c : Refusal) → refusal_text c ≡ told_text (told_of c)
   pub undetected : (c : Undetected) → undetected_text c ≡ told_text (undetected_told c)
+  pub sides : (s : Side) (c : Refusal) → compare_error_text (refused_at s c) ≡ side_word s ++ codes " " ++ told_text (told_of c)
 
 -- the text of any data is one line: no byte of it is below 0x20
 abbrev pub OneLine : Type 0

@@ -8,7 +8,9 @@ use Rattle.ubi_media.specs.declared.refusal.Refusal.{Refusal}
 use Rattle.ubi_media.specs.declared.refusal.Refusal.TheVariants as cause
 use Rattle.ubi_detect.specs.declared.detect.Undetected.{Undetected}
 use Rattle.ubi_detect.specs.declared.detect.Undetected.TheVariants as unknown
+use Rattle.ubi_compare.specs.declared.difference.Side.{Side}
 use Rattle.ubi_json.specs.Line.{worded}
+use Rattle.ubi_json.specs.Words.{side_word}
 
 -- a cause: its code, its name, numbers under words, and the name of the rule that is broken, if it names one
 pub record Told : Type 0 where
@@ -90,8 +92,8 @@ abbrev pub refusal_data : Refusal → Data
 refusal_data c = refused_data (told_members (told_of c))
 
 -- that of one of two images that is refused, with the side on which it stands
-abbrev pub side_data : List ℕ → Refusal → Data
-side_data side c = refused_data (put (codes "side") (string side) (told_members (told_of c)))
+abbrev pub side_data : Side → Refusal → Data
+side_data side c = refused_data (put (codes "side") (string (side_word side)) (told_members (told_of c)))
 
 -- the cause for which no geometry is told of a file
 abbrev pub undetected_told : Undetected → Told

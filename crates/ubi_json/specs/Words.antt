@@ -6,6 +6,10 @@ use Rattle.ubi_media.specs.declared.vid.VolKind.{VolKind}
 use Rattle.ubi_media.specs.declared.vid.VolKind.TheVariants as kind
 use Rattle.ubi_volume.specs.declared.attached.BlockState.{BlockState}
 use Rattle.ubi_volume.specs.declared.attached.BlockState.TheVariants as state
+use Rattle.ubi_compare.specs.declared.difference.Condition.{Condition}
+use Rattle.ubi_compare.specs.declared.difference.Condition.TheVariants as condition
+use Rattle.ubi_compare.specs.declared.difference.Side.{Side}
+use Rattle.ubi_compare.specs.declared.difference.Side.TheVariants as side
 
 -- a byte of a name as it is shown: a printable one but the backslash as it is, and any other by its two digits
 abbrev pub shown_byte : ℕ → List ℕ
@@ -19,6 +23,17 @@ shown name = flat_map shown_byte name
 abbrev pub kind_word : VolKind → List ℕ
 kind_word kind.Dynamic = codes "dynamic"
 kind_word kind.Static = codes "static"
+
+-- the word of one of two images
+abbrev pub side_word : Side → List ℕ
+side_word side.Left = codes "left"
+side_word side.Right = codes "right"
+
+-- the word for whether a volume can be read
+abbrev pub condition_word : Condition → List ℕ
+condition_word condition.Updating = codes "updating"
+condition_word condition.Damaged = codes "damaged"
+condition_word condition.Whole = codes "whole"
 
 -- whether two states are the same
 abbrev pub same_state : BlockState → BlockState → Bool

@@ -2,7 +2,7 @@
 
 ghost use Rattle.std.specs.Prelude.{◌≡◌, IfOk};
 ghost use Rattle.serde_json.specs.View.{view};
-ghost use Rattle.ubi_json.specs.Check.{check_data, counts_data, same_data, states_data};
+ghost use Rattle.ubi_json.specs.Check.{check_data, counts_data, states_data};
 ghost use Rattle.ubi_json.specs.Line.{IsLineOf};
 ghost use Rattle.ubi_json.specs.Words.{count_of, same_state};
 
@@ -69,8 +69,12 @@ fn counts_value(
     })
 }
 
-/// An image that is surveyed.
-fn check_value(alloc: Global, surveyed: &Surveyed) -> Result<Value, AllocError>
+/// An image that is surveyed: how many eraseblocks have each state, and the numbers of the image.
+///
+/// # Errors
+///
+/// Memory ran out.
+pub fn check_value(alloc: Global, surveyed: &Surveyed) -> Result<Value, AllocError>
     ensures { IfOk result (λ v. view v ≡ check_data surveyed.now) }
 {
     let states = surveyed.states();
@@ -83,25 +87,6 @@ fn check_value(alloc: Global, surveyed: &Surveyed) -> Result<Value, AllocError>
         counted,
         surveyed.top_sqnum(),
     )
-}
-
-/// Whether two images mean the same.
-fn same_value(alloc: Global, same: bool) -> Result<Value, AllocError>
-    ensures { IfOk result (λ v. view v ≡ same_data same) }
-{
-    json!(in alloc; {"same": same})
-}
-
-/// The line of two images that mean the same, or don't.
-///
-/// # Errors
-///
-/// Memory ran out.
-pub fn same_line(alloc: Global, same: bool) -> Result<Vec<u8>, AllocError>
-    ensures { IfOk result (λ line. IsLineOf (same_data same) line.items) }
-{
-    let value = same_value(alloc, same)?;
-    line_of(alloc, &value)
 }
 
 /// The line of an image that is surveyed: how many eraseblocks have each state, and the numbers of the image.

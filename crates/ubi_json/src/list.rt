@@ -36,7 +36,11 @@ pub fn kind_word(kind: VolKind) -> &'static str
 }
 
 /// The sizes of a device.
-fn sizes_value(alloc: Global, geometry: &Geometry) -> Result<Value, AllocError>
+///
+/// # Errors
+///
+/// Memory ran out.
+pub fn sizes_value(alloc: Global, geometry: &Geometry) -> Result<Value, AllocError>
     ensures { IfOk result (λ v. view v ≡ sizes_data geometry.now) }
 {
     json!(in alloc; {
@@ -136,7 +140,11 @@ fn volume_values(
 }
 
 /// The sizes of a device, and its volumes as they are listed.
-fn listed_value(
+///
+/// # Errors
+///
+/// Memory ran out.
+pub fn listed_value(
     alloc: Global,
     geometry: &Geometry,
     volumes: &[ListedVolume],

@@ -1,14 +1,17 @@
 //! Causes for which nothing else is told, as JSON.
 
-ghost use Rattle.std.specs.Prelude.{◌≡◌, ◌-◌, IfOk, OnOk, length, map, option_map, string_bytes, take};
+ghost use Rattle.std.specs.Prelude.{◌≡◌, ◌-◌, IfOk, OnOk, false, length, map, option_map, string_bytes, take};
 ghost use Rattle.std.specs.Str.Lossy.{utf8_lossy};
 ghost use Rattle.serde_json.specs.View.{members_view, view};
+ghost use Rattle.serde_json.specs.Written.{has_float};
 ghost use Rattle.ubi_json.specs.Line.{IsLineOf};
 ghost use Rattle.ubi_json.specs.Told.{at_block, at_fault, bare, error_data, refusal_data, refused_data, side_data, told_members, told_of, undetected_data, undetected_told, with_fault, with_numbers};
 
+use crate::differences::side_word;
 use crate::line::line_of;
 use serde_json::{Map, Value, json, put};
 use std::alloc::{AllocError, Global};
+use ubi_compare::Side;
 use ubi_detect::Undetected;
 use ubi_media::{EcOffsets, Refusal};
 
@@ -148,19 +151,24 @@ fn refused(alloc: Global, members: Map<String, Value>) -> Result<Value, AllocErr
 }
 
 /// The object of the cause for which an image is refused.
-fn refusal_value(alloc: Global, cause: Refusal) -> Result<Value, AllocError>
-    ensures { IfOk result (λ v. view v ≡ refusal_data cause) }
+///
+/// # Errors
+///
+/// Memory ran out.
+pub fn refusal_value(alloc: Global, cause: Refusal) -> Result<Value, AllocError>
+    ensures value { IfOk result (λ v. view v ≡ refusal_data cause) }
+    ensures whole { has_float (refusal_data cause) ≡ false }
 {
     let members = refusal_members(alloc, cause)?;
     refused(alloc, members)
 }
 
 /// The object of the cause for which one of two images is refused, with the side on which it stands.
-fn side_value(alloc: Global, side: &str, cause: Refusal) -> Result<Value, AllocError>
-    ensures { IfOk result (λ v. view v ≡ side_data side.now cause) }
+fn side_value(alloc: Global, side: Side, cause: Refusal) -> Result<Value, AllocError>
+    ensures { IfOk result (λ v. view v ≡ side_data side cause) }
 {
     let mut members = refusal_members(alloc, cause)?;
-    let word = Value::try_from_str(alloc, side)?;
+    let word = Value::try_from_str(alloc, side_word(side))?;
     put(&mut members, alloc, "side", word)?;
     refused(alloc, members)
 }
@@ -170,8 +178,8 @@ fn side_value(alloc: Global, side: &str, cause: Refusal) -> Result<Value, AllocE
 /// # Errors
 ///
 /// Memory ran out.
-pub fn side_line(alloc: Global, side: &str, cause: Refusal) -> Result<Vec<u8>, AllocError>
-    ensures { IfOk result (λ line. IsLineOf (side_data side.now cause) line.items) }
+pub fn side_line(alloc: Global, side: Side, cause: Refusal) -> Result<Vec<u8>, AllocError>
+    ensures { IfOk result (λ line. IsLineOf (side_data side cause) line.items) }
 {
     let value = side_value(alloc, side, cause)?;
     line_of(alloc, &value)

@@ -121,7 +121,7 @@ fn is_compared<'a>(
     let geometry = small()?;
     let mut source = ChangingSource::new(first, then, left);
     let mut beside = MemorySource::new(first);
-    let how = Comparison::Same;
+    let how = Comparison::Same(Format::Text);
     let answer = how.answer(alloc, &geometry, &mut source, &mut beside)?;
     let (mut one, mut other) = (MemorySource::new(first), MemorySource::new(first));
     let want = how.answer(alloc, &geometry, &mut one, &mut other)?;

@@ -5,19 +5,19 @@ use super::contents::Contents;
 use std::alloc::Global;
 use std::process::Abort;
 use std::test::Fail;
-use ubi_commands::Comparison;
+use ubi_commands::{Comparison, Format};
 use ubi_files::SidesError;
 use ubi_probe::ProbeSource;
 use ubi_probe::pebs::{A, B, C, FIRST, SECOND, small};
 
 /// The image of `root` with another first byte in logical eraseblock 0 and another last one in 2.
-const BOTH_ENDS: Contents = Contents::Pebs(
+pub const BOTH_ENDS: Contents = Contents::Pebs(
     &[FIRST, SECOND, A, B, C],
     &[(2 * 512 + 128, b"x"), (5 * 512 - 1, b"x")],
 );
 
 /// The same with another byte in each of the three.
-const ALL_THREE: Contents = Contents::Pebs(
+pub const ALL_THREE: Contents = Contents::Pebs(
     &[FIRST, SECOND, A, B, C],
     &[
         (2 * 512 + 128, b"x"),
@@ -159,12 +159,12 @@ fn names_the_side_whose_read_fails(rt: HostRuntime) -> Result<(), Fail> {
     for at in 1..11 {
         let mut left = ProbeSource::new(alloc, &geometry, root, at)?;
         let mut right = ProbeSource::new(alloc, &geometry, other, 0)?;
-        let answer = Comparison::Diff.answer(alloc, &geometry, &mut left, &mut right);
+        let answer = Comparison::Diff(Format::Text).answer(alloc, &geometry, &mut left, &mut right);
         let is_left = matches!(&answer, Err(SidesError::Left));
         assert!(rt; is_left == (at < 10), "left at {at}");
         let mut left = ProbeSource::new(alloc, &geometry, root, 0)?;
         let mut right = ProbeSource::new(alloc, &geometry, other, at)?;
-        let answer = Comparison::Diff.answer(alloc, &geometry, &mut left, &mut right);
+        let answer = Comparison::Diff(Format::Text).answer(alloc, &geometry, &mut left, &mut right);
         let is_right = matches!(&answer, Err(SidesError::Right));
         assert!(rt; is_right == (at < 10), "right at {at}");
     }

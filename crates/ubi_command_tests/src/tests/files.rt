@@ -455,6 +455,21 @@ static COMPOSED: Session = Session {
         ("same zero.img eight.img", "different\n", 1),
         ("same eight.img most.img", "different\n", 1),
         (
+            "diff zero.img eight.img --format json",
+            "{\"differences\":[{\"left\":0,\"right\":8,\"what\":\"image_seq\"}],\"same\":false}\n",
+            1,
+        ),
+        (
+            "diff zero.img uncomposed.img --format json",
+            "{\"error\":\"cannot read uncomposed.img\"}\n",
+            1,
+        ),
+        (
+            "same uncomposed.img zero.img --format json",
+            "{\"error\":\"cannot read uncomposed.img\"}\n",
+            1,
+        ),
+        (
             "check most.img",
             "blocks 32\nblank 0\nfree 30\ntable 2\nused 0\nstale 0\norphan 0\ndropped 0\n\
                 corrupt 0\ngarbage 0\ntop sqnum 0\nimage seq 4294967295\nmean counter 0\naccepted\n",

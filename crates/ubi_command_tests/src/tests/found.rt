@@ -230,7 +230,7 @@ static PLAIN: [(Contents, (Contents, usize, Lay), &str, u8); 3] = [
 ];
 
 /// The chip's image, and where it lies between other bytes.
-const CHIP: Contents = Contents::Chip(PAGES, 524_288);
+pub const CHIP: Contents = Contents::Chip(PAGES, 524_288);
 
 const BETWEEN: Lay = Lay(640, 64, 3);
 

@@ -1,16 +1,22 @@
 //! Answers as JSON.
 
-use super::answers::{assert_both, assert_over, assert_wrong};
+use super::answers::{assert_both, assert_over, assert_own, assert_wrong};
 use super::contents::{Contents, EMPTY};
+use super::diff::{ALL_THREE, BOTH_ENDS};
 use super::fake::Broken;
+use super::found::CHIP;
 use super::views::Lay;
-use std::alloc::AllocError;
+use std::alloc::{AllocError, Global};
 use std::io::ErrorKind;
 use std::process::Abort;
 use std::test::Fail;
+use ubi_compare::{Difference, Side};
 use ubi_detect::{Detected, Undetected};
 use ubi_files::FilePart;
-use ubi_json::{error_line, geometry_line, refusal_line, shown_text, undetected_line};
+use ubi_json::{
+    differences_line, error_line, geometry_line, refusal_line, shown_text, side_line,
+    undetected_line,
+};
 use ubi_media::{EcFault, EcOffsets, RecFault, Refusal, VidFault};
 use ubi_probe::header_bytes::EC;
 use ubi_probe::pebs::{FIRST, SECOND, STATIC_A, small};
@@ -209,12 +215,14 @@ fn tells_why_there_is_nothing_to_tell(rt: HostRuntime) -> Result<(), Fail> {
         assert_both(&rt, alloc, files, line, answer, &[])?;
     }
     let root = Contents::Root.bytes(alloc)?;
-    let files: (&[u8], &[u8]) = (root.as_slice(), &[]);
+    let files = (root.as_slice(), root.as_slice());
     let unread = ("{\"error\":\"cannot read a.img\"}\n", 1);
     for line in [
         "check a.img --format json",
         "list a.img --format json",
         "geometry a.img --format json",
+        "same a.img new.bin --format json",
+        "diff a.img new.bin --format json",
     ] {
         assert_over(&rt, alloc, files, Broken::OpenRead, line, unread, &[])?;
         let broken = Broken::Read(ErrorKind::Other, 640);
@@ -231,10 +239,194 @@ fn knows_two_words(rt: HostRuntime) -> Result<(), Fail> {
         "check a.img --format JSON",
         "list a.img --format=",
         "geometry a.img --format jsonl",
+        "same a.img new.bin --format Text",
+        "diff a.img new.bin --format lines",
     ] {
         assert_wrong(&rt, alloc, line, why)?;
     }
     assert_wrong(&rt, alloc, "show a.img --block 0 --format json", "--format")
+}
+
+/// Two images, and what `diff` tells of each difference.
+static DIFFERING: [(Contents, Contents, &str); 12] = [
+    (
+        Contents::Root,
+        Contents::Unnamed,
+        r#"{"left":305419896,"right":0,"what":"image_seq"}"#,
+    ),
+    (
+        Contents::Root,
+        Contents::Runs(&[(b"\xFF", 512)]),
+        r#"{"left":305419896,"right":0,"what":"image_seq"},{"id":0,"only":"left","what":"volume"}"#,
+    ),
+    (
+        Contents::Runs(&[(b"\xFF", 512)]),
+        Contents::Root,
+        r#"{"left":0,"right":305419896,"what":"image_seq"},{"id":0,"only":"right","what":"volume"}"#,
+    ),
+    (
+        Contents::WithData,
+        Contents::WithName,
+        r#"{"id":1,"left":"data","right":"name","what":"name"}"#,
+    ),
+    (
+        Contents::PlainName,
+        Contents::StrangeName,
+        r#"{"id":0,"left":165,"right":0,"what":"flags"},{"id":0,"left":"\\x20\\x5c~!","right":"\\x1f\\x7f\\xff\"","what":"name"}"#,
+    ),
+    (
+        Contents::Marked,
+        Contents::Unnamed,
+        r#"{"id":0,"left":"updating","right":"whole","what":"contents"}"#,
+    ),
+    (
+        Contents::WholeBoot,
+        Contents::DamagedBoot,
+        r#"{"id":0,"left":"whole","right":"damaged","what":"contents"}"#,
+    ),
+    (
+        Contents::EmptyBoot,
+        Contents::WholeBoot,
+        r#"{"id":0,"left":0,"right":385,"what":"bytes"}"#,
+    ),
+    (
+        Contents::Unnamed,
+        Contents::WholeBoot,
+        r#"{"id":0,"left":"dynamic","right":"static","what":"kind"},{"id":0,"left":20,"right":3,"what":"reserved"},{"id":0,"left":"root","right":"boot","what":"name"},{"first":1,"id":0,"last":1,"what":"lebs"}"#,
+    ),
+    (
+        Contents::AlignedTable,
+        Contents::Unnamed,
+        r#"{"id":0,"left":256,"right":1,"what":"alignment"}"#,
+    ),
+    (
+        Contents::Root,
+        BOTH_ENDS,
+        r#"{"first":0,"id":0,"last":0,"what":"lebs"},{"first":2,"id":0,"last":2,"what":"lebs"}"#,
+    ),
+    (
+        Contents::Root,
+        ALL_THREE,
+        r#"{"first":0,"id":0,"last":2,"what":"lebs"}"#,
+    ),
+];
+
+/// Images of which one is refused, or both, and what is told of the first.
+static ONE_REFUSED: [(Contents, Contents, &str); 4] = [
+    (
+        Contents::Odd,
+        Contents::Faulty,
+        r#"{"refused":{"cause":"Length","code":"S1","side":"left"}}"#,
+    ),
+    (
+        Contents::Root,
+        Contents::Odd,
+        r#"{"refused":{"cause":"Length","code":"S1","side":"right"}}"#,
+    ),
+    (
+        Contents::Faulty,
+        Contents::Root,
+        r#"{"refused":{"block":3,"cause":"ImageSeq","code":"S4","side":"left"}}"#,
+    ),
+    (
+        Contents::Root,
+        Contents::Faulty,
+        r#"{"refused":{"block":3,"cause":"ImageSeq","code":"S4","side":"right"}}"#,
+    ),
+];
+
+/// Asserts what `same` and `diff` answer of two files as JSON.
+fn assert_compared(
+    rt: &impl Abort,
+    alloc: Global,
+    (left, right): (&Contents, &Contents),
+    (same, diff): (&str, &str),
+    status: u8,
+) -> Result<(), Fail> {
+    let (left, right) = (left.bytes(alloc)?, right.bytes(alloc)?);
+    let files = (left.as_slice(), right.as_slice());
+    for (line, text) in [
+        ("same a.img new.bin --format json", same),
+        ("diff a.img new.bin --format json", diff),
+    ] {
+        let text = format!(in alloc; "{text}\n")?;
+        assert_both(rt, alloc, files, line, (text.as_str(), status), &[])?;
+    }
+    Ok(())
+}
+
+#[test]
+fn tells_in_what_images_differ(rt: HostRuntime) -> Result<(), Fail> {
+    let alloc = rt.alloc();
+    let sides = (&Contents::NormalBoot, &Contents::WholeBoot);
+    let same = (r#"{"same":true}"#, r#"{"differences":[],"same":true}"#);
+    assert_compared(&rt, alloc, sides, same, 0)?;
+    for (left, right, told) in &DIFFERING {
+        let diff = format!(in alloc; "{{\"differences\":[{told}],\"same\":false}}")?;
+        let answers = (r#"{"same":false}"#, diff.as_str());
+        assert_compared(&rt, alloc, (left, right), answers, 1)?;
+    }
+    for (left, right, told) in &ONE_REFUSED {
+        assert_compared(&rt, alloc, (left, right), (told, told), 1)?;
+    }
+    Ok(())
+}
+
+/// Words of two files that can't be compared, behind the command, what is answered, and the status.
+static NOT_COMPARED: [(&str, &str, u8); 7] = [
+    (
+        "a.img new.bin --format json --peb 512 --page 63",
+        r#"{"error":"refused G1 Page"}"#,
+        2,
+    ),
+    (
+        "new.bin a.img --format json --peb 512 --page 64 --start 2561",
+        r#"{"error":"refused F7 Part bytes=2560"}"#,
+        1,
+    ),
+    (
+        "a.img a.img --format json --peb 512 --page 64 --oob 63",
+        r#"{"error":"refused F8 Pages rest=20"}"#,
+        1,
+    ),
+    // Their own geometries differ, and one has none.
+    (
+        "a.img new.bin --format json",
+        r#"{"error":"refused F9 Geometries left peb=512 page=64 vid=64 data=128 right peb=131072 page=2048 vid=2048 data=4096"}"#,
+        1,
+    ),
+    (
+        "a.img a.img --format json --length 512",
+        r#"{"error":"left refused F2 NoSize"}"#,
+        1,
+    ),
+    (
+        "a.img new.bin --format json --length 2560",
+        r#"{"error":"right refused F2 NoSize"}"#,
+        1,
+    ),
+    // In lines.
+    (
+        "a.img a.img --format text --length 512",
+        "left refused F2 NoSize",
+        1,
+    ),
+];
+
+#[test]
+fn tells_why_nothing_is_compared(rt: HostRuntime) -> Result<(), Fail> {
+    let alloc = rt.alloc();
+    let (root, chip) = (Contents::Root.bytes(alloc)?, CHIP.bytes(alloc)?);
+    let files = (root.as_slice(), chip.as_slice());
+    for (words, text, status) in &NOT_COMPARED {
+        let text = format!(in alloc; "{text}\n")?;
+        for command in ["same", "diff"] {
+            let line = format!(in alloc; "{command} {words}")?;
+            let answer = (text.as_bytes(), *status, [].as_slice());
+            assert_own(&rt, alloc, files, line.as_str(), answer)?;
+        }
+    }
+    Ok(())
 }
 
 /// Where an image lies in a file, the words of a part, and where its object says that it begins.
@@ -367,6 +559,10 @@ fn tells_causes(rt: HostRuntime) -> Result<(), Fail> {
         let want = format!(in alloc; "{{\"refused\":{{{told}}}}}\n")?;
         assert_refused(&rt, undetected_line(alloc, cause), want.as_str());
     }
+    let twice = side_line(alloc, Side::Right, Refusal::SameName(0, 1, 3));
+    let want =
+        "{\"refused\":{\"block\":0,\"cause\":\"SameName\",\"code\":\"T4\",\"next_slot\":3,\"side\":\"right\",\"slot\":1}}\n";
+    assert_refused(&rt, twice, want);
     // A path that has a quote, the end of a line and a letter of two bytes; and bytes that are no text.
     let printed = "cannot read a\"b\nc\u{e9}\n";
     let want = "{\"error\":\"cannot read a\\\"b\\nc\u{e9}\"}\n";
@@ -374,6 +570,30 @@ fn tells_causes(rt: HostRuntime) -> Result<(), Fail> {
     let want = "{\"error\":\"a\u{fffd}\"}\n";
     assert_refused(&rt, error_line(alloc, b"a\xFF\n"), want);
     assert_refused(&rt, error_line(alloc, b""), "{\"error\":\"\"}\n");
+    Ok(())
+}
+
+/// The greatest numbers are told as they are.
+#[test]
+fn tells_great_differences(rt: HostRuntime) -> Result<(), Fail> {
+    let alloc = rt.alloc();
+    let told = [
+        Difference::Bytes {
+            id: 127,
+            left: u64::MAX,
+            right: 0,
+        },
+        Difference::Lebs {
+            id: u32::MAX,
+            first: 0,
+            last: u32::MAX,
+        },
+    ];
+    let line = differences_line(alloc, &told)?;
+    let want = "{\"differences\":[\
+        {\"id\":127,\"left\":18446744073709551615,\"right\":0,\"what\":\"bytes\"},\
+        {\"first\":0,\"id\":4294967295,\"last\":4294967295,\"what\":\"lebs\"}],\"same\":false}\n";
+    assert!(rt; line.as_slice() == want.as_bytes());
     Ok(())
 }
 

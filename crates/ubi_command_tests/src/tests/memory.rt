@@ -16,8 +16,8 @@ use std::alloc::{AllocError, Global};
 use std::process::Abort;
 use std::test::Fail;
 use ubi_commands::{
-    Comparison, VolumeKey, run_change, run_check, run_compose, run_extract, run_geometry, run_list,
-    run_normalise, run_rename, run_show,
+    Comparison, Format, VolumeKey, run_change, run_check, run_compose, run_extract, run_geometry,
+    run_list, run_normalise, run_rename, run_show,
 };
 use ubi_files::{Outcome, SidesError, ToolError};
 use ubi_media::Geometry;
@@ -112,6 +112,9 @@ const OTHER_BYTE: usize = 2560 - 384;
 /// What `diff` tells of the image and the one with another byte there.
 const DIFFERENT: &str = "volume 0 lebs 2\ndifferent\n";
 
+const DIFFERENT_OBJECT: &str =
+    "{\"differences\":[{\"first\":2,\"id\":0,\"last\":2,\"what\":\"lebs\"}],\"same\":false}\n";
+
 /// Whether two images were compared. Else memory ran out.
 fn is_compared(
     rt: &impl Abort,
@@ -157,15 +160,22 @@ fn tells_all(rt: &impl Abort, alloc: Global, geometry: &Geometry) -> Result<bool
             rt,
             alloc,
             geometry,
-            (Comparison::Same, image, image),
+            (Comparison::Same(Format::Text), image, image),
             "same\n",
         ),
         is_compared(
             rt,
             alloc,
             geometry,
-            (Comparison::Diff, image, other.as_slice()),
+            (Comparison::Diff(Format::Text), image, other.as_slice()),
             DIFFERENT,
+        ),
+        is_compared(
+            rt,
+            alloc,
+            geometry,
+            (Comparison::Diff(Format::Json), image, other.as_slice()),
+            DIFFERENT_OBJECT,
         ),
         is_told(rt, run_compose(alloc, geometry, SPEC, 1, 0), "blocks 5\n"),
         is_told(rt, changed, CHANGED),
@@ -183,7 +193,7 @@ fn tells_all_or_runs_out_of_memory(rt: HostRuntime) -> Result<(), Fail> {
 }
 
 /// The words of a command, how many bytes of the image they are over, what is answered, and how many bytes are written.
-static WORDS: [(&str, usize, &str, usize); 14] = [
+static WORDS: [(&str, usize, &str, usize); 16] = [
     ("geometry a", 2560, SMALL, 0),
     ("geometry a --format json", 2560, SMALL_OBJECT, 0),
     (
@@ -227,6 +237,18 @@ static WORDS: [(&str, usize, &str, usize); 14] = [
     ),
     ("same a b --peb 512 --page 64", 2560, "same\n", 0),
     ("diff a b --peb 512 --page 64", 2560, "same\n", 0),
+    (
+        "same a b --format json --peb 512 --page 64",
+        2560,
+        "{\"same\":true}\n",
+        0,
+    ),
+    (
+        "diff a b --format json --peb 512 --page 64",
+        2560,
+        "{\"differences\":[],\"same\":true}\n",
+        0,
+    ),
     (
         "change a --id 0 --lnum 1 --from new.bin --out b --peb 512 --page 64",
         3072,

@@ -5,7 +5,7 @@ use super::contents::Contents;
 use std::alloc::Global;
 use std::process::Abort;
 use std::test::Fail;
-use ubi_commands::Comparison;
+use ubi_commands::{Comparison, Format};
 use ubi_files::SidesError;
 use ubi_probe::ProbeSource;
 use ubi_probe::pebs::small;
@@ -87,7 +87,7 @@ fn is_compared(
 ) -> Result<bool, Fail> {
     let mut left = ProbeSource::new(alloc, &small()?, left, left_at)?;
     let mut right = ProbeSource::new(alloc, &small()?, right, right_at)?;
-    let answer = Comparison::Same.answer(alloc, &small()?, &mut left, &mut right);
+    let answer = Comparison::Same(Format::Text).answer(alloc, &small()?, &mut left, &mut right);
     Ok(match (answer, want) {
         (Ok(outcome), Ok((line, status))) => {
             outcome.text.as_slice() == line.as_bytes() && outcome.status == status

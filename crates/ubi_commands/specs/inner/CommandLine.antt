@@ -1,6 +1,7 @@
 -- What the rows of a command line mean, and where the words of a command stand.
 use Rattle.std.specs.Borrow.{Bor}
-use Rattle.std.specs.Prelude.{◌≡◌, Bool, List, Some, codes, false, fold, pos, true}
+use Rattle.std.specs.Prelude.{◌≡◌, ◌∷◌, [], Bool, List, None, Option, Some, codes, false, fold, pos, true, ℕ}
+use Rattle.std.specs.Prelude.{map as mapped}
 use Rattle.clap.specs.Simple.{App, new_app, new_rule, on_top, with_rule, with_subcommand}
 use Rattle.clap.specs.Matches.{found_of}
 use Rattle.clap.specs.Walk.{Row, Rule, Text, rows_of}
@@ -14,9 +15,7 @@ use Rattle.ubi_commands.specs.declared.command_line.Need.TheVariants as need
 use Rattle.ubi_commands.specs.declared.command_line.Takes.{Takes}
 use Rattle.ubi_commands.specs.declared.command_line.Takes.TheVariants as takes
 use Rattle.ubi_commands.specs.declared.requests.Request.{Request}
-use Rattle.std.specs.Prelude.{None, Option, ℕ}
-use Rattle.std.specs.Prelude.{map}
-use Rattle.ubi_commands.specs.Commands.{commands}
+use Rattle.ubi_commands.specs.Commands.{check, commands, geometry, list, map, show, tool}
 
 -- whether an argument has to be given
 abbrev pub is_needed : Need → Bool
@@ -59,6 +58,10 @@ with_commands a rows = fold (λ x r. with_subcommand x (command_row r).top) a ro
 abbrev pub bare_tool : App
 bare_tool = on_top (λ s. record s { has_version = true; subcommand_required = true }) (new_app (codes "ubi_tool"))
 
+-- the program with the commands alone that print what an image file holds
+unfoldable pub telling_tool : App
+telling_tool = record { top = tool.top; subs = geometry ∷ list ∷ check ∷ show ∷ map ∷ [] }
+
 -- the words of a command, by the names of its arguments
 abbrev pub words_in : ArgMatches → List Row
 words_in m = rows_of (found_of m)
@@ -74,4 +77,4 @@ IsOneOf {X = X} P (Some x) = P x
 
 -- their names
 abbrev pub command_names : List (List ℕ)
-command_names = map (λ s. s.name) commands
+command_names = mapped (λ s. s.name) commands

@@ -28,13 +28,18 @@ pub data IsEnded (answer : Result Outcome ToolError) (there : Bool) (unread unwr
   no_read : answer ≡ Err tool.Read → IsEnded answer there unread unwritten unread
   no_write : answer ≡ Err tool.Write → IsEnded answer there unread unwritten unwritten
 
--- what is told of work over two files: its outcome, or the line of the file of which a read failed
-pub data IsToldOfSides (work : Result Outcome SidesError) (left right : List ℕ) : Outcome → Type 0 where
-  comparison : {o : Outcome} → work ≡ Ok o → IsToldOfSides work left right o
+-- what is told of work over a file: its outcome, or the line of the file, where a read of it failed
+pub data IsTold (work : Result Outcome ToolError) (path : List ℕ) : Outcome → Type 0 where
+  outcome : {o : Outcome} → work ≡ Ok o → IsTold work path o
+  read_failed : {o : Outcome} → work ≡ Err tool.Read → Gives o (says (file_line (codes "cannot read ") path) 1)
+      → IsTold work path o
+
+-- what is told of work over two files of one of which a read failed: the line of that file
+pub data IsUnreadSide (work : Result Outcome SidesError) (left right : List ℕ) : Outcome → Type 0 where
   left_failed : {o : Outcome} → work ≡ Err side.Left → Gives o (says (file_line (codes "cannot read ") left) 1)
-      → IsToldOfSides work left right o
+      → IsUnreadSide work left right o
   right_failed : {o : Outcome} → work ≡ Err side.Right → Gives o (says (file_line (codes "cannot read ") right) 1)
-      → IsToldOfSides work left right o
+      → IsUnreadSide work left right o
 
 -- why a refusal to read isn't told: memory ran out, or it is none
 abbrev pub IsUntold : ReadError → ToolError → Type 0

@@ -1,6 +1,9 @@
 -- What is told in a format of work that may have failed.
-use Rattle.std.specs.Prelude.{◌≡◌, Err, Ok, Result}
+use Rattle.std.specs.Prelude.{◌≡◌, ℕ, Err, List, Ok, Result}
 use Rattle.ubi_files.specs.Answer.{Gives, says}
+use Rattle.ubi_files.specs.Disk.{Files}
+use Rattle.ubi_files.specs.OverFile.{OfFile}
+use Rattle.ubi_files.specs.declared.dump.Dump.{Dump}
 use Rattle.ubi_files.specs.declared.image_file.Unread.{Unread}
 use Rattle.ubi_files.specs.declared.image_file.Unread.TheVariants as unread
 use Rattle.ubi_files.specs.declared.outcome.Outcome.{Outcome}
@@ -18,3 +21,7 @@ IsLineIn format.Json plain o = Gives o (says (json_line (error_data plain.text.i
 pub data IsToldIn (format : Format) (work : Result Outcome Unread) : Outcome → Type 0 where
   its_own : {o : Outcome} → work ≡ Ok o → IsToldIn format work o
   printed : {o : Outcome} (plain : Outcome) → work ≡ Err (unread.Told plain) → IsLineIn format plain o → IsToldIn format work o
+
+-- what is printed of two dumps of which one can't be had
+abbrev pub IsUnseenOfDumps : Files → Dump → List ℕ → Dump → List ℕ → Outcome → Type 0
+IsUnseenOfDumps d here left there right = OfFile d here left (λ _ _ _. OfFile d there right (λ _ _ _ _. ⊥))

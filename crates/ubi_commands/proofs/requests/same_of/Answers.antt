@@ -1,7 +1,11 @@
 use Rattle.ubi_commands.proofs.Prelude.{refl, words_in}
-use Rattle.ubi_commands.proofs.Lacking.{no_asked}
+use Rattle.ubi_commands.proofs.Lacking.{no_asked, no_format}
 use Rattle.ubi_commands.proofs.requests.same_of.Goals as goal
+
+pub returns-in_err-format_of : goal.returns-in_err-format_of
+returns-in_err-format_of c =
+    rw c.from_residual.ensures (no_format _ refl (words_in c.args.matches.now) c.in_err-format_of.ensures)
 
 pub returns-in_err-asked_of : goal.returns-in_err-asked_of
 returns-in_err-asked_of c =
-    rw c.from_residual.ensures (no_asked _ refl (words_in c.args.matches.now) c.in_err-asked_of.ensures)
+    rw c.from_residual-in_err-asked_of.ensures (no_asked _ refl (words_in c.args.matches.now) c.in_err-asked_of.ensures)

@@ -1,11 +1,11 @@
-use Rattle.ubi_commands.proofs.Prelude.{◌≡◌, ◌∙◌, ◌↔◌, Bool, List, false, inl, inr, refl, subst, sym, true, IsTrue, Meant, Difference, Gives, says, Outcome, AnswersOf, are_none, comparison_status, differences_text, comparison_line, Comparison, false≢true}
+use Rattle.ubi_commands.proofs.Prelude.{◌≡◌, ◌∙◌, ◌↔◌, Bool, List, false, inl, inr, refl, subst, sym, true, IsTrue, Meant, Difference, Gives, says, Outcome, AnswersOf, are_none, comparison_status, differences_told, same_told, Comparison, Format, false≢true}
 use Rattle.ubi_commands.specs.declared.comparison.Comparison.TheVariants as comparison
 use Rattle.ubi_commands.proofs.comparison.Comparison.compare.Goals as goal
 
-same_answers : (answer : Bool) (m n : Meant) (o : Outcome) → IsTrue answer ↔ (m ≡ n)
-    → Gives o (says (comparison_line answer) (comparison_status answer)) → AnswersOf comparison.Same m n o
-same_answers true m n o is gives = inl (is.0 refl, gives)
-same_answers false m n o is gives = inr (λ same. false≢true (is.1 same), gives)
+same_answers : (format : Format) (answer : Bool) (m n : Meant) (o : Outcome) → IsTrue answer ↔ (m ≡ n)
+    → Gives o (says (same_told format answer) (comparison_status answer)) → AnswersOf (comparison.Same format) m n o
+same_answers format true m n o is gives = inl (is.0 refl, gives)
+same_answers format false m n o is gives = inr (λ same. false≢true (is.1 same), gives)
 
 pub returns-in_ok-same_outcome-in-Same-clause-images : goal.returns-in_ok-same_outcome-in-Same-clause-images
 returns-in_ok-same_outcome-in-Same-clause-images g c = λ x xs y ys.
@@ -16,7 +16,7 @@ returns-in_ok-same_outcome-in-Same-clause-images g c = λ x xs y ys.
       is.left_means,
       is.right_means,
       subst (λ (how : Comparison). AnswersOf how is.left is.right o.field-0) (sym c.in-Same.is)
-          (same_answers c.in_ok-is_same-in-Same.is_same is.left is.right o.field-0 is.meanings o.ensures),
+          (same_answers c.in-Same.format c.in_ok-is_same-in-Same.is_same is.left is.right o.field-0 is.meanings o.ensures),
     )
 
 pub returns-in_ok-diff_outcome-in-Diff-clause-images : goal.returns-in_ok-diff_outcome-in-Diff-clause-images
@@ -28,6 +28,6 @@ returns-in_ok-diff_outcome-in-Diff-clause-images g c = λ x xs y ys.
       is.left_means,
       is.right_means,
       subst (λ (how : Comparison). AnswersOf how is.left is.right o.field-0) (sym c.in-Diff.is)
-          (subst (λ (ds : List Difference). Gives o.field-0 (says (differences_text ds) (comparison_status (are_none ds))))
+          (subst (λ (ds : List Difference). Gives o.field-0 (says (differences_told c.in-Diff.format ds) (comparison_status (are_none ds))))
           (c.as_slice.ensures.value ∙ is.differences) o.ensures),
     )

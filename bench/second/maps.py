@@ -1,0 +1,132 @@
+#!/usr/bin/env python3
+"""Compares what `map` answers of random images with a second reading (rules.py), and the data of its page with what `check`, `list` and `show` answer.
+
+usage: maps.py [--seed N] [--count N] [--first N] [--dir FOLDER] [--tool PROGRAM]
+
+The images are those of fuzz.py, accepted and refused, now and then cut, with bad eraseblocks, and with names of any bytes. The rows and the exit status are
+those of docs/FORMAT.md. The page is there exactly if the image has the size of one; with its frame it has no byte that the frame of another page hasn't, and
+its data, in which there is no `<`, are read by Python's json: the lines of each eraseblock's headers are those of the second reading, and the other members
+are the objects that `check` and `list` answer.
+
+Without words there are 500 images of the seed 1. Without --tool the program is built first where it isn't yet. The last line is 'N passed, M failed', and
+the exit status is 0 where none failed; an image that failed can be made again by its number, which --first names.
+"""
+import json
+import os
+import subprocess
+
+import rules
+from fuzz import Failure, Lister, Maker, Mutator, built, finish, options, run_cases
+
+# What stands before the data of a page, and behind them.
+BEFORE, BEHIND = '<script type="application/json" id="data">', "</script>"
+# Eraseblocks in a row.
+ROW = 64
+
+
+def header_letter(ec, vid):
+    """The letter of an eraseblock by what its headers are, and the volume of a VID header that is valid."""
+    (ec, _), (vid, header) = ec, vid
+    if "fault" in ec or "fault" in vid:
+        return "!"
+    if vid == "valid":
+        return "t" if header.volume == rules.LAYOUT else "v"
+    return "c" if "corrupt" in (ec, vid) else "b" if ec == "blank" else "f"
+
+
+def rows(letters):
+    return "".join(f"{at:7} {letters[at : at + ROW]}\n" for at in range(0, len(letters), ROW))
+
+
+class Case:
+    """An image in a file, and what is asked of it."""
+
+    frames = set()
+
+    def __init__(self, rng, tool, folder):
+        maker = Maker(rng)
+        self.tool, self.geometry, self.page = tool, maker.geometry, f"{folder}/page.html"
+        image = Mutator(rng, self.geometry, (0, 1, 1, 2, 3)).mutate(maker.blocks)
+        if rng.random() < 0.05:
+            image = image[:rng.randrange(len(image) + 1)]
+        self.bad = []
+        if rng.random() < 0.3:
+            image, word = Lister(rng, self.geometry, image).bad()
+            self.bad = [f"--bad={word}"] if rules.listed(word) else []
+        self.is_bad = rules.listed(self.bad[0].removeprefix("--bad=")) if self.bad else rules.none_listed
+        self.image, self.path = image, f"{folder}/image"
+        with open(self.path, "wb") as file:
+            file.write(image)
+
+    def ask(self, command, *words):
+        g = self.geometry
+        sizes = ["--peb", g.peb, "--page", g.page, "--vid", g.vid, "--data", g.data, "--pebs", g.pebs]
+        run = subprocess.run([self.tool, command, self.path, *map(str, sizes), *self.bad, *words], capture_output=True, text=True)
+        return run.stdout, run.returncode
+
+    def headers(self):
+        """What the headers of each eraseblock are, and their bytes."""
+        g, seen = self.geometry, rules.masked(self.geometry, self.image, self.is_bad)
+        for at in range(0, len(seen), g.peb):
+            ec, vid = seen[at : at + 64], seen[at + g.vid : at + g.vid + 64]
+            yield (rules.read_ec(g, ec), ec), (rules.read_vid(g, vid), vid)
+
+    def expected(self):
+        """What is printed, and the status."""
+        try:
+            states = rules.Image(self.geometry, self.image, self.is_bad).states
+        except rules.Refused as refused:
+            line = f"refused {refused}\n"
+            if str(refused) in ("S1 Length", "S2 TooMany"):
+                return line, 1
+            return rows("".join(header_letter(ec, vid) for (ec, _), (vid, _) in self.headers())) + line, 1
+        return rows("".join(state[0] for state in states)), 0
+
+    def page_data(self):
+        """The data of the page, whose frame is that of each other page."""
+        with open(self.page, encoding="ascii") as file:
+            before, _, rest = file.read().partition(BEFORE)
+        data, _, behind = rest.partition(BEHIND)
+        Case.frames.add((before, behind))
+        if "<" in data or len(Case.frames) > 1:
+            raise Failure("the page has a `<` in its data, or another frame")
+        return json.loads(data)
+
+    def check_page(self, text, status):
+        told = self.page_data()
+        lines = ["".join(f"{name} {state} {raw.hex()}\n" for name, ((state, _), raw) in zip(("ec", "vid"), block)) for block in self.headers()]
+        want = {"blocks": lines}
+        check, listed = (json.loads(self.ask(command, "--format", "json")[0]) for command in ("check", "list"))
+        if status:
+            want |= {"geometry": told.get("geometry"), "refusal": check}
+            if told.get("geometry", {}).get("peb") != self.geometry.peb:
+                raise Failure(f"the page has the sizes {told.get('geometry')}")
+        else:
+            want |= {"check": check, "list": listed, "states": "".join(row[8:] for row in text.splitlines())}
+        if told != want:
+            raise Failure(f"the page tells {told}, and not {want}")
+
+    def look(self):
+        """Compares the answers. Gives whether the image is accepted."""
+        want = self.expected()
+        if self.ask("map") != want or self.ask("map", "--out", self.page) != want:
+            raise Failure(f"printed {self.ask('map')}, and not {want}")
+        has_page = os.path.exists(self.page)
+        if has_page != want[0].startswith(" "):
+            raise Failure(f"a page is {'' if has_page else 'not '}there where {want} is printed")
+        if has_page:
+            self.check_page(*want)
+            os.remove(self.page)
+        return want[1] == 0
+
+
+def main():
+    words = options(__doc__, 500)
+    tool = built(words.tool)
+    answers, failed = run_cases(words, {"map ": (lambda rng, folder: Case(rng, tool, folder).look(), words.count)})
+    print(f"{sum(answers)} accepted")
+    finish(len(answers), failed)
+
+
+if __name__ == "__main__":
+    main()

@@ -1,6 +1,0 @@
-use Rattle.ubi_commands.proofs.Prelude.{refl, tool, command_row, with_commands, with_groups, with_rows}
-use Rattle.ubi_commands.proofs.command_line.command_rows.Goals as goal
-
-pub returns : goal.returns
-unfolding tool with_commands command_row with_groups with_rows
-returns c = refl

@@ -1,0 +1,5 @@
+pub mod Headers
+pub mod Letters
+pub mod Map
+pub mod Page
+pub mod Laws
