@@ -92,7 +92,7 @@ def commands():
 def crates():
     """The crates of the repository, lowest first."""
     with open(os.path.join(ROOT, "crates.txt"), encoding="utf-8") as file:
-        return re.findall(r"^(\w+):", file.read(), re.M)
+        return re.findall(r"^(\w+)(?: staticlib)?:", file.read(), re.M)
 
 
 def main():

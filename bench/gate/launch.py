@@ -25,7 +25,7 @@ CHIP = ['--peb', '131072', '--page', '2048']
 LONG = 2048
 
 # What the launcher builds, in this order, and where the program lies that it runs.
-CRATES = ('ubi_words', 'ubi_media', 'ubi_config', 'ubi_scan', 'ubi_files', 'ubi_detect', 'ubi_table', 'ubi_volume', 'ubi_change', 'ubi_compose', 'ubi_compare', 'ubi_json', 'ubi_commands', 'ubi_tool')
+CRATES = ('ubi_words', 'ubi_media', 'ubi_config', 'ubi_scan', 'ubi_files', 'ubi_detect', 'ubi_table', 'ubi_volume', 'ubi_change', 'ubi_compose', 'ubi_compare', 'ubi_json', 'ubi_map', 'ubi_commands', 'ubi_tool')
 PROGRAM = 'crates/ubi_tool/out/launched/ubi_tool'
 
 # Words, the status, and the beginning of what comes on standard output and on standard error.

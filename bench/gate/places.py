@@ -21,13 +21,13 @@ from collections import Counter
 from pathlib import Path
 
 ROOT = Path(__file__).resolve().parents[2]
-CRATES = ('ubi_words', 'ubi_media', 'ubi_config', 'ubi_scan', 'ubi_detect', 'ubi_files', 'ubi_table', 'ubi_volume', 'ubi_change', 'ubi_compose', 'ubi_compare', 'ubi_json', 'ubi_commands', 'ubi_tool')
+CRATES = ('ubi_words', 'ubi_media', 'ubi_config', 'ubi_scan', 'ubi_detect', 'ubi_files', 'ubi_table', 'ubi_volume', 'ubi_change', 'ubi_compose', 'ubi_compare', 'ubi_json', 'ubi_map', 'ubi_commands', 'ubi_calls', 'ubi_tool')
 LISTED = Path(__file__).resolve().with_name('places.txt')
 # The proofs by hand.
 BY_HAND = ('crates/ubi_scan/proofs/trace/Trace/new/Proof.antt', 'crates/ubi_scan/proofs/trace/Trace/note/Proof.antt')
 # What a failure of each kind is called.
 KINDS = {
-    'memory': re.compile(r'\b\w+::(Memory|OutOfMemory)\b|\bAllocError\b'),
+    'memory': re.compile(r'\b\w+::(Memory|OutOfMemory)\b|\b(AllocError|NO_MEMORY)\b'),
     'read': re.compile(r'\b\w+::(Read|Left|Right)\b'),
     'write': re.compile(r'\b\w+::Write\b'),
 }

@@ -57,7 +57,7 @@ def front_pages():
     """Each library that has a caller, the block on its front page, and the caller that is proved."""
     for page in sorted((ROOT / 'crates').glob('*/src/lib.rt')):
         name = page.parents[1].name
-        if name not in ('ubi_uses', 'ubi_probe', 'ubi_tests', 'ubi_files', 'ubi_json', 'ubi_commands', 'ubi_command_tests'):
+        if name not in ('ubi_uses', 'ubi_probe', 'ubi_tests', 'ubi_files', 'ubi_json', 'ubi_map', 'ubi_commands', 'ubi_command_tests', 'ubi_calls', 'ubi_c'):
             lines = [line[3:].removeprefix(' ') for line in page.read_text().splitlines() if line.startswith('//!')]
             caller = (ROOT / 'crates/ubi_uses/src' / f"{name.removeprefix('ubi_')}.rt").read_text()
             below = caller.rpartition('\nghost use ')[2].partition('\n')[2]

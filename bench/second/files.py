@@ -3,7 +3,7 @@
 
 usage: files.py [--dir FOLDER] [--tool PROGRAM]
 
-A file isn't written that was read, but IMAGE by --out; nor are the pages written where the output is. Each is tried by the file's
+A file isn't written that was read, but IMAGE by --out, and that not by `map`; nor are the pages written where the output is. Each is tried by the file's
 name, by other paths to it, and by links of both kinds. Other outputs are there already, or are links, folders, devices and
 pipes, or can't be written; and some names have blanks, lines' ends or a hyphen in front.
 Of each case the printed lines and the status are compared, and every file of the folder: what is written has its new bytes, and each
@@ -119,6 +119,8 @@ def files_read():
         yield cannot_write(WORDS["change"], "image", path)
         yield cannot_write([*WORDS["change"][:-1], "/dev/stdin"], "new", path, stdin="from")
     for path in paths("image"):
+        yield cannot_write(["map", "image"], path)
+        yield cannot_write(["map", path], "image")
         for command in ("normalise", "extract", "change", "rename"):
             yield Case(WORDS[command], path)
             yield Case([command, path, *WORDS[command][2:]], "image")
@@ -170,6 +172,7 @@ def unread():
     """A file can't be read, so nothing is written."""
     for path in ("missing", "folder", "nowhere", "loop", "no/such", "missing\nfile", "", LONG):
         for out in ("old", "new", "from", "spec", "folder", "/dev/full"):
+            yield Case(["map", path], out, None, f"cannot read {path}\n")
             for command in WORDS:
                 yield Case([command, path, *WORDS[command][2:]], out, None, f"cannot read {path}\n")
             yield Case([*WORDS["change"][:-1], path], out, "image", f"cannot read {path}\n")

@@ -1,0 +1,31 @@
+#!/bin/sh
+# Builds the core for C and Python: c/out/libubi.a, c/out/libubi.so and c/out/ubi.h. Proves what isn't proved yet, which takes up to
+# half an hour; needs rt of the kit on the PATH, and cc. docs/C.md says how to use them.
+set -eu
+here=$(cd "$(dirname "$0")" && pwd)
+top=$here/..
+out=$here/out
+command -v rt >/dev/null || {
+    echo "c/build.sh: needs rt of the kit on the PATH (README.md, Build)" >&2
+    exit 1
+}
+kit=$(dirname "$(rt doc)")
+
+# The libraries, lowest first: each stands on those before it.
+for name in ubi_words ubi_media ubi_config ubi_scan ubi_detect ubi_files ubi_table ubi_volume ubi_change ubi_compose ubi_compare ubi_json ubi_map \
+    ubi_commands ubi_calls ubi_c; do
+    echo "$name" >&2
+    (cd "$top/crates/$name" && rt lib >/dev/null)
+done
+
+mkdir -p "$out"
+cp "$here/include/ubi.h" "$out/ubi.h"
+# One archive: the crate, and what it allocates by.
+printf 'create %s\naddlib %s\naddlib %s\nsave\nend\n' "$out/libubi.new.a" "$top/crates/ubi_c/out/libubi_c.a" "$kit/c/liblibc_c.a" | ar -M
+mv "$out/libubi.new.a" "$out/libubi.a"
+# The same as a shared object, which exports the calls of ubi.h alone.
+printf '{ global: ubi_*; local: *; };\n' >"$out/exports"
+cc -shared -o "$out/libubi.new.so" -Wl,--whole-archive "$out/libubi.a" -Wl,--no-whole-archive -Wl,--version-script="$out/exports" \
+    -Wl,-soname,libubi.so
+mv "$out/libubi.new.so" "$out/libubi.so"
+rm "$out/exports"

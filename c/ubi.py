@@ -1,0 +1,218 @@
+"""UBI images in memory: the proved core of ubi_tool, over ctypes.
+
+    import ubi
+
+    image = open("dump.bin", "rb").read()
+    library = ubi.Library()
+    sizes = library.geometry(image)[0].sizes
+    print(library.list(sizes, image))
+    kernel = library.read(sizes, image, 0)
+
+`c/build.sh` makes the shared object that this loads. An image is any object whose bytes lie in one piece, as bytes, a bytearray or an
+mmap; it is not copied, and must not be written while a call runs. A call raises Refused with the cause, where ubi_tool would print a
+line with `refused`; Limit where the sizes are no geometry; and MemoryError where memory ran out. ubi.h and docs/C.md say more.
+"""
+import contextlib
+import ctypes
+import os
+import re
+from dataclasses import dataclass
+
+# The greatest number of eraseblocks that a device has: for Sizes, where it isn't known.
+MOST_PEBS = 1048576
+DONE, REFUSED, LIMIT, NO_MEMORY = range(4)
+# The room that most answers in lines need.
+ROOM = 4096
+
+
+class Refused(ValueError):
+    """An image, a volume or an edit is refused. `cause` is the cause, as 'S8 SameSqnum block=57 earlier=12', and `side` is 'left' or
+    'right', where one of two images is refused."""
+
+    def __init__(self, line):
+        words = line.strip().partition("refused ")
+        self.side, self.cause = words[0].strip() or None, words[2]
+        super().__init__(line.strip())
+
+
+class Limit(ValueError):
+    """The sizes are no geometry. `cause` is the first limit that they break, as 'G2 Page'."""
+
+    def __init__(self, line):
+        self.cause = line.strip().partition("refused ")[2]
+        super().__init__(line.strip())
+
+
+class Sizes(ctypes.Structure):
+    """The numbers of a geometry: the bytes of an eraseblock and of a page, where the volume-identifier header and the data stand in an
+    eraseblock, and how many eraseblocks the device has."""
+
+    _fields_ = [(name, ctypes.c_uint32) for name in ("peb_size", "page", "vid_offset", "data_offset", "pebs")]
+
+    def __init__(self, peb_size, page, vid_offset, data_offset, pebs=MOST_PEBS):
+        super().__init__(*(_number(number) for number in (peb_size, page, vid_offset, data_offset, pebs)))
+
+    def __repr__(self):
+        return f"Sizes({', '.join(f'{name}={getattr(self, name)}' for name, _ in self._fields_)})"
+
+
+@dataclass(frozen=True)
+class Found:
+    """A geometry that a dump's own headers give: its sizes, how many out-of-band bytes lie behind each page, and which part of the
+    bytes is the image."""
+
+    sizes: Sizes
+    oob: int
+    start: int
+    length: int
+
+
+@dataclass(frozen=True)
+class Step:
+    """A step of a plan: of an erase `page` and `data` are None, and else `data` are the bytes that page `page` of `block` gets."""
+
+    block: int
+    page: int | None = None
+    data: bytes | None = None
+
+
+class _Buffer(ctypes.Structure):
+    """A Py_buffer of CPython."""
+
+    _fields_ = [("buf", ctypes.c_void_p), ("obj", ctypes.py_object), ("len", ctypes.c_ssize_t), ("itemsize", ctypes.c_ssize_t),
+        ("readonly", ctypes.c_int), ("ndim", ctypes.c_int), ("format", ctypes.c_char_p), ("shape", ctypes.c_void_p),
+        ("strides", ctypes.c_void_p), ("suboffsets", ctypes.c_void_p), ("internal", ctypes.c_void_p)]
+
+
+# What stands for the place of no bytes.
+_NOTHING = ctypes.create_string_buffer(1)
+
+
+@contextlib.contextmanager
+def _bytes_of(data):
+    """The place and the number of an object's bytes, while it is held."""
+    view = _Buffer()
+    ctypes.pythonapi.PyObject_GetBuffer(ctypes.py_object(data), ctypes.byref(view), 0)
+    try:
+        yield ctypes.c_void_p(view.buf or ctypes.addressof(_NOTHING)), ctypes.c_size_t(view.len)
+    finally:
+        ctypes.pythonapi.PyBuffer_Release(ctypes.byref(view))
+
+
+def _number(number):
+    """A number that fits 32 bits."""
+    if not 0 <= number < 2**32:
+        raise ValueError(f"{number} is no number of 32 bits")
+    return number
+
+
+class _Room:
+    """A buffer for an answer."""
+
+    def __init__(self, size):
+        self.bytes, self.size, self.len = ctypes.create_string_buffer(max(size, 1)), size, ctypes.c_size_t()
+
+    def words(self):
+        return self.bytes, ctypes.c_size_t(self.size), ctypes.byref(self.len)
+
+    def has_all(self):
+        return self.len.value <= self.size
+
+    def taken(self):
+        return ctypes.string_at(self.bytes, self.len.value)
+
+
+class Library:
+    """The calls, of a shared object that c/build.sh has made: of the one in c/out, where no path is given."""
+
+    def __init__(self, path=None):
+        self._library = ctypes.CDLL(path or os.path.join(os.path.dirname(os.path.abspath(__file__)), "out", "libubi.so"))
+
+    def _call(self, name, sizes, images, numbers, given, rooms):
+        """The status, with the answers in rooms: once more where one of them is too small."""
+        call = getattr(self._library, f"ubi_{name}")
+        call.restype = ctypes.c_uint32
+        with contextlib.ExitStack() as held:
+            before, behind = ([word for data in some for word in held.enter_context(_bytes_of(data))] for some in (images, given))
+            first = ([ctypes.byref(sizes)] if sizes else []) + before + [ctypes.c_uint32(_number(n)) for n in numbers] + behind
+            while True:
+                status = call(*first, *(word for room in rooms for word in room.words()))
+                if status == NO_MEMORY:
+                    raise MemoryError(f"ubi_{name}")
+                if all(room.has_all() for room in rooms):
+                    return status, [room.taken() for room in rooms]
+                rooms = [room if room.has_all() else _Room(room.len.value) for room in rooms]
+
+    def _answer(self, name, sizes, images, numbers=(), given=(), rooms=None):
+        """The answers, where the call is done; raises what is refused."""
+        status, answers = self._call(name, sizes, images, numbers, given, rooms or [_Room(ROOM)])
+        if status == LIMIT:
+            raise Limit(answers[0].decode("ascii"))
+        if status == REFUSED and b"refused " in answers[0]:
+            raise Refused(answers[0].decode("ascii"))
+        return answers
+
+    def geometry(self, image):
+        """The geometries that the headers of a dump give, most likely one: a list of Found. Raises Refused where none can be told."""
+        found = []
+        for line in self._answer("geometry", None, [image])[0].decode("ascii").splitlines():
+            told = {name: int(number) for name, number in re.findall(r"--(\w+) (\d+)", line)}
+            sizes = Sizes(told["peb"], told["page"], told["vid"], told["data"])
+            found.append(Found(sizes, told.get("oob", 0), told.get("start", 0), told.get("length", len(image))))
+        return found
+
+    def check(self, sizes, image):
+        """The lines that `ubi_tool check` prints: how many eraseblocks are in which state, and the numbers of the image."""
+        return self._answer("check", sizes, [image])[0].decode("ascii")
+
+    def list(self, sizes, image):
+        """The lines that `ubi_tool list` prints: the sizes of the device, and a line for each volume."""
+        return self._answer("list", sizes, [image])[0].decode("ascii")
+
+    def show(self, sizes, image, block):
+        """The lines that `ubi_tool show` prints: the two headers of an eraseblock."""
+        return self._answer("show", sizes, [image], [block])[0].decode("ascii")
+
+    def map(self, sizes, image):
+        """The lines that `ubi_tool map` prints: a letter for each eraseblock. Of an image that is refused too, whose cause stands last."""
+        status, answers = self._call("map", sizes, [image], (), (), [_Room(ROOM)])
+        if status == LIMIT:
+            raise Limit(answers[0].decode("ascii"))
+        return answers[0].decode("ascii")
+
+    def read(self, sizes, image, number):
+        """The bytes of the volume with this number."""
+        return self._answer("read", sizes, [image], [number], rooms=[_Room(len(image))])[0]
+
+    def normalise(self, sizes, image):
+        """The normal image: one that means the same, and is the same for all images that do."""
+        return self._answer("normalise", sizes, [image], rooms=[_Room(len(image) + 2 * sizes.peb_size)])[0]
+
+    def same(self, sizes, left, right):
+        """Whether two images mean the same."""
+        return self._answer("same", sizes, [left, right])[0] == b"same\n"
+
+    def diff(self, sizes, left, right):
+        """In what two images differ: the lines that `ubi_tool diff` prints but the last; none where they mean the same."""
+        return self._answer("diff", sizes, [left, right])[0].decode("ascii").splitlines()[:-1]
+
+    def change(self, sizes, image, number, lnum, data):
+        """The steps that give the logical eraseblock `lnum` of the dynamic volume `number` new bytes: a list of Step."""
+        return self._plan("change", sizes, image, [number, lnum], data)
+
+    def rename(self, sizes, image, number, name):
+        """The steps that give the volume `number` a new name, which is bytes, or text as `list` shows names: a list of Step."""
+        word = name.encode("ascii") if isinstance(name, str) else "".join(rf"\x{byte:02x}" for byte in name).encode()
+        return self._plan("rename", sizes, image, [number], word)
+
+    def _plan(self, name, sizes, image, numbers, data):
+        rooms = [_Room(ROOM), _Room(2 * sizes.peb_size)]
+        lines, pages = self._answer(name, sizes, [image], numbers, [data], rooms)
+        steps = []
+        for line in lines.decode("ascii").splitlines()[1:]:
+            places = [int(place) for place in re.findall(r"=(\d+)", line)]
+            if line.startswith("program"):
+                at = sum(step.page is not None for step in steps) * sizes.page
+                places.append(pages[at:at + sizes.page])
+            steps.append(Step(*places))
+        return steps

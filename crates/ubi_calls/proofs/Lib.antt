@@ -1,0 +1,5 @@
+mod Edited
+mod Filled
+mod Told
+mod Wanted
+pub mod Prelude

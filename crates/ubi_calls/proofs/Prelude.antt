@@ -1,0 +1,45 @@
+-- The names that the proofs of this crate speak of, and where they come from.
+pub use Rattle.std.proofs.Common.{Bool, List, Some, [], ap, append-nil, ap₂, arith, drop, length, refl, subst, sym, take, true≢false, ℕ, ◌++◌, ◌+◌, ◌-◌, ◌==◌, ◌∙◌, ◌≡◌, ◌≢◌, ◌≤◌}
+pub use Rattle.std.proofs.lemmas.Bool.{ne_eqb}
+pub use Rattle.std.proofs.lemmas.List.{drop-drop, drop_all, length-take, take-append-drop, take_all}
+pub use Rattle.std.proofs.lemmas.Result.{IfOk-at_ok, IfOk-weaker}
+pub use Rattle.std.proofs.lemmas.Slice.{drop-put_mid}
+pub use Rattle.std.specs.Prelude.{Err, IfErr, IfOk, None, Ok, Option, Result, if◌then◌else◌}
+pub use Rattle.std.specs.declared.alloc.AllocError.{AllocError}
+pub use Rattle.ubi_change.specs.Avoided.{nothing}
+pub use Rattle.ubi_change.specs.Pages.{programmed}
+pub use Rattle.ubi_change.specs.declared.step.Step.{Step}
+pub use Rattle.ubi_commands.proofs.Extracted.{has_text}
+pub use Rattle.ubi_commands.specs.Change.{ChangesFrom}
+pub use Rattle.ubi_commands.specs.Extract.{Extracts, IsExtractError}
+pub use Rattle.ubi_commands.specs.Geometry.{Detects}
+pub use Rattle.ubi_commands.specs.Normalise.{IsNormaliseError, Normalises}
+pub use Rattle.ubi_commands.specs.Rename.{RenamesFrom}
+pub use Rattle.ubi_commands.specs.declared.volume_key.VolumeKey.TheVariants.{Id}
+unfoldable pub use Rattle.ubi_compose.specs.Normal.{normal_bytes}
+pub use Rattle.ubi_compose.specs.Streamed.{IsNormalisedTo}
+pub use Rattle.ubi_files.specs.AfterRun.{after_run}
+pub use Rattle.ubi_files.specs.Answer.{Gives, says}
+pub use Rattle.ubi_files.specs.Lines.{geometry_line}
+pub use Rattle.ubi_files.specs.Views.{whole_file}
+pub use Rattle.ubi_files.specs.declared.outcome.Outcome.{Outcome}
+pub use Rattle.ubi_files.specs.declared.outcome.ToolError.{ToolError}
+pub use Rattle.ubi_media.specs.Geometry.{Sizes}
+unfoldable pub use Rattle.ubi_media.specs.Limits.{first_broken}
+pub use Rattle.ubi_media.specs.declared.geometry.GeometryError.{GeometryError}
+pub use Rattle.ubi_scan.proofs.InMemory.{still}
+pub use Rattle.ubi_scan.specs.Image.{Image, image_of}
+pub use Rattle.ubi_scan.specs.Source.{Narrows, Source, WhereHeld, holds, memory}
+pub use Rattle.ubi_volume.proofs.One.{Accepts-unique}
+pub use Rattle.ubi_volume.specs.Extract.{extent_len}
+pub use Rattle.ubi_volume.specs.Places.{ArePlaces, ArePlacesOf, Placed}
+pub use Rattle.ubi_volume.specs.Reading.{read_volume, volume_len}
+pub use Rattle.ubi_calls.specs.Calls.{Fills, FillsBoth, Streams, Told, Under, bad_limit, both, ended, filled, neither, no_memory, printed, put, sizes_of, uncounted, under}
+pub use Rattle.ubi_calls.specs.Contents.{Normal, Reads, no_normal, normal, read, refused, unread}
+pub use Rattle.ubi_calls.specs.Edits.{PlansChange, PlansRename}
+pub use Rattle.ubi_calls.specs.declared.numbers.DeviceSizes.{DeviceSizes}
+pub use Rattle.ubi_calls.specs.declared.streams.Content.{Content}
+pub use Rattle.ubi_calls.specs.inner.Asking.{answers}
+pub use Rattle.ubi_calls.specs.inner.Editing.{HandsPlan, given_pages, plans}
+pub use Rattle.ubi_calls.specs.inner.Handing.{HandsOver, Leaves}
+pub use Rattle.ubi_calls.specs.inner.Streaming.{IsUnwritten, Writes, said, wanted, wrote}

@@ -1,0 +1,7 @@
+use Rattle.ubi_calls.proofs.plans.Edit.plan.Goals as goal
+
+pub returns-in-Change : goal.returns-in-Change
+returns-in-Change c = rw c.in-Change.is c.plan_change.ensures
+
+pub returns-in-Rename : goal.returns-in-Rename
+returns-in-Rename c = rw c.in-Rename.is c.plan_rename.ensures

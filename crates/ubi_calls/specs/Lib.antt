@@ -1,0 +1,4 @@
+pub mod Calls
+pub mod Contents
+pub mod Edits
+pub mod inner

@@ -1,0 +1,5 @@
+-- Definitions that only private functions' contracts and proofs cite.
+pub mod Asking
+pub mod Editing
+pub mod Handing
+pub mod Streaming

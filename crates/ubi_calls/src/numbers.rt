@@ -1,0 +1,42 @@
+//! The numbers of a geometry, as C lays them out.
+
+ghost use Rattle.std.specs.Prelude.{◌≡◌, MatchResult, None, Some};
+ghost use Rattle.ubi_media.specs.Limits.{first_broken};
+ghost use Rattle.ubi_calls.specs.Calls.{sizes_of};
+
+use ubi_media::{Geometry, GeometryError};
+
+/// The numbers of a geometry.
+#[repr(C)]
+#[derive(Clone, Copy)]
+pub struct DeviceSizes {
+    /// The bytes of an eraseblock.
+    pub peb_size: u32,
+    /// The bytes of a page.
+    pub page: u32,
+    /// The place of the volume-identifier header in an eraseblock.
+    pub vid_offset: u32,
+    /// The place of the data in an eraseblock.
+    pub data_offset: u32,
+    /// The eraseblocks of the device.
+    pub pebs: u32,
+}
+
+/// The geometry of the numbers.
+///
+/// # Errors
+///
+/// The first limit that they break.
+pub fn geometry_of(sizes: &DeviceSizes) -> Result<Geometry, GeometryError>
+    ensures { MatchResult result
+        (λ g. (first_broken (sizes_of sizes.now) ≡ None) × (g ≡ sizes_of sizes.now))
+        (λ e. first_broken (sizes_of sizes.now) ≡ Some e) }
+{
+    Geometry::new(
+        sizes.peb_size,
+        sizes.page,
+        sizes.vid_offset,
+        sizes.data_offset,
+        sizes.pebs,
+    )
+}

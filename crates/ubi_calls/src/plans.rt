@@ -1,0 +1,240 @@
+//! The calls that plan an edit: the lines of its steps, and the pages that these program.
+
+ghost use Rattle.std.specs.Prelude.{◌≡◌, ◌≢◌, [], IfErr, IfOk, Ok};
+ghost use Rattle.ubi_scan.specs.Image.{image_of};
+ghost use Rattle.ubi_calls.specs.Calls.{FillsBoth, Under};
+ghost use Rattle.ubi_calls.specs.Edits.{PlansChange, PlansRename};
+ghost use Rattle.ubi_calls.specs.inner.Editing.{HandsPlan, given_pages, plans};
+
+use crate::answering::{NO_MEMORY, hand, limit_outcome, put_all};
+use crate::numbers::{DeviceSizes, geometry_of};
+use std::alloc::{AllocError, Global};
+use std::io;
+use ubi_change::Avoided;
+use ubi_commands::{NewBytes, run_change_from, run_rename_from};
+use ubi_files::{DONE, Outcome, ToolError};
+use ubi_media::Geometry;
+use ubi_scan::MemorySource;
+
+/// An edit of an image.
+#[derive(Clone, Copy)]
+enum Edit<'a> {
+    /// These bytes for a logical eraseblock.
+    Change(NewBytes<'a>),
+    /// The name that a word shows for the volume with this number.
+    Rename(u32, &'a [u8]),
+}
+
+/// The outcome of work over memory that writes nowhere.
+///
+/// # Errors
+///
+/// Memory ran out.
+fn outcome_of(work: Result<Outcome, ToolError>) -> Result<Outcome, AllocError>
+    requires { IfErr work (λ e. e ≢ ToolError.Read) }
+    ensures { IfOk result (λ o. work ≡ Ok o) }
+{
+    match work {
+        Ok(outcome) => Ok(outcome),
+        // What writes nowhere takes all bytes.
+        Err(ToolError::Write | ToolError::Memory) => Err(AllocError),
+        // Reading memory doesn't fail.
+        Err(ToolError::Read) => unreachable!(),
+    }
+}
+
+/// Plans a change of an image: what is printed of it, and adds the pages that it programs.
+///
+/// # Errors
+///
+/// Memory ran out.
+fn plan_change(
+    alloc: Global,
+    geometry: &Geometry,
+    image: &[u8],
+    new: &NewBytes<'_>,
+    pages: &mut Vec<u8>,
+) -> Result<Outcome, AllocError>
+    requires { pages.old.items ≡ [] }
+    ensures { IfOk result (λ o. PlansChange (image_of geometry.now image.now) new.now.id new.now.lnum new.now.bytes.now (given_pages o.status pages.new.items) o.text.items o.status) }
+{
+    let mut source = MemorySource::new(image);
+    let nothing = Avoided::new(&[], false);
+    let mut nowhere = io::sink();
+    let work = run_change_from(
+        alloc,
+        geometry,
+        &mut source,
+        &nothing,
+        new,
+        None,
+        &mut nowhere,
+        pages,
+    );
+    outcome_of(work)
+}
+
+/// Plans a rename of a volume of an image: what is printed of it, and adds the pages that it programs.
+///
+/// # Errors
+///
+/// Memory ran out.
+fn plan_rename(
+    alloc: Global,
+    geometry: &Geometry,
+    image: &[u8],
+    id: u32,
+    word: &[u8],
+    pages: &mut Vec<u8>,
+) -> Result<Outcome, AllocError>
+    requires { pages.old.items ≡ [] }
+    ensures { IfOk result (λ o. PlansRename (image_of geometry.now image.now) id word.now (given_pages o.status pages.new.items) o.text.items o.status) }
+{
+    let mut source = MemorySource::new(image);
+    let nothing = Avoided::new(&[], false);
+    let mut nowhere = io::sink();
+    let work = run_rename_from(
+        alloc,
+        geometry,
+        &mut source,
+        &nothing,
+        id,
+        word,
+        None,
+        &mut nowhere,
+        pages,
+    );
+    outcome_of(work)
+}
+
+/// Hands over what is printed of a plan, and its pages, if it is one; gives the status.
+fn hand_plan(
+    answer: Result<Outcome, AllocError>,
+    pages: &[u8],
+    out: &mut [u8],
+    len: &mut usize,
+    room: &mut [u8],
+    pages_len: &mut usize,
+) -> u32
+    ensures { HandsPlan answer pages.now out.old out.new len.new room.old room.new pages_len.new result }
+{
+    match answer {
+        Ok(outcome) => {
+            if outcome.status == DONE {
+                put_all(pages, room, pages_len);
+            } else {
+                *pages_len = 0;
+            }
+            hand(outcome.text.as_slice(), outcome.status, out, len)
+        }
+        Err(_) => {
+            *len = 0;
+            *pages_len = 0;
+            NO_MEMORY
+        }
+    }
+}
+
+impl Edit<'_> {
+    /// Plans it: what is printed of it, and adds the pages that it programs.
+    ///
+    /// # Errors
+    ///
+    /// Memory ran out.
+    fn plan(
+        &self,
+        alloc: Global,
+        geometry: &Geometry,
+        image: &[u8],
+        pages: &mut Vec<u8>,
+    ) -> Result<Outcome, AllocError>
+        requires { pages.old.items ≡ [] }
+        ensures { IfOk result (λ o. plans self.now (image_of geometry.now image.now) (given_pages o.status pages.new.items) o.text.items o.status) }
+    {
+        match self {
+            Edit::Change(new) => plan_change(alloc, geometry, image, new, pages),
+            Edit::Rename(id, word) => plan_rename(alloc, geometry, image, *id, word, pages),
+        }
+    }
+
+    /// Plans it under numbers.
+    ///
+    /// # Errors
+    ///
+    /// Memory ran out.
+    fn plan_under(
+        &self,
+        alloc: Global,
+        sizes: &DeviceSizes,
+        image: &[u8],
+        pages: &mut Vec<u8>,
+    ) -> Result<Outcome, AllocError>
+        requires { pages.old.items ≡ [] }
+        ensures { IfOk result (λ o. Under sizes.now (λ s. plans self.now (image_of s image.now) (given_pages o.status pages.new.items)) o.text.items o.status) }
+    {
+        match geometry_of(sizes) {
+            Ok(geometry) => self.plan(alloc, &geometry, image, pages),
+            Err(limit) => limit_outcome(alloc, limit),
+        }
+    }
+
+    /// Hands over its plan under numbers; gives the status.
+    fn tell(
+        &self,
+        alloc: Global,
+        sizes: &DeviceSizes,
+        image: &[u8],
+        out: &mut [u8],
+        len: &mut usize,
+        room: &mut [u8],
+        pages_len: &mut usize,
+    ) -> u32
+        ensures { FillsBoth (λ pages. Under sizes.now (λ s. plans self.now (image_of s image.now) pages)) out.old out.new len.new room.old room.new pages_len.new result }
+    {
+        let mut pages = Vec::new(alloc);
+        let answer = self.plan_under(alloc, sizes, image, &mut pages);
+        hand_plan(answer, pages.as_slice(), out, len, room, pages_len)
+    }
+}
+
+/// The plan of a change: its lines, as `change` prints them, and the pages that its steps program, in their order; or the line
+/// of the refusal, and no pages.
+pub fn change(
+    alloc: Global,
+    sizes: &DeviceSizes,
+    image: &[u8],
+    id: u32,
+    lnum: u32,
+    new: &[u8],
+    out: &mut [u8],
+    len: &mut usize,
+    pages: &mut [u8],
+    pages_len: &mut usize,
+) -> u32
+    ensures { FillsBoth (λ programmed. Under sizes.now (λ s. PlansChange (image_of s image.now) id lnum new.now programmed)) out.old out.new len.new pages.old pages.new pages_len.new result }
+{
+    let edit = Edit::Change(NewBytes {
+        id,
+        lnum,
+        bytes: new,
+    });
+    edit.tell(alloc, sizes, image, out, len, pages, pages_len)
+}
+
+/// The plan of a rename to the name that a word shows: its lines, as `rename` prints them, and the pages that its steps program,
+/// in their order; or the line of the refusal, and no pages.
+pub fn rename(
+    alloc: Global,
+    sizes: &DeviceSizes,
+    image: &[u8],
+    id: u32,
+    word: &[u8],
+    out: &mut [u8],
+    len: &mut usize,
+    pages: &mut [u8],
+    pages_len: &mut usize,
+) -> u32
+    ensures { FillsBoth (λ programmed. Under sizes.now (λ s. PlansRename (image_of s image.now) id word.now programmed)) out.old out.new len.new pages.old pages.new pages_len.new result }
+{
+    Edit::Rename(id, word).tell(alloc, sizes, image, out, len, pages, pages_len)
+}
