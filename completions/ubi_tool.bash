@@ -11,7 +11,7 @@ _ubi_tool() {
         list) words='--start --length --oob --bad --format --peb --page --vid --data --pebs --help' ;;
         check) words='--start --length --oob --bad --format --peb --page --vid --data --pebs --help' ;;
         show) words='--start --length --oob --bad --block --peb --page --vid --data --pebs --help' ;;
-        map) words='--start --length --oob --bad --help' ;;
+        map) words='--start --length --oob --bad --out --peb --page --vid --data --pebs --help' ;;
         extract) words='--start --length --oob --bad --out --id --name --peb --page --vid --data --pebs --help' ;;
         unpack) words='--start --length --oob --bad --out --peb --page --vid --data --pebs --help' ;;
         compose) words='--out --spares --seq --peb --page --vid --data --pebs --help' ;;

@@ -35,7 +35,7 @@ class Help:
         self.usage, _, rest = rest.partition('\n')
         for line in rest.splitlines():
             titled = re.fullmatch(r'(\w+):', line)
-            entry = re.fullmatch(r' +(?:-\w, +)?(?:--)?<?([\w-]+)>?(?: <(\w+)>)?  +(.*)', line)
+            entry = re.fullmatch(r' +(?:-\w, +)?(?:--)?<?([\w-]+)>?(?: <([\w.]+)>)?  +(.*)', line)
             if titled:
                 section = self.sections.setdefault(titled[1], [])
             elif entry and section is not None and not self.below:
@@ -54,6 +54,12 @@ def help_of(tool, *command):
     """The help of the program, or of one of its commands."""
     ran = subprocess.run([tool, *command, '--help'], stdin=subprocess.DEVNULL, capture_output=True, text=True)
     return Help(ran.stderr.replace(f'Usage: {Path(tool).name} ', 'Usage: ubi_tool ', 1))
+
+
+def version_of(tool):
+    """The version of the program, as it says it."""
+    ran = subprocess.run([tool, '--version'], stdin=subprocess.DEVNULL, capture_output=True, text=True)
+    return ran.stderr.strip()
 
 
 def bash(commands):
@@ -121,30 +127,61 @@ def roff(text):
     return re.sub(r"^([.'])", r'\\&\1', text, flags=re.MULTILINE)
 
 
-def entries(title, section):
-    """The entries of a section of a help, for the manual page."""
-    page = f'.P\n{roff(title)}:\n' if title != 'Options' else ''
-    for entry in section:
-        dashes = '' if title == 'Arguments' else '--'
-        value = f' \\fI{roff(entry.value)}\\fR' if entry.value else ''
-        page += f'.TP\n\\fB{roff(dashes + entry.name)}\\fR{value}\n{roff(entry.text)}\n'
-    return page
+def bold(name):
+    """A name in bold type."""
+    return f'\\fB{roff(name)}\\fR'
 
 
-def manual(whole, commands):
-    """The manual page."""
+def usage(help):
+    """The usage of a command: its name in bold type, and what it has to be given with the values in italics."""
+    _, name, rest = help.usage.split(' ', 2)
+    rest = re.sub(r'<([\w.]+)>', r'\\fI\1\\fR', roff(rest))
+    return f'{bold(name)} {rest}'
+
+
+def list_of(names):
+    """A list in words."""
+    return ', '.join(names[:-1]) + f' and {names[-1]}' if len(names) > 1 else ''.join(names)
+
+
+def merged(commands, section):
+    """The entries of all commands by name, in the order in which they come first: of each the texts, with the names of their values and
+    the commands that say them."""
+    found = {}
+    for name, help in commands.items():
+        for entry in section(help):
+            found.setdefault(entry.name, {}).setdefault((entry.value, entry.text), []).append(name)
+    return found
+
+
+def described(shown, texts):
+    """An entry of the manual page. Where commands say different things of it, each is named with what it says."""
+    values = dict.fromkeys(value for value, _ in texts if value)
+    page = f'.TP\n{bold(shown)}' + (' ' if values else '') + ', '.join(f'\\fI{roff(value)}\\fR' for value in values) + '\n'
+    if len(texts) == 1:
+        return page + ''.join(f'{roff(text)}\n' for _, text in texts)
+    return page + ''.join(f'For {list_of(names)}: {roff(text[0].lower() + text[1:])}.\n' for (_, text), names in texts.items())
+
+
+def manual(whole, commands, version):
+    """The manual page: each option once."""
     page = f""".\\" The manual page of ubi_tool. Made by bench/gate/words.py.
-.TH UBI_TOOL 1
+.TH UBI_TOOL 1 "" "{version}" "User Commands"
 .SH NAME
 ubi_tool \\- {roff(whole.about[0].lower() + whole.about[1:])}
 .SH SYNOPSIS
+{bold('ubi_tool')} \\fICOMMAND\\fR [\\fIOPTIONS\\fR] \\fIFILE\\fR ...
+.SH COMMANDS
 """
-    page += ''.join(f'.P\n{roff(help.usage)}\n' for help in commands.values())
-    page += '.SH COMMANDS\n'
     for name, help in commands.items():
-        page += f'.SS {roff(name)}\n{roff(help.about)}.\n'
-        for title, section in help.sections.items():
-            page += entries(title, [entry for entry in section if entry.name not in ('help', 'version')])
+        page += f'.TP\n{usage(help)}\n{roff(help.about)}.\n.br\nOptions: '
+        page += ', '.join(f'\\-\\-{roff(option.name)}' for option in help.options()) + '.\n'
+    page += '.SH ARGUMENTS\n'
+    for name, texts in merged(commands, lambda help: help.sections.get('Arguments', [])).items():
+        page += described(name, texts)
+    page += '.SH OPTIONS\n'
+    for name, texts in merged(commands, Help.options).items():
+        page += described(f'--{name}', texts)
     page += '.SH EXAMPLES AND EXIT STATUS\n.nf\n' + roff('\n'.join(whole.below).strip('\n')) + '\n.fi\n'
     return page
 
@@ -158,7 +195,7 @@ def main():
     names = [entry.name for entry in whole.sections.get('Commands', []) if entry.name != 'help']
     commands = {name: help_of(words.tool, name) for name in names}
     made = {'completions/ubi_tool.bash': bash(commands), 'completions/_ubi_tool': zsh(commands),
-            'docs/ubi_tool.1': manual(whole, commands)}
+            'docs/ubi_tool.1': manual(whole, commands, version_of(words.tool))}
     failed = 0 if names else 1
     for name, text in made.items():
         path = ROOT / name
