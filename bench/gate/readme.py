@@ -17,7 +17,7 @@ import sys
 from pathlib import Path
 
 ROOT = Path(__file__).resolve().parents[2]
-PAGES = ('README.md', 'docs/CHANGE.md', 'docs/AUDIT.md')
+PAGES = ('README.md', 'docs/USE.md', 'docs/CHANGE.md', 'docs/AUDIT.md')
 
 
 def blocks(text):
