@@ -40,7 +40,7 @@ refuse() {
 
 # Prints the comment at the head of this file, and ends with status 2.
 usage() {
-  sed -n '2,/^$/s/^# \{0,1\}//p' "$0" >&2
+  sed -n '2,/^$/s/^# \{0,1\}//p' "$0" | sed "1s,^carry_out.sh,${0##*/}," >&2
   exit 2
 }
 
