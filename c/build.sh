@@ -1,12 +1,12 @@
 #!/bin/sh
-# Builds the core for C and Python: c/out/libubi.a, c/out/libubi.so and c/out/ubi.h. Proves what isn't proved yet, which takes up to
-# half an hour; needs rt of the kit on the PATH, and cc. docs/C.md says how to use them.
+# Builds the core for C and Python: c/out/libubi.a, c/out/libubi.so and c/out/ubi.h. Proves what isn't proved yet, which takes about as long
+# as the first build of the program (docs/MEASUREMENTS.md); needs rt of the kit on the PATH, and cc. docs/C.md says how to use them.
 set -eu
 here=$(cd "$(dirname "$0")" && pwd)
 top=$here/..
 out=$here/out
 command -v rt >/dev/null || {
-    echo "c/build.sh: needs rt of the kit on the PATH (README.md, Build)" >&2
+    echo "c/build.sh: needs rt of the kit on the PATH (README.md, Install)" >&2
     exit 1
 }
 kit=$(dirname "$(rt doc)")
