@@ -14,6 +14,8 @@ import sys
 from pathlib import Path
 
 ROOT = Path(__file__).resolve().parents[2]
+# The day on which the form of the manual page was last changed.
+DATE = '2026-11-28'
 # Options whose value is a path.
 PATHS = ('out', 'from', 'pages')
 
@@ -166,7 +168,7 @@ def described(shown, texts):
 def manual(whole, commands, version):
     """The manual page: each option once."""
     page = f""".\\" The manual page of ubi_tool. Made by bench/gate/words.py.
-.TH UBI_TOOL 1 "" "{version}" "User Commands"
+.TH UBI_TOOL 1 {DATE} "{version}" "User Commands"
 .SH NAME
 ubi_tool \\- {roff(whole.about[0].lower() + whole.about[1:])}
 .SH SYNOPSIS
