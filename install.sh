@@ -14,6 +14,7 @@
 # A file that is there is replaced. Exit status: 0 done; 1 refused, or a file can't be written; 2 bad arguments.
 
 set -u
+umask 022
 here=$(cd "$(dirname "$0")" && pwd -P) || exit 1
 
 # Prints the comment at the head of this file.
