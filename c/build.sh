@@ -1,6 +1,7 @@
 #!/bin/sh
 # Builds the core for C and Python: c/out/libubi.a, c/out/libubi.so and c/out/ubi.h. Proves what isn't proved yet, which takes about as long
-# as the first build of the program (docs/MEASUREMENTS.md); needs rt of the kit on the PATH, and cc. docs/C.md says how to use them.
+# as the first build of the program (docs/MEASUREMENTS.md); needs rt of the kit on the PATH, and cc. With --link it
+# takes the archive of crates/ubi_c as it stands. docs/C.md says how to use them.
 set -eu
 here=$(cd "$(dirname "$0")" && pwd)
 top=$here/..
@@ -11,9 +12,14 @@ command -v rt >/dev/null || {
 }
 kit=$(dirname "$(rt doc)")
 
-# The libraries, lowest first: each stands on those before it.
-for name in ubi_words ubi_media ubi_config ubi_scan ubi_detect ubi_files ubi_table ubi_volume ubi_change ubi_compose ubi_compare ubi_json ubi_map \
-    ubi_commands ubi_calls ubi_c; do
+# What ubi_c stands on, and itself, lowest first, as crates.txt has them.
+crates() {
+    tac "$top/crates.txt" | awk '
+        BEGIN { wanted["ubi_c"] }
+        { name = $1; sub(":", "", name) }
+        name in wanted { print name; for (i = 2; i <= NF; i++) wanted[$i] }' | tac
+}
+[ "${1-}" = --link ] || for name in $(crates); do
     echo "$name" >&2
     (cd "$top/crates/$name" && rt lib >/dev/null)
 done

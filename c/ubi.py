@@ -23,24 +23,25 @@ MOST_PEBS = 1048576
 DONE, REFUSED, LIMIT, NO_MEMORY = range(4)
 # The room that most answers in lines need.
 ROOM = 4096
+# An answer that is a refusal: the side, of two images, and the cause.
+REFUSAL = re.compile(rb"(?:(left|right) )?refused (.*)\n")
 
 
 class Refused(ValueError):
     """An image, a volume or an edit is refused. `cause` is the cause, as 'S8 SameSqnum block=57 earlier=12', and `side` is 'left' or
     'right', where one of two images is refused."""
 
-    def __init__(self, line):
-        words = line.strip().partition("refused ")
-        self.side, self.cause = words[0].strip() or None, words[2]
-        super().__init__(line.strip())
+    def __init__(self, cause, side=None):
+        self.cause, self.side = cause, side
+        super().__init__(f"{side} refused {cause}" if side else f"refused {cause}")
 
 
 class Limit(ValueError):
     """The sizes are no geometry. `cause` is the first limit that they break, as 'G2 Page'."""
 
-    def __init__(self, line):
-        self.cause = line.strip().partition("refused ")[2]
-        super().__init__(line.strip())
+    def __init__(self, cause):
+        self.cause = cause
+        super().__init__(f"refused {cause}")
 
 
 class Sizes(ctypes.Structure):
@@ -129,7 +130,7 @@ class Library:
         self._library = ctypes.CDLL(path or os.path.join(os.path.dirname(os.path.abspath(__file__)), "out", "libubi.so"))
 
     def _call(self, name, sizes, images, numbers, given, rooms):
-        """The status, with the answers in rooms: once more where one of them is too small."""
+        """The status, with the answers in rooms: once more where one of them is too small. Raises Limit and MemoryError."""
         call = getattr(self._library, f"ubi_{name}")
         call.restype = ctypes.c_uint32
         with contextlib.ExitStack() as held:
@@ -140,16 +141,19 @@ class Library:
                 if status == NO_MEMORY:
                     raise MemoryError(f"ubi_{name}")
                 if all(room.has_all() for room in rooms):
-                    return status, [room.taken() for room in rooms]
+                    answers = [room.taken() for room in rooms]
+                    if status == LIMIT:
+                        raise Limit(REFUSAL.fullmatch(answers[0])[2].decode("ascii"))
+                    return status, answers
                 rooms = [room if room.has_all() else _Room(room.len.value) for room in rooms]
 
     def _answer(self, name, sizes, images, numbers=(), given=(), rooms=None):
         """The answers, where the call is done; raises what is refused."""
         status, answers = self._call(name, sizes, images, numbers, given, rooms or [_Room(ROOM)])
-        if status == LIMIT:
-            raise Limit(answers[0].decode("ascii"))
-        if status == REFUSED and b"refused " in answers[0]:
-            raise Refused(answers[0].decode("ascii"))
+        refusal = REFUSAL.fullmatch(answers[0]) if status == REFUSED else None
+        if refusal:
+            side, cause = refusal.groups()
+            raise Refused(cause.decode("ascii"), side and side.decode("ascii"))
         return answers
 
     def geometry(self, image):
@@ -175,10 +179,7 @@ class Library:
 
     def map(self, sizes, image):
         """The lines that `ubi_tool map` prints: a letter for each eraseblock. Of an image that is refused too, whose cause stands last."""
-        status, answers = self._call("map", sizes, [image], (), (), [_Room(ROOM)])
-        if status == LIMIT:
-            raise Limit(answers[0].decode("ascii"))
-        return answers[0].decode("ascii")
+        return self._call("map", sizes, [image], (), (), [_Room(ROOM)])[1][0].decode("ascii")
 
     def read(self, sizes, image, number):
         """The bytes of the volume with this number."""

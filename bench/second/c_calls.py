@@ -278,23 +278,29 @@ def look_data(rng, tool, folder, caller, library):
 
 
 def look_examples(tool, folder, made, checkers):
-    """Runs the examples on an image: what they print and write has to be what the program does."""
+    """Runs the examples on an image, alone and with something around it: what they print and write has to be what the program does."""
     image = ROOT / "crates/ubi_tool/data/root.img"
+    chip, with_oob = Path(folder) / "chip.img", Path(folder) / "oob.img"
+    data = image.read_bytes()
+    chip.write_bytes(bytes(1024) + data + bytes(300))
+    with_oob.write_bytes(b"".join(data[at:at + 64] + b"\xFF" * 16 for at in range(0, len(data), 64)))
     listed = subprocess.run([tool, "list", image], capture_output=True, check=True).stdout
     numbers = [line.split()[1].decode() for line in listed.splitlines() if line.startswith(b"volume ")]
     subprocess.run(["cc", "-Wall", "-Wextra", "-Werror", *checkers, f"-I{made}", "-o", f"{folder}/volumes", ROOT / "c/examples/volumes.c",
         f"{made}/libubi.a"], check=True)
     for words in ([f"{folder}/volumes"], [sys.executable, ROOT / "c/examples/volumes.py"]):
-        ran = subprocess.run([*words, image, folder], capture_output=True)
-        if (ran.returncode, ran.stdout) != (0, listed):
-            raise Failure(f"{words} ends with {ran.returncode} and prints {ran.stdout!r}{ran.stderr!r} where {listed!r} is right")
-        for number in numbers:
-            subprocess.run([tool, "extract", image, "--id", number, "--out", f"{folder}/out"], capture_output=True)
-            if taken_file(f"{folder}/volume_{number}.bin") != taken_file(f"{folder}/out"):
-                raise Failure(f"{words} writes something else of volume {number}")
-        ran = subprocess.run([*words, ROOT / "crates/ubi_tool/data/new.bin", folder], capture_output=True)
-        if ran.returncode != 1 or b"refused" not in ran.stdout + ran.stderr:
-            raise Failure(f"{words} ends with {ran.returncode} at what is no image: {ran.stdout!r}{ran.stderr!r}")
+        for dump in (image, chip):
+            ran = subprocess.run([*words, dump, folder], capture_output=True)
+            if (ran.returncode, ran.stdout) != (0, listed):
+                raise Failure(f"{words} ends with {ran.returncode} and prints {ran.stdout!r}{ran.stderr!r} where {listed!r} is right")
+            for number in numbers:
+                subprocess.run([tool, "extract", image, "--id", number, "--out", f"{folder}/out"], capture_output=True)
+                if taken_file(f"{folder}/volume_{number}.bin") != taken_file(f"{folder}/out"):
+                    raise Failure(f"{words} writes something else of volume {number}")
+        for dump, line in ((ROOT / "crates/ubi_tool/data/new.bin", b"refused F1 NoHeader\n"), (with_oob, b"the dump has out-of-band bytes\n")):
+            ran = subprocess.run([*words, dump, folder], capture_output=True)
+            if (ran.returncode, ran.stdout, ran.stderr) != (1, b"", line):
+                raise Failure(f"{words} ends with {ran.returncode} at {dump}: {ran.stdout!r}{ran.stderr!r}, and not {line!r}")
 
 
 def options():

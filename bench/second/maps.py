@@ -95,14 +95,15 @@ class Case:
     def check_page(self, text, status):
         told = self.page_data()
         lines = ["".join(f"{name} {state} {raw.hex()}\n" for name, ((state, _), raw) in zip(("ec", "vid"), block)) for block in self.headers()]
-        want = {"blocks": lines}
+        letters = "".join(row[8:] for row in text.splitlines() if not row.startswith("refused "))
+        want = {"blocks": lines, "states": letters}
         check, listed = (json.loads(self.ask(command, "--format", "json")[0]) for command in ("check", "list"))
         if status:
             want |= {"geometry": told.get("geometry"), "refusal": check}
             if told.get("geometry", {}).get("peb") != self.geometry.peb:
                 raise Failure(f"the page has the sizes {told.get('geometry')}")
         else:
-            want |= {"check": check, "list": listed, "states": "".join(row[8:] for row in text.splitlines())}
+            want |= {"check": check, "list": listed}
         if told != want:
             raise Failure(f"the page tells {told}, and not {want}")
 

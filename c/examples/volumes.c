@@ -1,4 +1,5 @@
-/* volumes IMAGE FOLDER: finds the geometry of a dump, lists its volumes, and writes what each reads into FOLDER/volume_N.bin.
+/* volumes DUMP FOLDER: finds the image in a dump and its geometry, lists its volumes, and writes the contents of each to
+ * FOLDER/volume_N.bin. The dump has no out-of-band bytes.
  *
  *     c/build.sh
  *     cc -Ic/out -o volumes c/examples/volumes.c c/out/libubi.a
@@ -21,21 +22,27 @@ static uint8_t *load(const char *path, size_t *len) {
     return data;
 }
 
-/* Prints an answer that says why there is no other. */
-static int refused(uint32_t status, const uint8_t *text, size_t len) {
+/* Prints an answer of `len` bytes, of which `room` at most stand in `text`, that says why there is no other. */
+static int refused(uint32_t status, const uint8_t *text, size_t room, size_t len) {
     if (status == UBI_NO_MEMORY) fprintf(stderr, "out of memory\n");
-    else fwrite(text, 1, len, stderr);
+    else fwrite(text, 1, len < room ? len : room, stderr);
     return 1;
 }
 
-/* Writes what a volume reads: it is asked for its length first, and then for its bytes. */
+/* The number behind a word in the first line of an answer, or another number where the word isn't there. */
+static size_t number_of(const char *text, const char *word, size_t other) {
+    const char *end = strchr(text, '\n'), *at = strstr(text, word);
+    return at && end && at < end ? (size_t)strtoull(at + strlen(word), NULL, 10) : other;
+}
+
+/* Writes the contents of a volume: it is asked for their length first, and then for their bytes. */
 static int write_volume(const struct ubi_sizes *sizes, const uint8_t *image, size_t image_len, unsigned number, const char *folder) {
     uint8_t nothing, *bytes;
     size_t len, again;
     char path[4096];
     if (ubi_read(sizes, image, image_len, number, &nothing, 0, &len) == UBI_NO_MEMORY || !(bytes = malloc(len + 1))) return 1;
     uint32_t status = ubi_read(sizes, image, image_len, number, bytes, len, &again);
-    if (status != UBI_DONE) return refused(status, bytes, again);
+    if (status != UBI_DONE) return refused(status, bytes, len, again);
     snprintf(path, sizeof path, "%s/volume_%u.bin", folder, number);
     FILE *file = fopen(path, "wb");
     if (!file || fwrite(bytes, 1, len, file) != len || fclose(file)) return 1;
@@ -44,27 +51,34 @@ static int write_volume(const struct ubi_sizes *sizes, const uint8_t *image, siz
 }
 
 int main(int argc, char **argv) {
-    size_t image_len, len;
-    uint8_t *image;
-    if (argc != 3 || !(image = load(argv[1], &image_len))) return 2;
+    size_t dump_len, len;
+    uint8_t *dump;
+    if (argc != 3 || !(dump = load(argv[1], &dump_len))) return 2;
 
     static uint8_t text[65536];
-    uint32_t status = ubi_geometry(image, image_len, text, sizeof text - 1, &len);
-    if (status != UBI_DONE) return refused(status, text, len);
-    text[len < sizeof text ? len : sizeof text - 1] = 0;
+    const size_t room = sizeof text - 1;
+    uint32_t status = ubi_geometry(dump, dump_len, text, room, &len);
+    if (status != UBI_DONE) return refused(status, text, room, len);
+    text[len < room ? len : room] = 0;
+    const char *line = (char *)text;
     struct ubi_sizes sizes = {.pebs = UBI_MOST_PEBS};
-    if (sscanf((char *)text, "--peb %u --page %u --vid %u --data %u", &sizes.peb_size, &sizes.page, &sizes.vid_offset,
-            &sizes.data_offset) != 4)
+    if (sscanf(line, "--peb %u --page %u --vid %u --data %u", &sizes.peb_size, &sizes.page, &sizes.vid_offset, &sizes.data_offset) != 4)
         return 1;
+    if (number_of(line, " --oob ", 0)) {
+        fprintf(stderr, "the dump has out-of-band bytes\n");
+        return 1;
+    }
+    const uint8_t *image = dump + number_of(line, " --start ", 0);
+    const size_t image_len = number_of(line, " --length ", dump_len);
 
-    status = ubi_list(&sizes, image, image_len, text, sizeof text - 1, &len);
-    if (status != UBI_DONE || len >= sizeof text) return refused(status, text, len < sizeof text ? len : sizeof text);
+    status = ubi_list(&sizes, image, image_len, text, room, &len);
+    if (status != UBI_DONE || len > room) return refused(status, text, room, len);
     text[len] = 0;
     fputs((char *)text, stdout);
-    for (char *line = strstr((char *)text, "\nvolume "); line; line = strstr(line + 1, "\nvolume ")) {
+    for (line = strstr(line, "\nvolume "); line; line = strstr(line + 1, "\nvolume ")) {
         unsigned number = (unsigned)strtoul(line + strlen("\nvolume "), NULL, 10);
         if (write_volume(&sizes, image, image_len, number, argv[2])) return 1;
     }
-    free(image);
+    free(dump);
     return 0;
 }

@@ -60,8 +60,8 @@ uint32_t ubi_list(const struct ubi_sizes *sizes, const uint8_t *image, size_t im
 uint32_t ubi_show(const struct ubi_sizes *sizes, const uint8_t *image, size_t image_len, uint32_t block, uint8_t *out, size_t out_len,
     size_t *len);
 
-/* A letter for each eraseblock, in rows of 64 behind the number of the first. Of an image that is refused the letters are told by the headers alone, and
- * the line of the refusal stands behind the rows. */
+/* A letter for each eraseblock, in rows of 64 after the number of the first. Of an image that is refused the letters are those of the
+ * headers alone, and the line of the refusal follows the rows. */
 uint32_t ubi_map(const struct ubi_sizes *sizes, const uint8_t *image, size_t image_len, uint8_t *out, size_t out_len, size_t *len);
 
 /* The bytes of the volume with this number. */

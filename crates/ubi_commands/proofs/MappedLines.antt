@@ -46,18 +46,23 @@ module _ (s : Sizes) (k : Source) (agrees : Agreed) (is : IsSource k agrees) (by
         (told ∙ ap (header_letters s (blocks_of s bytes)) number) line)
 
     -- the page by its texts
-    pub of_refused_page : (texts : List (List ℕ)) (page : List ℕ) (c : Refusal) → texts ≡ block_texts s (blocks_of s bytes) n
-        → Refuses (image_of s bytes) c → page ≡ page_of (refused_data s texts c) → IsPageOf (image_of s bytes) (Some page)
-    of_refused_page texts page c told fault made =
+    pub of_refused_page : (texts : List (List ℕ)) (letters page : List ℕ) (c : Refusal) → texts ≡ block_texts s (blocks_of s bytes) n
+        → letters ≡ header_letters s (blocks_of s bytes) n → Refuses (image_of s bytes) c
+        → page ≡ page_of (refused_data s texts letters c) → IsPageOf (image_of s bytes) (Some page)
+    of_refused_page texts letters page c told lettered fault made =
         subst (λ (p : List ℕ). IsPageOf (image_of s bytes) (Some p))
-        (sym (made ∙ ap (λ (ts : List (List ℕ)). page_of (refused_data s ts c))
-        (told ∙ ap (block_texts s (blocks_of s bytes)) number)))
+        (sym (made ∙ ap (λ (ts : List (List ℕ)). page_of (refused_data s ts letters c))
+        (told ∙ ap (block_texts s (blocks_of s bytes)) number)
+        ∙ ap (λ (ls : List ℕ). page_of (refused_data s (block_texts s (blocks_of s bytes) (length (blocks_of s bytes))) ls c))
+        (lettered ∙ ap (header_letters s (blocks_of s bytes)) number)))
         (refused_page c (whole s k agrees is bytes holds size) fault)
 
-    pub of_page : (texts : List (List ℕ)) (page : List ℕ) (a : Seen) → texts ≡ block_texts s (blocks_of s bytes) n
-        → IsSurvey (image_of s bytes) a → IsPageBy (image_of s bytes) texts a page → IsPageOf (image_of s bytes) (Some page)
-    of_page texts page a told survey (by_cause c fault made) = of_refused_page texts page c told fault made
-    of_page texts page a told survey (by_meaning m accepts made) =
+    pub of_page : (texts : List (List ℕ)) (letters page : List ℕ) (a : Seen) → texts ≡ block_texts s (blocks_of s bytes) n
+        → letters ≡ header_letters s (blocks_of s bytes) n → IsSurvey (image_of s bytes) a
+        → IsPageBy (image_of s bytes) texts letters a page → IsPageOf (image_of s bytes) (Some page)
+    of_page texts letters page a told lettered survey (by_cause c fault made) =
+        of_refused_page texts letters page c told lettered fault made
+    of_page texts letters page a told lettered survey (by_meaning m accepts made) =
         let volumes : List ListedVolume = map listed_volume (entries m.volumes) in
         let here : s ≡ m.sizes = sym accepts.accepted.means.sizes in
         subst (λ (p : List ℕ). IsPageOf (image_of s bytes) (Some p))

@@ -163,7 +163,7 @@ fn texts_of<S: BlockSource>(
     }
 }
 
-/// The page of a source that is surveyed, by the lines of its eraseblocks' headers.
+/// The page of a source that is surveyed, by the lines of its eraseblocks' headers and their letters.
 ///
 /// # Errors
 ///
@@ -173,11 +173,12 @@ fn surveyed_page_from<S: BlockSource>(
     geometry: &Geometry,
     source: &mut S,
     texts: &[String],
+    letters: &str,
     surveyed: &Surveyed,
 ) -> Result<Vec<u8>, ToolError>
     ensures known { S.known source.new ≡ after_run (S.known source.old) result }
     ensures narrows { Narrows (S.agrees source.old) (S.agrees source.new) }
-    ensures page { IfOk result (λ page. WhereHeld (S.agrees source.new) (λ bytes. IsPageBy (image_of geometry.now bytes) (map string_bytes texts.now) surveyed.now page.items)) }
+    ensures page { IfOk result (λ page. WhereHeld (S.agrees source.new) (λ bytes. IsPageBy (image_of geometry.now bytes) (map string_bytes texts.now) letters.now surveyed.now page.items)) }
     ensures failed { IfErr result IsNoWrite }
 {
     match attach_places(alloc, geometry, source) {
@@ -194,7 +195,9 @@ fn surveyed_page_from<S: BlockSource>(
             let volumes = listed.as_slice();
             Ok(surveyed_page(alloc, geometry, texts, surveyed, volumes)?)
         }
-        Err(StreamError::Refused(cause)) => Ok(refused_page(alloc, geometry, texts, cause)?),
+        Err(StreamError::Refused(cause)) => Ok(refused_page(
+            alloc, geometry, texts, letters, cause,
+        )?),
         Err(StreamError::Read(_, _)) => Err(ToolError::Read),
         Err(StreamError::Memory) => Err(ToolError::Memory),
         // Nothing is written.
@@ -223,13 +226,15 @@ fn page_from<S: BlockSource>(
     };
     let texts = texts_of(alloc, geometry, source, count)?;
     let texts = texts.as_slice();
+    let letters = letters_of(alloc, geometry, source, count)?;
+    let letters = letters.as_str();
     match survey_from(alloc, geometry, source) {
         Ok(surveyed) => {
-            let page = surveyed_page_from(alloc, geometry, source, texts, &surveyed)?;
+            let page = surveyed_page_from(alloc, geometry, source, texts, letters, &surveyed)?;
             Ok(Some(page))
         }
         Err(StreamError::Refused(cause)) => {
-            let page = refused_page(alloc, geometry, texts, cause)?;
+            let page = refused_page(alloc, geometry, texts, letters, cause)?;
             Ok(Some(page))
         }
         Err(StreamError::Read(_, _)) => Err(ToolError::Read),

@@ -9,6 +9,6 @@ pub surveyed_whole : (s : Sizes) (texts : List (List ℕ)) (a : Seen) (volumes :
     → has_float (surveyed_data s texts a volumes) ≡ false
 surveyed_whole s texts a volumes = rw (texts_whole texts, listed_whole s volumes) refl
 
-pub refused_whole : (s : Sizes) (texts : List (List ℕ)) (c : Refusal) → has_float (refusal_data c) ≡ false
-    → has_float (refused_data s texts c) ≡ false
-refused_whole s texts c whole = rw (texts_whole texts, whole) refl
+pub refused_whole : (s : Sizes) (texts : List (List ℕ)) (letters : List ℕ) (c : Refusal) → has_float (refusal_data c) ≡ false
+    → has_float (refused_data s texts letters c) ≡ false
+refused_whole s texts letters c whole = rw (texts_whole texts, whole) refl

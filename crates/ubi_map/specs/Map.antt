@@ -15,7 +15,7 @@ use Rattle.ubi_json.specs.List.{listed_data, listed_volume, sizes_data}
 use Rattle.ubi_json.specs.Told.{refusal_data}
 use Rattle.ubi_json.specs.declared.list.ListedVolume.{ListedVolume}
 use Rattle.ubi_map.specs.Headers.{block_lines}
-use Rattle.ubi_map.specs.Letters.{state_letters}
+use Rattle.ubi_map.specs.Letters.{header_letters, state_letters}
 
 -- the first n eraseblocks, each as the lines of its headers
 abbrev pub block_texts : Sizes → List (List ℕ) → ℕ → List (List ℕ)
@@ -32,11 +32,12 @@ accepted_data blocks check list letters =
     (member (codes "blocks") blocks
     (member (codes "check") check (member (codes "list") list (worded (codes "states") letters no_members))))
 
--- one that is refused: its eraseblocks, the sizes of the device, and the cause
-abbrev pub unaccepted_data : Data → Data → Data → Data
-unaccepted_data blocks sizes cause =
+-- one that is refused: its eraseblocks, the sizes of the device, the cause, and a letter for each eraseblock
+abbrev pub unaccepted_data : Data → Data → Data → Data → Data
+unaccepted_data blocks sizes cause letters =
     object
-    (member (codes "blocks") blocks (member (codes "geometry") sizes (member (codes "refusal") cause no_members)))
+    (member (codes "blocks") blocks
+    (member (codes "geometry") sizes (member (codes "refusal") cause (member (codes "states") letters no_members))))
 
 -- of an image that is surveyed, whose volumes are listed so
 abbrev pub surveyed_data : Sizes → List (List ℕ) → Seen → List ListedVolume → Data
@@ -47,9 +48,9 @@ abbrev pub map_data : List (List ℕ) → Seen → Meant → Data
 map_data bs a m = surveyed_data m.sizes (block_texts m.sizes bs (length bs)) a (map listed_volume (entries m.volumes))
 
 -- of one that is refused
-abbrev pub refused_data : Sizes → List (List ℕ) → Refusal → Data
-refused_data s texts c = unaccepted_data (texts_data texts) (sizes_data s) (refusal_data c)
+abbrev pub refused_data : Sizes → List (List ℕ) → List ℕ → Refusal → Data
+refused_data s texts letters c = unaccepted_data (texts_data texts) (sizes_data s) (refusal_data c) (string letters)
 
--- with its eraseblocks
+-- with its eraseblocks, each lettered by its headers alone
 abbrev pub refused_map_data : Sizes → List (List ℕ) → Refusal → Data
-refused_map_data s bs c = refused_data s (block_texts s bs (length bs)) c
+refused_map_data s bs c = refused_data s (block_texts s bs (length bs)) (header_letters s bs (length bs)) c

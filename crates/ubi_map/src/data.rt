@@ -46,16 +46,17 @@ fn accepted_value(
     json!(in alloc; {"blocks": blocks, "check": check, "list": list, "states": states})
 }
 
-/// One that is refused: its eraseblocks, the sizes of the device, and the cause.
+/// One that is refused: its eraseblocks, the sizes of the device, the cause, and a letter for each eraseblock.
 fn unaccepted_value(
     alloc: Global,
     blocks: Value,
     sizes: Value,
     refusal: Value,
+    states: Value,
 ) -> Result<Value, AllocError>
-    ensures { IfOk result (λ v. view v ≡ unaccepted_data (view blocks) (view sizes) (view refusal)) }
+    ensures { IfOk result (λ v. view v ≡ unaccepted_data (view blocks) (view sizes) (view refusal) (view states)) }
 {
-    json!(in alloc; {"blocks": blocks, "geometry": sizes, "refusal": refusal})
+    json!(in alloc; {"blocks": blocks, "geometry": sizes, "refusal": refusal, "states": states})
 }
 
 /// An image that is surveyed, by the lines of its eraseblocks' headers, and its volumes as they are listed.
@@ -76,18 +77,20 @@ pub(crate) fn surveyed_value(
     accepted_value(alloc, blocks, check, list, states)
 }
 
-/// One that is refused for a cause.
+/// One that is refused for a cause, by the lines of its eraseblocks' headers and their letters.
 pub(crate) fn refused_value(
     alloc: Global,
     geometry: &Geometry,
     texts: &[String],
+    letters: &str,
     cause: Refusal,
 ) -> Result<Value, AllocError>
-    ensures value { IfOk result (λ v. view v ≡ refused_data geometry.now (map string_bytes texts.now) cause) }
+    ensures value { IfOk result (λ v. view v ≡ refused_data geometry.now (map string_bytes texts.now) letters.now cause) }
     ensures whole { IfOk result (λ v. has_float (view v) ≡ false) }
 {
     let blocks = texts_value(alloc, texts)?;
     let sizes = sizes_value(alloc, geometry)?;
     let refusal = refusal_value(alloc, cause)?;
-    unaccepted_value(alloc, blocks, sizes, refusal)
+    let states = Value::try_from_str(alloc, letters)?;
+    unaccepted_value(alloc, blocks, sizes, refusal, states)
 }

@@ -72,11 +72,7 @@ const blocks = data.blocks.map((text) => {
   const volume = vid.state === "valid" ? Number(number(vid, 8, 12)) : null;
   return { ec, vid, counter, volume, lnum: volume === null ? null : Number(number(vid, 12, 16)) };
 });
-const isFault = (h) => h.state.startsWith("fault:");
-const letterByHeaders = ({ ec, vid, volume }) =>
-  isFault(ec) || isFault(vid) ? "!" : volume !== null ? (volume === LAYOUT ? "t" : "v")
-    : ec.state === "corrupt" || vid.state === "corrupt" ? "c" : ec.state === "blank" ? "b" : "f";
-const letters = data.states ? [...data.states] : blocks.map(letterByHeaders);
+const letters = [...data.states];
 const refused = data.refusal && data.refusal.refused;
 const marked = refused ? ["block", "earlier"].filter((key) => key in refused).map((key) => refused[key]) : [];
 const most = blocks.reduce((most, b) => Math.max(most, b.counter ?? 0), 1);
@@ -161,7 +157,7 @@ function modes() {
 
 function told(p) {
   const { ec, vid, counter, volume, lnum } = blocks[p], lines = [];
-  if (data.states) lines.push("state      " + STATES[letters[p]][0]);
+  if (!refused) lines.push("state      " + STATES[letters[p]][0]);
   if (refused && refused.block === p) lines.push("the image is refused because of this eraseblock");
   if (refused && refused.earlier === p) lines.push("the image is refused because of this eraseblock and " + refused.block);
   lines.push("", "erase counter header: " + ec.state);

@@ -62,7 +62,7 @@ pub fn surveyed_page(
     page_of(alloc, &value)
 }
 
-/// The page of an image that is refused for a cause, by the lines of its eraseblocks' headers.
+/// The page of an image that is refused for a cause, by the lines of its eraseblocks' headers and a letter for each of them.
 ///
 /// # Errors
 ///
@@ -71,10 +71,11 @@ pub fn refused_page(
     alloc: Global,
     geometry: &Geometry,
     texts: &[String],
+    letters: &str,
     cause: Refusal,
 ) -> Result<Vec<u8>, AllocError>
-    ensures { IfOk result (λ page. page.items ≡ page_of (refused_data geometry.now (map string_bytes texts.now) cause)) }
+    ensures { IfOk result (λ page. page.items ≡ page_of (refused_data geometry.now (map string_bytes texts.now) letters.now cause)) }
 {
-    let value = refused_value(alloc, geometry, texts, cause)?;
+    let value = refused_value(alloc, geometry, texts, letters, cause)?;
     page_of(alloc, &value)
 }
