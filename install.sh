@@ -9,7 +9,8 @@
 #   share/man/man1/ubi_tool.1
 #   share/bash-completion/completions/ubi_tool, share/zsh/site-functions/_ubi_tool
 #   share/doc/ubi_tool/: README.md, CHANGELOG.md, docs/, and VERSION, which names the commit
-#   lib/libubi.a, lib/libubi.so, include/ubi.h, if c/build.sh has made them
+#   if c/build.sh has made the library: lib/libubi.a, lib/libubi.so, include/ubi.h, share/ubi_tool/ubi.py for Python, and
+#   share/doc/ubi_tool/examples/
 #
 # A file that is there is replaced. Exit status: 0 done; 1 refused, or a file can't be written; 2 bad arguments.
 
@@ -58,10 +59,10 @@ to=${DESTDIR-}${prefix%/}
 # Which files are installed: those of a tree, or those of an archive, which has the program in the place of the launcher.
 if [ -f "$here/VERSION" ]; then
     program=$here/ubi_tool
-    library=$here/lib header=$here/include/ubi.h
+    library=$here/lib header=$here/include/ubi.h module=$here/share/ubi_tool/ubi.py examples=$here/examples
 else
     program=$here/crates/ubi_tool/out/launched/ubi_tool
-    library=$here/c/out header=$here/c/out/ubi.h
+    library=$here/c/out header=$here/c/out/ubi.h module=$here/c/ubi.py examples=$here/c/examples
 fi
 if [ -n "$tool" ]; then
     program=$tool
@@ -118,6 +119,10 @@ if [ -f "$library/libubi.a" ] && [ -f "$library/libubi.so" ] && [ -f "$header" ]
     put 644 "$library/libubi.a" lib/libubi.a
     put 755 "$library/libubi.so" lib/libubi.so
     put 644 "$header" include/ubi.h
+    put 644 "$module" share/ubi_tool/ubi.py
+    for example in "$examples"/*.c "$examples"/*.py; do
+        put 644 "$example" "share/doc/ubi_tool/examples/${example##*/}"
+    done
 fi
 # VERSION comes last: where it is, everything is.
 lines=$(mktemp) || refuse "there is no room for a temporary file"

@@ -4,8 +4,8 @@
 # Packs ubi_tool-VERSION-linux-x86_64.tar.gz into FOLDER (out/ of the repository where it is left out), from a tree that is built.
 #   --tool PROGRAM  pack PROGRAM in place of the program that ./ubi_tool has built
 #
-# The archive holds the program, carry_out.sh, install.sh, the documents, the manual page, the completions, the library and the header if
-# c/build.sh has made them, a note on the licence, VERSION with the commit, and SHA256SUMS of all other files. The same commit and the
+# The archive holds the program, carry_out.sh, install.sh, the documents, the manual page, the completions, the library with its header,
+# its Python module and its examples if c/build.sh has made it, a note on the licence, VERSION with the commit, and SHA256SUMS of all other files. The same commit and the
 # same built files give the same archive, byte for byte: names are sorted, times are the commit's, owners are numbers.
 # Needs GNU tar, gzip, git and sha256sum. Exit status: 0 done; 1 refused; 2 bad arguments.
 
@@ -47,7 +47,11 @@ mv "$usr"/share/doc/ubi_tool/docs/* "$usr/share/man/man1/ubi_tool.1" "$made/docs
 mv "$usr/share/doc/ubi_tool/README.md" "$usr/share/doc/ubi_tool/CHANGELOG.md" "$usr/share/doc/ubi_tool/VERSION" "$made/"
 mv "$usr/share/bash-completion/completions/ubi_tool" "$made/completions/ubi_tool.bash"
 mv "$usr/share/zsh/site-functions/_ubi_tool" "$made/completions/_ubi_tool"
-[ ! -d "$usr/lib" ] || mv "$usr/lib" "$usr/include" "$made/"
+if [ -d "$usr/lib" ]; then
+    mkdir "$made/share"
+    mv "$usr/lib" "$usr/include" "$usr/share/doc/ubi_tool/examples" "$made/"
+    mv "$usr/share/ubi_tool" "$made/share/"
+fi
 cat >"$made/LICENCE.txt" <<'END'
 The owner of ubi_tool hasn't chosen a licence yet. Ask the owner before you pass this archive on.
 The program and the library hold parts of the libraries of Rattle's kit, with which they were built.

@@ -8,9 +8,10 @@
     print(library.list(sizes, image))
     kernel = library.read(sizes, image, 0)
 
-`c/build.sh` makes the shared object that this loads. An image is any object whose bytes lie in one piece, as bytes, a bytearray or an
-mmap; it is not copied, and must not be written while a call runs. A call raises Refused with the cause, where ubi_tool would print a
-line with `refused`; Limit where the sizes are no geometry; and MemoryError where memory ran out. ubi.h and docs/C.md say more.
+`c/build.sh` makes the shared object that this loads, and install.sh installs both. An image is any object whose bytes lie in one
+piece, as bytes, a bytearray or an mmap; it is not copied, and must not be written while a call runs. A call raises Refused with the
+cause, where ubi_tool would print a line with `refused`; Limit where the sizes are no geometry; and MemoryError where memory ran out.
+ubi.h and docs/C.md say more.
 """
 import contextlib
 import ctypes
@@ -123,11 +124,18 @@ class _Room:
         return ctypes.string_at(self.bytes, self.len.value)
 
 
+def _path():
+    """Where the shared object is: where c/build.sh puts it, if it is there; else where install.sh does, seen from share/ubi_tool."""
+    here = os.path.dirname(os.path.realpath(__file__))
+    built = os.path.join(here, "out", "libubi.so")
+    return built if os.path.isfile(built) else os.path.normpath(os.path.join(here, "..", "..", "lib", "libubi.so"))
+
+
 class Library:
-    """The calls, of a shared object that c/build.sh has made: of the one in c/out, where no path is given."""
+    """The calls, of a shared object that c/build.sh has made. If no path is given, that is the one in c/out, or the installed one."""
 
     def __init__(self, path=None):
-        self._library = ctypes.CDLL(path or os.path.join(os.path.dirname(os.path.abspath(__file__)), "out", "libubi.so"))
+        self._library = ctypes.CDLL(path or _path())
 
     def _call(self, name, sizes, images, numbers, given, rooms):
         """The status, with the answers in rooms: once more where one of them is too small. Raises Limit and MemoryError."""

@@ -4,8 +4,9 @@
 usage: install.py [--tool PROGRAM]
 
 PROGRAM is installed below an empty prefix, again over that, below DESTDIR, and from an unpacked archive. The files and their bytes are
-compared, the program runs with an empty environment, the checksums of the archive are checked, and an archive that is made twice
-has to be the same. What isn't built, is older than its sources or can't be written has to be refused, and wrong words too.
+compared, the program runs with an empty environment, the Python module loads the library that is installed with it, the checksums of
+the archive are checked, and an archive that is made twice has to be the same. Where c/build.sh has made no library, the place that the
+module looks at is compared alone. What isn't built, is older than its sources or can't be written has to be refused, and wrong words too.
 Ends with 'N passed, M failed', and with status 1 where some failed.
 """
 import argparse
@@ -34,6 +35,12 @@ PLACES = {
     'share/doc/ubi_tool/CHANGELOG.md': ('CHANGELOG.md', 0o644),
 }
 LIBRARY = {'lib/libubi.a': ('libubi.a', 0o644), 'lib/libubi.so': ('libubi.so', 0o755), 'include/ubi.h': ('ubi.h', 0o644)}
+# What is installed with the library, from the tree.
+USES = {
+    'share/ubi_tool/ubi.py': ('c/ubi.py', 0o644),
+    'share/doc/ubi_tool/examples/volumes.c': ('c/examples/volumes.c', 0o644),
+    'share/doc/ubi_tool/examples/volumes.py': ('c/examples/volumes.py', 0o644),
+}
 # What the program may load: the parts of the C library, its loader, and what the kernel gives.
 # The version of glibc that README.md names.
 GLIBC = (2, 34)
@@ -59,6 +66,7 @@ def wanted(tool, top, library):
     found |= {f'share/doc/ubi_tool/docs/{page.name}': (page, 0o644) for kind in ('md', 'png') for page in (top / 'docs').glob(f'*.{kind}')}
     if all((library / name).is_file() for name, _ in LIBRARY.values()):
         found |= {place: (library / name, mode) for place, (name, mode) in LIBRARY.items()}
+        found |= {place: (top / name, mode) for place, (name, mode) in USES.items()}
     found['bin/ubi_tool'] = (tool, 0o755)
     return {place: (path.read_bytes(), mode) for place, (path, mode) in found.items()}
 
@@ -80,6 +88,8 @@ def house(folder, tool=None, library=False):
         (home / 'c/out').mkdir(parents=True)
         for name, _ in LIBRARY.values():
             (home / 'c/out' / name).write_text(f'a stand-in for {name}\n')
+        shutil.copy(ROOT / 'c/ubi.py', home / 'c/ubi.py')
+        shutil.copytree(ROOT / 'c/examples', home / 'c/examples', ignore=shutil.ignore_patterns('__pycache__'))
     return home
 
 
@@ -123,6 +133,20 @@ def runs(place, room):
     yield 'the program is an executable of its own', program[:4] == b'\x7fELF'
     versions = {tuple(map(int, version)) for version in re.findall(rb'GLIBC_(\d+)\.(\d+)', program)}
     yield f'the versions of glibc that it wants: {sorted(versions)}', all(version <= GLIBC for version in versions)
+    if (place / 'lib/libubi.so').is_file():
+        (room / 'volumes').mkdir(exist_ok=True)
+        came = run(sys.executable, '-B', place / 'share/doc/ubi_tool/examples/volumes.py', IMAGE, room / 'volumes', cwd=room,
+                   PYTHONPATH=str(place / 'share/ubi_tool'))
+        yield f'volumes.py: {came}', came == (0, ANSWER, b'') and (room / 'volumes/volume_0.bin').stat().st_size == 7680
+
+
+def looked_at(place, room):
+    """That the Python module takes the library that is installed with it, also by a link: a stand-in, which can't be loaded."""
+    (room / 'a link').mkdir()
+    (room / 'a link/ubi.py').symlink_to(place / 'share/ubi_tool/ubi.py')
+    for folder in (place / 'share/ubi_tool', room / 'a link'):
+        came = run(sys.executable, '-B', '-c', 'import ubi; ubi.Library()', cwd=room, PYTHONPATH=str(folder))
+        yield f'ubi.py in {folder}: {came}', came[0] == 1 and f'OSError: {place}/lib/libubi.so: '.encode() in came[2]
 
 
 def installed(room, tool):
@@ -149,6 +173,7 @@ def installed(room, tool):
     version, _ = found.pop('share/doc/ubi_tool/VERSION', (b'', 0))
     yield f'below DESTDIR: {came}', came[0] == 0 and not prefix.exists() and found == wanted(tool, home, home / 'c/out')
     yield f'without git: {version}', version == b'ubi_tool 0.1.0\ncommit unknown\n' and 'lib/libubi.so' in found
+    yield from looked_at(Path(f'{stage}{prefix}'), room)
 
 
 def packed(room, tool):
@@ -179,6 +204,8 @@ def packed(room, tool):
     yield f'the checksums: {came}', came == (0, b'', b'') and summed == files(place).keys() - {'SHA256SUMS'}
     needed = {'ubi_tool', 'carry_out.sh', 'install.sh', 'README.md', 'CHANGELOG.md', 'LICENCE.txt', 'VERSION', 'docs/ubi_tool.1',
               'docs/CHANGE.md', 'completions/ubi_tool.bash', 'completions/_ubi_tool'}
+    if 'lib/libubi.so' in summed:
+        needed |= {*LIBRARY, 'share/ubi_tool/ubi.py', 'examples/volumes.c', 'examples/volumes.py'}
     yield f'what is packed: {sorted(needed - summed)}', needed <= summed
     came = run('./ubi_tool', 'list', IMAGE, cwd=place)
     yield f'list: {came}', came == (0, ANSWER, b'')

@@ -288,9 +288,10 @@ def look_examples(tool, folder, made, checkers):
     numbers = [line.split()[1].decode() for line in listed.splitlines() if line.startswith(b"volume ")]
     subprocess.run(["cc", "-Wall", "-Wextra", "-Werror", *checkers, f"-I{made}", "-o", f"{folder}/volumes", ROOT / "c/examples/volumes.c",
         f"{made}/libubi.a"], check=True)
+    here = {**os.environ, "PYTHONPATH": str(ROOT / "c")}
     for words in ([f"{folder}/volumes"], [sys.executable, ROOT / "c/examples/volumes.py"]):
         for dump in (image, chip):
-            ran = subprocess.run([*words, dump, folder], capture_output=True)
+            ran = subprocess.run([*words, dump, folder], capture_output=True, env=here)
             if (ran.returncode, ran.stdout) != (0, listed):
                 raise Failure(f"{words} ends with {ran.returncode} and prints {ran.stdout!r}{ran.stderr!r} where {listed!r} is right")
             for number in numbers:
@@ -298,7 +299,7 @@ def look_examples(tool, folder, made, checkers):
                 if taken_file(f"{folder}/volume_{number}.bin") != taken_file(f"{folder}/out"):
                     raise Failure(f"{words} writes something else of volume {number}")
         for dump, line in ((ROOT / "crates/ubi_tool/data/new.bin", b"refused F1 NoHeader\n"), (with_oob, b"the dump has out-of-band bytes\n")):
-            ran = subprocess.run([*words, dump, folder], capture_output=True)
+            ran = subprocess.run([*words, dump, folder], capture_output=True, env=here)
             if (ran.returncode, ran.stdout, ran.stderr) != (1, b"", line):
                 raise Failure(f"{words} ends with {ran.returncode} at {dump}: {ran.stdout!r}{ran.stderr!r}, and not {line!r}")
 

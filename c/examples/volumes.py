@@ -1,13 +1,15 @@
 #!/usr/bin/env python3
 """volumes.py DUMP FOLDER: finds the image in a dump and its geometry, lists its volumes, and writes the contents of each to
-FOLDER/volume_N.bin. The dump has no out-of-band bytes."""
+FOLDER/volume_N.bin. The dump has no out-of-band bytes.
+
+    PYTHONPATH=c python3 c/examples/volumes.py dump.bin folder
+"""
 import mmap
 import pathlib
 import re
 import sys
 
-sys.path.insert(0, str(pathlib.Path(__file__).resolve().parents[1]))
-import ubi  # noqa: E402
+import ubi
 
 
 def write_volumes(library, sizes, image, folder):
