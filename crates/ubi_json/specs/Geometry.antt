@@ -10,7 +10,8 @@ use Rattle.ubi_json.specs.Line.{numbered}
 abbrev pub place_data : ℕ → Data
 place_data n = if nat_lt n (2 ^ 64) then number (unsigned n) else string (decimal n)
 
--- an image that was found in a part of a file: its sizes, how many out-of-band bytes follow each page, and where in the file it lies
+-- an image that was found in a part of a file: its sizes, how many out-of-band bytes follow each page, and where in the file
+-- it lies
 abbrev pub detected_data : FilePart → Detected → Data
 detected_data part told =
     object

@@ -38,8 +38,7 @@ record_members s id r =
     (numbered (codes "reserved") r.reserved
     (numbered (codes "usable") (usable s r) no_members))))))
 
--- such members, and how much the volume reads: the bytes of a static one, or how many LEBs of a dynamic one aren't blank; or why
--- it can't be read
+-- with how much the volume reads: the bytes of a static one, or how many LEBs of a dynamic one aren't blank; or why it can't be read
 abbrev pub with_amount : Amount → Members → Members
 with_amount amount.Updating ms = put (codes "state") (string (codes "updating")) ms
 with_amount amount.Damaged ms = put (codes "state") (string (codes "damaged")) ms
