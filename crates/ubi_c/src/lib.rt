@@ -83,7 +83,7 @@ pub extern "C" fn ubi_map(
     ubi_calls::map(alloc, sizes, image, out, len)
 }
 
-/// What the volume with this number reads; or the line of the refusal, as `extract` prints it.
+/// The contents of the volume with this number, or the line of the refusal, as `extract` prints it.
 #[unsafe(no_mangle)]
 pub extern "C" fn ubi_read(
     alloc: Global,
@@ -98,7 +98,7 @@ pub extern "C" fn ubi_read(
     ubi_calls::read(alloc, sizes, image, id, out, len)
 }
 
-/// The normal image; or the line of the refusal, as `normalise` prints it.
+/// The normal image, or the line of the refusal, as `normalise` prints it.
 #[unsafe(no_mangle)]
 pub extern "C" fn ubi_normalise(
     alloc: Global,
@@ -112,7 +112,7 @@ pub extern "C" fn ubi_normalise(
     ubi_calls::normalise(alloc, sizes, image, out, len)
 }
 
-/// Whether two images mean the same, as `same` prints it.
+/// Whether two images have the same contents, as `same` prints it.
 #[unsafe(no_mangle)]
 pub extern "C" fn ubi_same(
     alloc: Global,
@@ -127,7 +127,7 @@ pub extern "C" fn ubi_same(
     ubi_calls::same(alloc, sizes, left, right, out, len)
 }
 
-/// In what two images differ, as `diff` prints it.
+/// Where two images differ, as `diff` prints it.
 #[unsafe(no_mangle)]
 pub extern "C" fn ubi_diff(
     alloc: Global,

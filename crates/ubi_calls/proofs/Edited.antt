@@ -1,4 +1,4 @@
--- What is told of edits over memory, and handed over of their plans.
+-- What is answered for edits over memory, and what is handed over of their plans.
 use Rattle.ubi_calls.proofs.Prelude.{[], Bool, List, Some, ap, arith, length, refl, subst, sym, take, true≢false, ℕ, ◌==◌, ◌∙◌, ◌≡◌, ◌≢◌, ne_eqb, take_all, IfOk-at_ok, IfOk-weaker, Err, IfOk, None, Ok, Option, Result, if◌then◌else◌, AllocError, Sizes, first_broken, GeometryError, Gives, says, geometry_line, image_of, Narrows, holds, memory, still, nothing, programmed, Step, Outcome, ToolError, ChangesFrom, RenamesFrom, FillsBoth, Told, Under, bad_limit, both, neither, sizes_of, DeviceSizes, PlansChange, PlansRename, HandsPlan, given_pages}
 use Rattle.ubi_change.proofs.Unplanned as planning
 use Rattle.ubi_change.proofs.Unrenamed as renaming

@@ -1,4 +1,4 @@
--- What stands in a buffer that was filled from its beginning, and what is told of it.
+-- What a buffer that was filled from its beginning holds, and what is answered about it.
 use Rattle.ubi_calls.proofs.Prelude.{[], List, Some, ap, ap₂, append-nil, arith, drop, length, refl, subst, sym, take, ℕ, ◌++◌, ◌∙◌, ◌≡◌, ◌≢◌, ◌≤◌, drop_all, length-take, take-append-drop, take_all, Err, IfErr, Ok, Result, Outcome, ToolError, Streams, Told, ended, filled, no_memory, put, uncounted, Leaves, IsUnwritten, Writes, said, wrote}
 use Rattle.ubi_files.specs.declared.outcome.ToolError.TheVariants as tool
 

@@ -1,4 +1,4 @@
--- What is told of outcomes, under numbers, and of what is handed over.
+-- What outcomes answer, under numbers, and what is handed over of them.
 use Rattle.ubi_calls.proofs.Prelude.{List, refl, subst, ℕ, ◌≡◌, IfOk-weaker, Err, IfOk, None, Ok, Result, AllocError, Sizes, first_broken, GeometryError, Gives, says, geometry_line, Outcome, Fills, Streams, Told, Under, bad_limit, ended, filled, no_memory, printed, sizes_of, uncounted, under, DeviceSizes, HandsOver}
 use Rattle.std.specs.Prelude.{Some}
 

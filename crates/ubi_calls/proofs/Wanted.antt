@@ -1,4 +1,4 @@
--- What is told of the bytes that are asked for: what writing them over memory answers, and that they are one text.
+-- The bytes that are asked for: what writing them over memory answers, and that there is only one answer.
 use Rattle.ubi_calls.proofs.Prelude.{List, ap, arith, length, refl, subst, sym, ℕ, ◌∙◌, ◌≡◌, IfOk-weaker, Err, IfErr, IfOk, Ok, Option, Result, Sizes, Image, image_of, Narrows, Source, WhereHeld, holds, memory, still, ArePlaces, ArePlacesOf, Placed, read_volume, volume_len, Accepts-unique, normal_bytes, IsNormalisedTo, after_run, Outcome, ToolError, Extracts, IsExtractError, IsNormaliseError, Normalises, Id, has_text, Normal, Reads, no_normal, normal, read, refused, unread, Content, IsUnwritten, Writes, said, wanted, wrote}
 use Rattle.ubi_files.specs.declared.outcome.ToolError.TheVariants as tool
 use Rattle.ubi_commands.specs.Extract as extract

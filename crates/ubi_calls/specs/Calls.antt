@@ -17,7 +17,7 @@ sizes_of n = record {
   pebs = n.pebs;
 }
 
--- what may be told: which bytes, with which status
+-- what may be answered: which bytes, with which status
 abbrev pub Told : Type 1
 Told = List ℕ → ℕ → Type 0
 
@@ -25,31 +25,31 @@ Told = List ℕ → ℕ → Type 0
 abbrev pub printed : (Outcome → Type 0) → Told
 printed answers text status = (o : Outcome) × answers o × (text ≡ o.text.items) × (status ≡ o.status)
 
--- what is told under numbers: what is told under these sizes, or the line of the first limit that they break
+-- what is answered under numbers: what is answered under these sizes, or the line of the first limit that they break
 pub data Under (n : DeviceSizes) (told : Sizes → Told) (bytes : List ℕ) (status : ℕ) : Type 0 where
   under : first_broken (sizes_of n) ≡ None → told (sizes_of n) bytes status → Under n told bytes status
   bad_limit : (e : GeometryError) → first_broken (sizes_of n) ≡ Some e → bytes ≡ geometry_line e → status ≡ 2 → Under n told bytes status
 
--- a buffer, once as many of some bytes were put into it as it has room for
+-- a buffer after as many of some bytes were put into it as it has room for
 abbrev pub put : List ℕ → List ℕ → List ℕ
 put bytes room = take (length room) bytes ++ drop (length bytes) room
 
--- what a call leaves: the buffer with the first of the bytes, how many there are, and the status; or, where memory ran out,
--- the buffer as it was
+-- what a call leaves: the buffer with the first of the bytes, how many there are, and the status; or the buffer as it was,
+-- if memory ran out
 pub data Fills (told : Told) (old new : List ℕ) (len result : ℕ) : Type 0 where
   filled : (bytes : List ℕ) (status : ℕ) → told bytes status → new ≡ put bytes old → len ≡ length bytes → result ≡ status
       → Fills told old new len result
   no_memory : new ≡ old → len ≡ 0 → result ≡ 3 → Fills told old new len result
 
--- what a call leaves that fills the buffer bit by bit: the same, or only the first bytes, where memory ran out before they were
+-- what a call that fills the buffer bit by bit leaves: the same, or only the first bytes, if memory ran out before they were
 -- counted
 pub data Streams (told : Told) (old new : List ℕ) (len result : ℕ) : Type 0 where
   ended : Fills told old new len result → Streams told old new len result
   uncounted : (bytes : List ℕ) (status n : ℕ) → told bytes status → new ≡ put (take n bytes) old → len ≡ 0 → result ≡ 3
       → Streams told old new len result
 
--- what a call leaves that fills two buffers: one with what is told of pages, and one with these pages, of which there are none
--- where the status isn't 0; or both as they were, where memory ran out
+-- what a call that fills two buffers leaves: one with what is answered with pages, and one with these pages, of which there
+-- are none if the status isn't 0; or both as they were, if memory ran out
 pub data FillsBoth (told : List ℕ → Told) (old new : List ℕ) (len : ℕ) (old_pages new_pages : List ℕ) (pages_len result : ℕ) : Type 0 where
   both : (pages bytes : List ℕ) (status : ℕ) → told pages bytes status → (status ≢ 0 → pages ≡ [])
       → new ≡ put bytes old → len ≡ length bytes → new_pages ≡ put pages old_pages → pages_len ≡ length pages → result ≡ status

@@ -16,14 +16,14 @@ use Rattle.ubi_commands.specs.Change.{cause_line}
 use Rattle.ubi_commands.specs.Plan.{plan_lines}
 use Rattle.ubi_commands.specs.Rename.{rename_line}
 
--- what is told of a change: the lines of its plan, with the pages that this programs; or the line of the cause for which there is none
+-- what is answered for a change: the lines of its plan, with the pages that it programs; or the line of the cause for which there is none
 pub data PlansChange (image : Image) (id lnum : ℕ) (new pages bytes : List ℕ) (status : ℕ) : Type 0 where
   change : (steps : List Step) → IsPlanOf image nothing id lnum new steps → bytes ≡ plan_lines steps → pages ≡ programmed steps
       → status ≡ 0 → PlansChange image id lnum new pages bytes status
   no_change : (c : ChangeRefusal) → IsChangeRefusal image id lnum new c → cause_line c ≡ Some bytes → status ≡ 1
       → PlansChange image id lnum new pages bytes status
 
--- what is told of a rename: the same, where the word shows a name, and else that it shows none
+-- what is answered for a rename: the same, if the word shows a name, and if not, that it shows none
 pub data PlansRename (image : Image) (id : ℕ) (word pages bytes : List ℕ) (status : ℕ) : Type 0 where
   rename : (name : List ℕ) (steps : List Step) → shown_name word ≡ Some name → IsRenameOf image nothing id name steps
       → bytes ≡ plan_lines steps → pages ≡ programmed steps → status ≡ 0 → PlansRename image id word pages bytes status

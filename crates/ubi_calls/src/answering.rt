@@ -1,4 +1,4 @@
-//! What is answered, put into memory of the caller.
+//! Answers, put into the caller's memory.
 
 ghost use Rattle.std.specs.Prelude.{◌≡◌, IfOk, length};
 ghost use Rattle.ubi_files.specs.Answer.{Gives, says};
@@ -21,7 +21,7 @@ fn put(text: &[u8], out: &mut [u8])
     out[..count].copy_from_slice(&text[..count]);
 }
 
-/// What is answered where numbers break a limit.
+/// What is answered if numbers break a limit.
 ///
 /// # Errors
 ///
@@ -32,7 +32,7 @@ pub fn limit_outcome(alloc: Global, limit: GeometryError) -> Result<Outcome, All
     Ok(Outcome::saying(geometry_line(alloc, limit)?, WRONG_WORDS))
 }
 
-/// Puts bytes into a buffer, and tells how many there are.
+/// Puts bytes into a buffer, and says how many there are.
 pub fn put_all(bytes: &[u8], out: &mut [u8], len: &mut usize)
     ensures bytes { out.new ≡ put bytes.now out.old }
     ensures len { len.new ≡ length bytes.now }
@@ -41,7 +41,7 @@ pub fn put_all(bytes: &[u8], out: &mut [u8], len: &mut usize)
     *len = bytes.len();
 }
 
-/// Puts bytes into a buffer, and tells how many there are; gives the status.
+/// Puts bytes into a buffer, and says how many there are; returns the status.
 pub fn hand(bytes: &[u8], status: u8, out: &mut [u8], len: &mut usize) -> u32
     ensures { Leaves bytes.now status out.old out.new len.new result }
 {
@@ -49,7 +49,7 @@ pub fn hand(bytes: &[u8], status: u8, out: &mut [u8], len: &mut usize) -> u32
     u32::from(status)
 }
 
-/// Hands over what a command prints; gives the status.
+/// Hands over what a command prints; returns the status.
 pub fn hand_outcome(answer: Result<Outcome, AllocError>, out: &mut [u8], len: &mut usize) -> u32
     ensures { HandsOver answer out.old out.new len.new result }
 {

@@ -1,4 +1,4 @@
-//! A writer into a buffer of the caller, up to its end.
+//! A writer to a buffer of the caller, up to its end.
 
 ghost use Rattle.std.specs.Io.KnownBytes.{Keeps, WriteAppends};
 ghost use Rattle.std.specs.Io.{WritesAtMost};
@@ -33,7 +33,7 @@ fn put_at(out: &mut [u8], start: usize, bytes: &[u8])
     out[start..start + bytes.len()].copy_from_slice(bytes);
 }
 
-/// A writer into a buffer, from its beginning to its end. What it has no room for it doesn't take.
+/// A writer to a buffer, from its beginning to its end. What it has no room for it doesn't take.
 ///
 /// Its contents are what it has taken.
 #[derive(Drop)]
@@ -48,7 +48,7 @@ pub struct Filling<'a, K: Room> {
 }
 
 impl<'a, K: Room> Filling<'a, K> {
-    /// A writer into a buffer.
+    /// A writer to a buffer.
     pub fn new(out: &'a mut [u8]) -> Filling<'a, K>
         requires same { out.ghost_name ≡ K.buffer }
         requires before { out.old ≡ K.before }

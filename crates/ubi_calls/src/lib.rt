@@ -1,8 +1,8 @@
-//! The commands over bytes in memory, for callers in other languages: each call answers a status, and bytes in memory of the
-//! caller.
+//! The commands over images in memory, for callers in other languages. Each call returns a status, and writes its answer into
+//! the caller's memory.
 //!
-//! A call takes the numbers of a geometry and the bytes of an image, and puts what it answers into a buffer: as much of it as
-//! there is room for, and how long all of it is. Nothing is kept between calls.
+//! A call takes the numbers of a geometry and the bytes of an image. It puts as much of its answer into a buffer as there is
+//! room for, and gives the length of all of it. Nothing is kept between calls.
 #![tactic(auto)]
 
 mod answering;

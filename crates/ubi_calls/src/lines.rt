@@ -1,4 +1,4 @@
-//! The calls that answer printed lines.
+//! The calls that answer with printed lines.
 
 ghost use Rattle.std.specs.Prelude.{◌≡◌, IfOk};
 ghost use Rattle.ubi_scan.specs.Image.{image_of};
@@ -22,7 +22,7 @@ use ubi_files::{Outcome, SidesError};
 use ubi_media::Geometry;
 use ubi_scan::MemorySource;
 
-/// What is asked of images of one geometry.
+/// A question about images of one geometry.
 #[derive(Clone, Copy)]
 enum Question<'a> {
     /// The states of the eraseblocks of an image.
@@ -33,11 +33,11 @@ enum Question<'a> {
     Show(&'a [u8], u32),
     /// A letter for each of its eraseblocks.
     Map(&'a [u8]),
-    /// What a comparison tells of two images.
+    /// The comparison of two images.
     Compare(Comparison, &'a [u8], &'a [u8]),
 }
 
-/// What a comparison answers of two images.
+/// What a comparison answers for two images.
 ///
 /// # Errors
 ///
@@ -62,7 +62,7 @@ fn compare(
 }
 
 impl Question<'_> {
-    /// What is answered.
+    /// The answer.
     ///
     /// # Errors
     ///
@@ -79,7 +79,7 @@ impl Question<'_> {
         }
     }
 
-    /// What is answered under numbers.
+    /// The answer under numbers.
     ///
     /// # Errors
     ///
@@ -93,7 +93,7 @@ impl Question<'_> {
         }
     }
 
-    /// Hands over what is answered under numbers; gives the status.
+    /// Hands over the answer under numbers; returns the status.
     fn tell(self, alloc: Global, sizes: &DeviceSizes, out: &mut [u8], len: &mut usize) -> u32
         ensures { Fills (Under sizes.now (λ s. printed (answers self.entry s))) out.old out.new len.new result }
     {
@@ -155,7 +155,7 @@ pub fn map(alloc: Global, sizes: &DeviceSizes, image: &[u8], out: &mut [u8], len
     Question::Map(image).tell(alloc, sizes, out, len)
 }
 
-/// Whether two images mean the same, as `same` prints it.
+/// Whether two images have the same contents, as `same` prints it.
 pub fn same(
     alloc: Global,
     sizes: &DeviceSizes,
@@ -169,7 +169,7 @@ pub fn same(
     Question::Compare(Comparison::Same(Format::Text), left, right).tell(alloc, sizes, out, len)
 }
 
-/// In what two images differ, as `diff` prints it.
+/// Where two images differ, as `diff` prints it.
 pub fn diff(
     alloc: Global,
     sizes: &DeviceSizes,

@@ -10,15 +10,15 @@ use ubi_media::{Geometry, GeometryError};
 #[repr(C)]
 #[derive(Clone, Copy)]
 pub struct DeviceSizes {
-    /// The bytes of an eraseblock.
+    /// The size of an eraseblock in bytes.
     pub peb_size: u32,
-    /// The bytes of a page.
+    /// The size of a page in bytes.
     pub page: u32,
-    /// The place of the volume-identifier header in an eraseblock.
+    /// The offset of the volume-identifier header in an eraseblock.
     pub vid_offset: u32,
-    /// The place of the data in an eraseblock.
+    /// The offset of the data in an eraseblock.
     pub data_offset: u32,
-    /// The eraseblocks of the device.
+    /// The number of eraseblocks of the device.
     pub pebs: u32,
 }
 

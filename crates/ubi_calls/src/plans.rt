@@ -43,7 +43,7 @@ fn outcome_of(work: Result<Outcome, ToolError>) -> Result<Outcome, AllocError>
     }
 }
 
-/// Plans a change of an image: what is printed of it, and adds the pages that it programs.
+/// Plans a change of an image: returns what is printed for it, and adds the pages that it programs.
 ///
 /// # Errors
 ///
@@ -74,7 +74,7 @@ fn plan_change(
     outcome_of(work)
 }
 
-/// Plans a rename of a volume of an image: what is printed of it, and adds the pages that it programs.
+/// Plans a rename of a volume of an image: returns what is printed for it, and adds the pages that it programs.
 ///
 /// # Errors
 ///
@@ -107,7 +107,7 @@ fn plan_rename(
     outcome_of(work)
 }
 
-/// Hands over what is printed of a plan, and its pages, if it is one; gives the status.
+/// Hands over what is printed for a plan, and its pages, if it is one; returns the status.
 fn hand_plan(
     answer: Result<Outcome, AllocError>,
     pages: &[u8],
@@ -136,7 +136,7 @@ fn hand_plan(
 }
 
 impl Edit<'_> {
-    /// Plans it: what is printed of it, and adds the pages that it programs.
+    /// Plans the edit: returns what is printed for it, and adds the pages that it programs.
     ///
     /// # Errors
     ///
@@ -157,7 +157,7 @@ impl Edit<'_> {
         }
     }
 
-    /// Plans it under numbers.
+    /// Plans the edit under numbers.
     ///
     /// # Errors
     ///
@@ -178,7 +178,7 @@ impl Edit<'_> {
         }
     }
 
-    /// Hands over its plan under numbers; gives the status.
+    /// Hands over the plan of the edit under numbers; returns the status.
     fn tell(
         &self,
         alloc: Global,
@@ -197,8 +197,8 @@ impl Edit<'_> {
     }
 }
 
-/// The plan of a change: its lines, as `change` prints them, and the pages that its steps program, in their order; or the line
-/// of the refusal, and no pages.
+/// The plan of a change: its lines, as `change` prints them, and the pages that its steps program, in order; or the line of
+/// the refusal, and no pages.
 pub fn change(
     alloc: Global,
     sizes: &DeviceSizes,
@@ -222,7 +222,7 @@ pub fn change(
 }
 
 /// The plan of a rename to the name that a word shows: its lines, as `rename` prints them, and the pages that its steps program,
-/// in their order; or the line of the refusal, and no pages.
+/// in order; or the line of the refusal, and no pages.
 pub fn rename(
     alloc: Global,
     sizes: &DeviceSizes,

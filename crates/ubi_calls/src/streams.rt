@@ -1,4 +1,4 @@
-//! The calls that answer the bytes of a file, which are written into the caller's buffer as they are made.
+//! The calls that answer with the bytes of a file, which are written to the caller's buffer as they are made.
 
 ghost use Rattle.std.specs.Prelude.{◌≡◌, ◌≤◌, ◌<◌, [], IfErr, IfOk, IfSome, List, Some, drop, length, take, ℕ};
 ghost use Rattle.ubi_scan.specs.Image.{image_of};
@@ -33,7 +33,7 @@ enum Content {
 ///
 /// # Errors
 ///
-/// Write where a write failed, and Memory where memory ran out.
+/// `Write` if a write failed, and `Memory` if memory ran out.
 fn write_volume<W: Write>(
     alloc: Global,
     geometry: &Geometry,
@@ -51,7 +51,7 @@ fn write_volume<W: Write>(
 ///
 /// # Errors
 ///
-/// Write where a write failed, and Memory where memory ran out.
+/// `Write` if a write failed, and `Memory` if memory ran out.
 fn write_normal<W: Write>(
     alloc: Global,
     geometry: &Geometry,
@@ -65,7 +65,7 @@ fn write_normal<W: Write>(
     run_normalise(alloc, geometry, &mut source, writer)
 }
 
-/// How many bytes a volume of an image reads, if it can be read. Nothing of it is read.
+/// How many bytes a volume of an image reads, if it can be read. None of its contents are read.
 fn volume_len(alloc: Global, geometry: &Geometry, image: &[u8], id: u32) -> Option<usize>
     ensures { IfSome result (λ n. (bytes : List ℕ) × Reads (image_of geometry.now image.now) id bytes 0 × (n ≡ length bytes)) }
 {
@@ -79,7 +79,7 @@ fn volume_len(alloc: Global, geometry: &Geometry, image: &[u8], id: u32) -> Opti
     }
 }
 
-/// How many bytes the normal image of an image has, if that is accepted. It is made once more, and written nowhere.
+/// How many bytes the normal image of an image has, if the image is accepted. It is made once more, and written nowhere.
 fn normal_len(alloc: Global, geometry: &Geometry, image: &[u8]) -> Option<usize>
     ensures { IfSome result (λ n. (bytes : List ℕ) × Normal (image_of geometry.now image.now) bytes 0 × (n ≡ length bytes)) }
 {
@@ -95,7 +95,7 @@ impl Content {
     ///
     /// # Errors
     ///
-    /// Write where a write failed, and Memory where memory ran out.
+    /// `Write` if a write failed, and `Memory` if memory ran out.
     fn write<W: Write>(
         self,
         alloc: Global,
@@ -112,7 +112,7 @@ impl Content {
         }
     }
 
-    /// How many they are, if they can be written.
+    /// How many bytes there are, if they can be written.
     fn len(self, alloc: Global, geometry: &Geometry, image: &[u8]) -> Option<usize>
         ensures { IfSome result (λ n. (bytes : List ℕ) × wanted self (image_of geometry.now image.now) bytes 0 × (n ≡ length bytes)) }
     {
@@ -122,7 +122,7 @@ impl Content {
         }
     }
 
-    /// Tells how many bytes they are of which a full buffer has the first; gives the status.
+    /// Says how many bytes there are, when a full buffer has the first of them; returns the status.
     fn count<K: Room>(
         self,
         alloc: Global,
@@ -147,7 +147,7 @@ impl Content {
         }
     }
 
-    /// Tells what a buffer holds, of which so many bytes were filled; gives the status.
+    /// Says what a buffer holds, of which `filled` bytes were filled; returns the status.
     fn end<K: Room>(
         self,
         alloc: Global,
@@ -183,7 +183,7 @@ impl Content {
         }
     }
 
-    /// Fills a buffer, and gives it back with the status.
+    /// Fills a buffer, and returns it with the status.
     fn fill<'a, K: Room>(
         self,
         alloc: Global,
@@ -204,7 +204,7 @@ impl Content {
         (out, status)
     }
 
-    /// Fills a buffer; gives the status.
+    /// Fills a buffer; returns the status.
     fn fill_all(
         self,
         alloc: Global,
@@ -219,7 +219,7 @@ impl Content {
         status
     }
 
-    /// Fills a buffer under numbers; gives the status.
+    /// Fills a buffer under numbers; returns the status.
     fn tell(
         self,
         alloc: Global,
@@ -237,7 +237,7 @@ impl Content {
     }
 }
 
-/// What the volume with this number reads; or the line of the refusal, as `extract` prints it.
+/// The contents of the volume with this number, or the line of the refusal, as `extract` prints it.
 pub fn read(
     alloc: Global,
     sizes: &DeviceSizes,
@@ -251,7 +251,7 @@ pub fn read(
     Content::Volume(id).tell(alloc, sizes, image, out, len)
 }
 
-/// The normal image; or the line of the refusal, as `normalise` prints it.
+/// The normal image, or the line of the refusal, as `normalise` prints it.
 pub fn normalise(
     alloc: Global,
     sizes: &DeviceSizes,

@@ -1,4 +1,4 @@
--- What an attached image gives all plans on it: what its eraseblocks are, and what the parts of a plan do there.
+-- What an attached image gives all plans for it: what its eraseblocks are, and what the parts of a plan do there.
 use Rattle.ubi_change.proofs.Prelude.{◌≡◌, ℕ, ◌+◌, ◌/◌, ◌^◌, ◌<◌, inl, inr, Bool, true, false, cond, List, [], length, refl, sym, ◌∙◌, subst, arith, Option, Sizes, IsGeometry, EcHeader, Image, block, eraseblocks, length-of_chunk, length-first_chunks, clean_from_none, Agrees, seq_agrees, AcceptsBlocks, Whole, programs_copy, next_ec, prepare, release, renew, is_clean, is_sole_carrier, is_worn, stays}
 use Rattle.std.proofs.Math.Nat as nat
 use Rattle.ubi_change.proofs.CopyReplaced.{IsRelease}

@@ -1,5 +1,5 @@
--- The steps of a plan that avoids something touch none of it: not what is taken, since the plan sees that as used; and not
--- what is given up, since that holds a LEB, and the listed ones begin blank.
+-- The steps of a plan that avoids something touch none of it: what is taken isn't avoided, since the plan sees that as
+-- used; and what is given up isn't, since it holds a LEB, and the listed eraseblocks begin blank.
 use Rattle.ubi_change.proofs.Prelude.{◌≡◌, ℕ, zero, suc, ◌<◌, ◌≤◌, Bool, true, false, List, [], ◌∷◌, length, take, get_or, refl, ap, sym, ◌∙◌, subst, arith, ◌&&◌, ◌||◌, IfSome, None, Option, Some, option_map, slice_get, option_map_or, IsGeometry, Sizes, Image, block, ec, eraseblocks, in_image, Leb, Wins, layout, Records, IsAttached, StateIs, Whole, records_of, BlockState, Volume, found_wins, TouchesOnly, given_up, needs, plan_of, taken, first_cause, rename_plan, MayBeNamed, ReadBlank, MayTouch, Avoided, Avoids, avoiding, is_avoided, is_blank_one, is_listed, state_avoiding, target, ec_at, is_unused, stays, takeable, Step}
 use Rattle.std.specs.Prelude.{not}
 use Rattle.std.specs.FinMap as finite

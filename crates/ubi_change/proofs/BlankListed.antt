@@ -1,4 +1,4 @@
--- What the states say of the eraseblocks that are listed: that they begin blank, or that one doesn't.
+-- What the states say about the eraseblocks that are listed: that they begin blank, or that one doesn't.
 use Rattle.ubi_change.proofs.Prelude.{◌≡◌, ℕ, zero, suc, ◌<◌, ◌≤◌, true, List, [], ◌∷◌, length, refl, ap, subst, arith, IfSome, None, Option, Some, slice_get, Sizes, Image, block, ec, eraseblocks, in_image, vid, foreign_if, Records, AreStates, StateIs, records_of, IsSurvey, Seen, BlockState, ReadBlank, Avoided, BlankBelow, is_blank_one, NotBlankIs, SayBlank}
 use Rattle.ubi_media.specs.declared.ec.EcRead.TheVariants as ec_read
 use Rattle.ubi_volume.specs.declared.attached.BlockState.TheVariants as state

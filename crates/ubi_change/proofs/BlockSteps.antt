@@ -1,4 +1,4 @@
--- The steps to one eraseblock, of those to all.
+-- The steps on one eraseblock, among all steps.
 use Rattle.ubi_change.proofs.Prelude.{◌≡◌, ◌≢◌, ℕ, ◌<◌, Bool, true, false, cond, List, [], ◌∷◌, length, set, refl, ap, sym, ◌∙◌, arith, length-set, get_or-set_other, get_or-set_same, fold, nat_tests, Sizes, block, block_after, step_done, target, block_cut, block_step, Step}
 use Rattle.std.proofs.Common.{◌==◌}
 

@@ -1,4 +1,4 @@
--- Lines and pages are the steps that they were taken from.
+-- Lines and pages stand for the steps that they were taken from.
 use Rattle.ubi_change.proofs.Prelude.{◌≡◌, ◌∙◌, ℕ, zero, suc, arith, List, [], ◌∷◌, ◌++◌, ap, ap₂, drop, map, refl, sym, take, drop-append_seam, take-append_seam, take-take, Sizes, AllWithin, FitsBlock, PagesCarry, line_of, programmed, with_pages, after, step_done, Step}
 use Rattle.std.proofs.Common.{fold}
 use Rattle.ubi_change.specs.declared.step.Step.TheVariants as step

@@ -1,4 +1,4 @@
--- Which cause stands against a change, by those that the request alone gives and those that the image does.
+-- Which cause applies against a change, by those that depend on the request alone and those that depend on the image.
 use Rattle.ubi_change.proofs.Prelude.{◌≡◌, ◌≢◌, ℕ, Bool, true, false, List, [], ◌∷◌, ◌++◌, refl, ap, ◌∙◌, None, Option, Some, option_map, then_some, option_map_or, Sizes, VolumeRecord, Refusal, Image, eraseblocks, IsAttached, Whole, Volume, image_causes, own_causes, IsChangeRefusalAvoiding, causes, first_cause, first_of, Avoided, avoiding, ChangeRefusal}
 use Rattle.std.specs.FinMap as finite
 use Rattle.ubi_change.specs.declared.refusal.ChangeRefusal.TheVariants as refusal

@@ -1,4 +1,4 @@
--- What holds of the new bytes and the eraseblocks of a change against which no cause stands, whatever is held.
+-- What holds for the new bytes and the eraseblocks of a change with no cause against it, whatever the source holds.
 use Rattle.ubi_change.proofs.Prelude.{◌≡◌, ℕ, ◌%◌, ◌^◌, ◌<◌, ◌≤◌, List, length, sym, subst, arith, IfSome, Option, Some, IsGeometry, Sizes, leb_size, Records, AreSites, FitsPrepared, IsTarget, FitsIn, Prepared, Site, Target}
 use Rattle.ubi_change.specs.declared.sites.Sites.{Sites as OnSites}
 use Rattle.ubi_change.specs.declared.sites.Sites.TheVariants as on

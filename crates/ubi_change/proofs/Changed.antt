@@ -1,4 +1,4 @@
--- A meaning with another text in one LEB is a meaning.
+-- A meaning with other contents in one LEB is a meaning.
 use Rattle.ubi_change.proofs.Prelude.{◌≡◌, ◌≢◌, ℕ, ◌<◌, ◌≤◌, ◌⊎◌, inl, inr, cond, List, length, refl, ap, sym, ◌∙◌, subst, arith, IfSome, None, Option, Some, option_map, unwrap_or, nat_cmp_total, FinMap, nat_cmp-IsAntisymmetric, option_map_or, nat_cmp, same_Some, cases_eq, blank, filled, is_blank, usable, VolumeRecord, false_or_true, apart_test, same_test, space, IsMeaning, IsVolume, Meant, records_of, Volume, blank_text, other_text, record_of, space_of, length-filled, changed, volume_with, with_leb}
 use Rattle.std.specs.FinMap as finite
 use Rattle.ubi_volume.specs.declared.content.Content.TheVariants as content

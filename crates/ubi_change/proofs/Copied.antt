@@ -1,5 +1,5 @@
--- A copy is written on an eraseblock: its header and then the pages of its text. What holds while the copy is bad holds
--- before a turn, and what holds once it is good holds from it on.
+-- A copy is written to an eraseblock: its header and then the pages of its contents. What holds while the copy is bad
+-- holds before the commit point, and what holds once it is good holds from it on.
 use Rattle.ubi_change.proofs.Prelude.{◌≡◌, ◌≢◌, ℕ, zero, suc, ◌+◌, ◌-◌, ◌*◌, ◌/◌, ◌%◌, ◌<◌, ◌≤◌, true, false, List, [], ◌∷◌, ◌++◌, append_assoc, append-nil, length, map, set, take, drop, refl, ap, sym, ◌∙◌, subst, arith, length-drop, take-add, ◌==◌, None, enumerate_from, first_chunks, length-take-le, set-set, check, ec_reading, blank, filled, overwrite, Sizes, IsGeometry, vid_bytes, vid_fault, VidFits, EcHeader, VidHeader, IsMislaid, leb, IsMember, Leb, has_members, is_good, leb_of, sqnum_at, seq_of, length-first_chunks, program_header, program_text, fold-append, after, step_done, pages_of, torn, weak_place, whole_place, Step, filled-by, join_blank, laid}
 use Rattle.std.proofs.Common as lists
 use Rattle.std.proofs.lemmas.Nat as nat

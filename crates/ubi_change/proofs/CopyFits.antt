@@ -1,4 +1,4 @@
--- The steps of a copy fit: the header on an eraseblock that was made ready, and the pages of the text behind it.
+-- The steps of a copy fit: the header on an eraseblock that was made ready, and then the pages of its contents.
 use Rattle.ubi_change.proofs.Prelude.{◌≡◌, ℕ, zero, suc, ◌+◌, ◌-◌, ◌*◌, ◌/◌, ◌%◌, ◌^◌, ◌<◌, ◌≤◌, inl, inr, Bool, true, false, cond, List, [], ◌∷◌, ◌++◌, append_assoc, length, map, take, drop, replicate, refl, ap, ap₂, sym, ◌∙◌, subst, arith, length-append, length-drop, length-set, get_or-set_same, nat_lt, byte_at, bytes_high_first, enumerate_from, first_chunks, div-add-mod, div-eq_of_lt, mod-lt, nat_tests, length-take-le, mul-le, cases_lt, check, ec_bytes, ec_front, AreBytes, blank, filled, overwrite, IsGeometry, Sizes, fields_from, kind_number, vid_bytes, vid_front, EcHeader, VidHeader, VolKind, bytes-append, bytes-blank, bytes-drop, bytes-take, zero_or_more, block, filled-by, filled-is, length-blank, length-filled, laid, only_clears, page_of, vid_page, program_header, program_text, step_done, pages_of}
 use Rattle.std.specs.Prelude.{slice_range}
 use Rattle.ubi_media.specs.declared.vid.VolKind.TheVariants as kind

@@ -1,5 +1,5 @@
--- The cuts of an atomic copy of any LEB that has a winner and counts: before the turn the old is meant, and from it on
--- there holds what holds of a good copy and of the old winner emptied.
+-- The cuts of an atomic copy of any LEB that has a winner and counts: before the commit point the old is meant, and
+-- from it on what holds for a good copy and an emptied old winner holds.
 use Rattle.ubi_change.proofs.Prelude.{◌≡◌, ◌≢◌, ℕ, zero, suc, ◌+◌, ◌-◌, ◌<◌, ◌≤◌, ◌⊎◌, inl, inr, true, false, List, [], ◌∷◌, ◌++◌, length, set, refl, sym, ◌∙◌, subst, arith, length-set, ec_bytes, ec_reading, blank, filled, Sizes, IsGeometry, EcHeader, VidHeader, block, leb, Leb, Wins, is_good, seq_of, AllBlank, AcceptsBlocks, IsOutside, Meant, program_header, program_text, renew, after, pages_of, whole_place, Step, Agrees}
 use Rattle.ubi_media.specs.declared.ec.EcRead.TheVariants as ec_read
 use Rattle.ubi_change.proofs.Copied as copy

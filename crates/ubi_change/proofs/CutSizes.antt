@@ -1,4 +1,5 @@
--- The bytes of an image after steps that work within its eraseblocks: they are as many, and cut into what the steps leave.
+-- The bytes of an image after steps within its eraseblocks: there are as many, and they are cut into what the steps
+-- leave.
 use Rattle.ubi_change.proofs.Prelude.{◌≡◌, ◌≢◌, ℕ, zero, suc, ◌*◌, ◌/◌, ◌<◌, Bool, true, false, List, [], ◌∷◌, length, get_or, set, refl, ap, sym, ◌∙◌, subst, arith, length-set, get_or-set_other, get_or-set_same, concat, first_chunks, div-add-mod, div-mul-le_self, nat_tests, length-replicate, Sizes, IsWholeSize, block, blocks_of, first_chunks-concat, length-concat, length-first_chunks, length-of_chunk, AllWithin, FitsBlock, after, block_after, step_done, target, Step}
 use Rattle.std.proofs.Common.{◌==◌}
 use Rattle.ubi_change.specs.declared.step.Step.TheVariants as step

@@ -1,4 +1,5 @@
--- Copy 0 of the table is written anew: before the turn the old is meant, and from it on the renamed, by copy 0 alone.
+-- Copy 0 of the table is rewritten: before the commit point the old is meant, and from it on the renamed, by copy 0
+-- alone.
 use Rattle.ubi_change.proofs.Prelude.{◌≡◌, ◌≢◌, ℕ, suc, ◌+◌, ◌<◌, List, [], ◌∷◌, ◌++◌, length, set, ap, sym, ◌∙◌, subst, arith, length-set, IsGeometry, Sizes, EcHeader, VidHeader, NoFault, block, leb, Leb, Wins, layout, AreRecords, Records, copy_of, AcceptsBlocks, IsOutside, Meant, records_of, records_meant, program_header, program_text, layout_header, table_pages, whole_place, Step, records_are, Agrees}
 use Rattle.ubi_table.specs.declared.copy.CopyRead.TheVariants as copy
 use Rattle.ubi_change.proofs.Copied.{IsCopy}

@@ -1,4 +1,4 @@
--- Steps that fit: of lists of steps, of pages that are blank, and of an erase with its header.
+-- When steps fit: lists of steps, programs of blank pages, and an erase with its header.
 use Rattle.ubi_change.proofs.Prelude.{◌≡◌, ℕ, zero, suc, ◌+◌, ◌-◌, ◌*◌, ◌/◌, ◌<◌, ◌≤◌, inl, inr, Bool, true, false, List, [], ◌∷◌, ◌++◌, length, set, refl, ap, ap₂, sym, ◌∙◌, subst, arith, length-set, get_or-set_same, ◌==◌, ◌&&◌, bit_and, nat_lt, and_self, nat_tests, common_steps, div-add-mod, same_Some, ec_bytes, AreBytes, blank, filled, Sizes, IsGeometry, EcHeader, bytes-append, bytes-blank, zero_or_more, block, AllFit, fits, only_clears, page_of, renew, step_done, Step, behind, filled-is, length-filled}
 use Rattle.ubi_change.specs.declared.step.Step.TheVariants as step
 use Rattle.ubi_change.proofs.Runs.{done}

@@ -1,5 +1,5 @@
--- What eraseblocks mean is that of the winners of the LEBs that count, and of the image sequence number: where these stay, so
--- does the meaning.
+-- What eraseblocks mean depends on the winners of the LEBs that count, and on the image sequence number: if these stay,
+-- so does the meaning.
 use Rattle.ubi_change.proofs.Prelude.{◌≡◌, ℕ, suc, ◌<◌, inl, inr, List, [], ◌∷◌, ◌++◌, length, take, refl, ap, ap₂, sym, ◌∙◌, subst, arith, Option, Some, None, flat_map, slice_index, option_map_or, Sizes, usable, VolumeRecord, VidHeader, Static, NoFault, block, leb, Leb, NoMember, Wins, is_right, layout, member, image_seq, Wins-unique, winner_or_none, Records, CopyIs, copy_of, AllBlank, Decides, IsTable, CopyRead, AcceptsBlocks, IsWithin, NoMismatch, Means, SlotMeans, AreWhole, IsPiece, LebReads, StaticReads, VolumeReads, piece, Meant, Content, Volume}
 use Rattle.std.specs.FinMap as finite
 use Rattle.ubi_table.specs.declared.copy.CopyRead.TheVariants as copy

@@ -1,4 +1,5 @@
--- What a look through the steps tells: that none works on a listed eraseblock, or that one does, which no plan has.
+-- What a look through the steps shows: that none works on a listed eraseblock, or that one does, which is so in no
+-- plan.
 use Rattle.ubi_change.proofs.Prelude.{◌∙◌, ℕ, List, ap, sym, true≢false, Sizes, Avoided, Avoids, is_listed, Step, ListedIs}
 use Rattle.std.proofs.Common.{Some}
 

@@ -1,5 +1,5 @@
 -- What stays when an eraseblock that wins no LEB that counts becomes the newest good member of a LEB: the winners of
--- the others, and who wins nothing. The old winner wins nothing any more.
+-- the others, and what wins nothing. The old winner no longer wins anything.
 use Rattle.ubi_change.proofs.Prelude.{◌≡◌, ◌≢◌, ℕ, ◌+◌, ◌<◌, inl, inr, true, List, length, set, ap, ◌∙◌, subst, arith, cases_eq, option_map_or, Option, Sizes, VidHeader, NoFault, block, Leb, Wins, is_good, sqnum_at, sqnum_in, Wins-unique, Records, Agrees}
 use Rattle.ubi_change.proofs.Emptied.{AreBelow}
 use Rattle.ubi_change.proofs.Kept.{KeepsLeb, kept_back}

@@ -1,4 +1,4 @@
--- Where nothing is avoided, what holds of a plan that avoids something is what holds of one that doesn't.
+-- If nothing is avoided, a plan that avoids it is one that doesn't.
 use Rattle.ubi_change.proofs.Prelude.{◌≡◌, ℕ, List, subst, None, Some, Image, in_image, Whole, IsFrugal, plan_of, IsChangeRefusal, IsChangeRefusalAvoiding, IsFrugalOf, IsFrugalAvoiding, IsPlan, IsPlanAvoiding, first_cause, rename_plan, IsFrugalRename, IsFrugalRenameOf, IsFrugalRenameAvoiding, IsRename, IsRenameRefusal, IsRenameRefusalAvoiding, IsRenameAvoiding, IsFirstCause, MayBeNamed, nothing, avoiding, ChangeRefusal, RenameRefusal, Step}
 use Rattle.ubi_change.specs.declared.refusal.ChangeRefusal.TheVariants as change
 use Rattle.ubi_change.specs.declared.rename_refusal.RenameRefusal.TheVariants as rename

@@ -1,5 +1,4 @@
--- The plan of an attached image, against which no cause stands, touches just what it needs, erases what is given up,
--- and
+-- The plan of an attached image, with no cause against it, touches only what it needs, erases what is given up, and
 -- counts each erase.
 use Rattle.ubi_change.proofs.Prelude.{eraseblocks, in_image, IsFrugal, plan_of}
 use Rattle.ubi_change.proofs.Attached.{no_cause}

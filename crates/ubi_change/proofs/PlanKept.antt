@@ -1,4 +1,4 @@
--- What holds of the steps of a change, since they are those of its plan.
+-- What holds for the steps of a change, since they are those of its plan.
 use Rattle.ubi_change.proofs.Prelude.{ℕ, List, sym, subst, AreBytes, IsGeometry, Image, in_image, SurvivesCuts, AllFit, IsFrugal, RisesBetweenErases, IsPlanOf, IsPlanAvoiding, ReadBlank, Avoided, Avoids, avoiding, Step}
 use Rattle.ubi_change.proofs.PlanFits.{plan_fits}
 use Rattle.ubi_change.proofs.PlanFrugal.{plan_frugal}

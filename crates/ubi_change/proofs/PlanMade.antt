@@ -1,4 +1,4 @@
--- What was read for a change makes its plan: which cause stands, and that the steps are those of the plan.
+-- What was read for a change makes its plan: which cause applies, and that the steps are those of the plan.
 use Rattle.ubi_change.proofs.Prelude.{◌≡◌, ℕ, ◌+◌, ◌<◌, ◌≤◌, inl, inr, Bool, true, false, List, [], ◌∷◌, ◌++◌, length, refl, ap, ap₂, sym, ◌∙◌, subst, arith, None, Option, Some, nat_lt, option_map, then_some, option_map_or, nat_tests, Sizes, data_pad, VolumeRecord, carriers, Whole, AreSites, IsSitesRefusal, IsTooFew, image_causes, needed, steps_on, site_at, first_taken, blank_header, copy_header, mapped_plan, mount, needs, plan_of, ready_ec, taken, unmapped_plan, first_of, ec_at, takeable, ChangeRefusal, Site, FirstTwo, Target}
 use Rattle.std.specs.FinMap as finite
 use Rattle.ubi_change.specs.declared.refusal.ChangeRefusal.TheVariants as refusal

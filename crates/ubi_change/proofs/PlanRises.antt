@@ -1,6 +1,5 @@
--- The plan of an attached image, against which no cause stands, programs the pages of an eraseblock in rising order
--- between
--- two erases.
+-- The plan of an attached image, with no cause against it, programs the pages of an eraseblock in ascending order
+-- between two erases.
 use Rattle.ubi_change.proofs.Prelude.{eraseblocks, in_image, RisesBetweenErases, plan_of}
 use Rattle.ubi_change.proofs.Attached.{no_cause}
 use Rattle.ubi_change.proofs.HeadersKept.{plan_keeps}

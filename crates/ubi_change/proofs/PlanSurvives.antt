@@ -1,4 +1,4 @@
--- The law: the plan of an attached image, against which no cause stands, survives every cut.
+-- The law: the plan of an attached image, with no cause against it, survives every cut.
 use Rattle.ubi_change.proofs.Prelude.{◌≡◌, ◌≢◌, ◌*◌, ◌/◌, ◌<◌, ◌⊎◌, ◌∷◌, [], List, ap, arith, get_or, get_or-set_other, get_or-set_same, inl, inr, length, length-set, refl, subst, suc, sym, take, true, zero, ◌∙◌, ℕ, concat, first_chunks, div-mul-add, eqb-true, ltb-true, get, IsGeometry, Sizes, below_same_or_above, Image, IsWhole, block, eraseblocks, in_image, first_chunks-concat, length-concat, length-first_chunks, length-blank, AcceptsBlocks, Whole, changed, turn, AllFit, fits, only_clears, page_of, PlanSurvives, left, plan_of, after, block_after, step_done, target, Step}
 use Rattle.std.proofs.Common.{◌==◌, ◌&&◌, nat_lt}
 use Rattle.std.specs.Prelude.{if◌then◌else◌}

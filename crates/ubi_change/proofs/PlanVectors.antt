@@ -1,4 +1,4 @@
--- Plans, the places where they turn, and the images that they leave, computed by the definitions.
+-- Plans, their commit points, and the images that they leave, computed by the definitions.
 use Rattle.ubi_change.proofs.Prelude.{◌≡◌, ℕ, List, [], ◌∷◌, ◌++◌, false, replicate, refl, ⊤, FinMap, check_from, remainder, ec_fields, ec_reading, filled, overwrite, form_of, Sizes, vid_fields, vid_reading, VolumeRecord, leb_cmp, Whole, Meant, BlockState, turn, mapped_plan, unmapped_plan, after, takeable, Step}
 use Rattle.ubi_media.specs.Ec as ec
 use Rattle.ubi_media.specs.Vid as vid

@@ -1,4 +1,4 @@
--- The plan of a rename of an attached image, against which nothing stands: its parts, and that it survives every cut.
+-- The plan of a rename of an attached image, with nothing against it: its parts, and that it survives every cut.
 use Rattle.ubi_change.proofs.Prelude.{◌≡◌, ◌≢◌, ℕ, suc, ◌+◌, ◌*◌, ◌^◌, ◌<◌, ◌≤◌, inl, inr, Bool, true, false, cond, List, ◌++◌, append_assoc, length, refl, ap, sym, ◌∙◌, subst, arith, None, Option, Some, count_by, nat_lt, option_map_or, cases_lt, fold-append, sum_by-append, IsGeometry, Sizes, slots, EcHeader, VidHeader, Image, eraseblocks, in_image, IsMember, Leb, Wins, layout, AreRecords, Records, table_bytes, AllBlank, AcceptsBlocks, Whole, Meant, records_of, Volume, records_are, records_meant, found_wins, none_found, programs_copy, turn, mount, prepare, program_text, ready_bytes, ready_ec, release, taken, copy_plan, holder, layout_header, rename_plan, renamed_pages, table_pages, LeavesBothGood, KeepsReading, SurvivesRename, BothGood, MayBeNamed, ReadSame, renamed, after, step_done, ec_at, weak_place, whole_place, Step}
 use Rattle.std.specs.FinMap as finite
 use Rattle.ubi_change.proofs.AttachedImage as on

@@ -1,4 +1,4 @@
--- Which cause stands first against a rename, by what the functions on the way to its plan found.
+-- Which cause applies first against a rename, by what the functions on the way to its plan found.
 use Rattle.ubi_change.proofs.Prelude.{◌≡◌, ℕ, zero, suc, ◌+◌, ◌<◌, ◌≤◌, inl, inr, true, List, length, ap, ◌∙◌, subst, arith, IsSome, None, Some, option_map, cases_lt, Sizes, is_name, Image, eraseblocks, Records, some_record, Whole, IsSurvey, Seen, Volume, record_of, renamed_pages, IsRenameRefusalAvoiding, BothGood, HasName, IsFirstCause, Stands, rank, takeable, weak_place, IsNamable, IsNamingRefusal, RenameRefusal, Avoided, avoiding}
 use Rattle.std.specs.FinMap as finite
 use Rattle.ubi_change.specs.declared.rename_refusal.RenameRefusal.TheVariants as refusal

@@ -1,4 +1,4 @@
--- The plan of a rename touches just what it needs, erases what held the copies once the new ones are good, and counts
+-- The plan of a rename touches only what it needs, erases what held the copies once the new ones are good, and counts
 -- each erase.
 use Rattle.ubi_change.proofs.Prelude.{◌≡◌, ℕ, zero, suc, ◌+◌, ◌%◌, ◌<◌, ◌≤◌, false, List, [], ◌∷◌, ◌++◌, append_assoc, length, take, refl, ap, sym, subst, ◌∙◌, arith, length-append, Contains, count_by, Sizes, in_image, CopyIs, Whole, Meant, records_of, erases, Erases, taken, holder, rename_plan, IsFrugalRename, renamed, after, ec_at, stays, takeable, Step}
 use Rattle.ubi_table.specs.declared.copy.CopyRead.TheVariants as copy

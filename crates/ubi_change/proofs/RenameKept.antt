@@ -1,4 +1,4 @@
--- What holds of the steps of a rename, since they are those of its plan.
+-- What holds for the steps of a rename, since they are those of its plan.
 use Rattle.ubi_change.proofs.Prelude.{ℕ, List, sym, subst, AreBytes, IsGeometry, Image, in_image, AllFit, RisesBetweenErases, renamed_pages, LeavesBothGood, LeavesBothGoodOf, IsFrugalRename, IsFrugalRenameAvoiding, IsRenameOf, IsRenameAvoiding, KeepsReading, SurvivesRename, SurvivesRenameOf, ReadBlank, Avoided, Avoids, avoiding, Step}
 use Rattle.ubi_change.proofs.RenameAttached.{Renaming, leaves_both_good, keeps_reading, survives_rename}
 use Rattle.ubi_change.proofs.RenameFits.{rename_fits}

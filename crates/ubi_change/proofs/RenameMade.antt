@@ -1,4 +1,5 @@
--- What the functions on the way to a rename found makes its plan: nothing stands against it, and the steps are those.
+-- What the functions on the way to a rename found makes its plan: nothing applies against it, and the steps are its
+-- own.
 use Rattle.ubi_change.proofs.Prelude.{◌≡◌, ◌≢◌, ℕ, ◌+◌, ◌≤◌, inl, inr, Bool, true, false, cond, List, ◌++◌, length, refl, ap, ap₂, sym, ◌∙◌, subst, None, Option, Some, option_map, option_map_or, nat_cmp_total, nat_cmp-IsAntisymmetric, eq_by_cmp, nat_cmp, Sizes, VolumeRecord, Image, eraseblocks, layout, records_named, with_name, Records, Decides, IsTable, next-is, blank_none, decides_unique, AcceptsBlocks, Whole, Meant, records_of, IsSurvey, Seen, Volume, record_of, records_meant, atomic_copy, taken, copy_plan, holder, layout_header, renamed_pages, table_pages, IsRenameAvoiding, BothGood, MayBeNamed, renamed, volume_named, weak_place, AreHolders, AreSpares, IsNamable, two_copies, copy_on, site_at, first_taken, Holders, ec_at, takeable, Site, Spares, Step, FirstTwo, Avoided, avoiding}
 use Rattle.std.specs.FinMap as finite
 use Rattle.ubi_table.specs.declared.copy.CopyRead.TheVariants as copy

@@ -1,4 +1,4 @@
--- The plan of a rename programs the pages of an eraseblock in rising order between two erases.
+-- The plan of a rename programs the pages of an eraseblock in ascending order between two erases.
 use Rattle.ubi_change.proofs.Prelude.{ℕ, inl, inr, List, sym, subst, arith, None, cases_eq, Sizes, in_image, Whole, RisesBetweenErases, rename_plan, ec_at}
 use Rattle.ubi_change.proofs.HeadersKept.{KeepAll, copy_keeps, keep-append, keeps_all}
 use Rattle.ubi_change.proofs.PagesRise.{InOrder, copy_order, page_0_twice, pages_rise}

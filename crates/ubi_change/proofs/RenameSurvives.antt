@@ -1,4 +1,4 @@
--- The law: the plan of a rename of an attached image, against which nothing stands, survives every cut, and leaves both
+-- The law: the plan of a rename of an attached image, with nothing against it, survives every cut, and leaves both
 -- copies good.
 use Rattle.ubi_change.proofs.Prelude.{RenameSurvives}
 use Rattle.ubi_change.proofs.Shown.{shown}

@@ -1,4 +1,4 @@
--- A meaning with another name in one record is a meaning, and its volumes are the same but for that name.
+-- A meaning with another name in one record is a meaning, and its volumes are the same except for that name.
 use Rattle.ubi_change.proofs.Prelude.{◌≡◌, ◌≢◌, ℕ, inl, inr, Bool, true, false, cond, List, refl, ap, sym, ◌∙◌, subst, arith, IfSome, None, Option, Some, option_map, nat_cmp_total, sum_by, option_map_or, cases_eq, same_Some, Sizes, is_name, VolumeRecord, apart_test, at_itself, at_other, same_test, revalued_is, sum_revalued, Fits, IsMeaning, IsVolume, KeepsNoBlank, Meant, VolumeMap, records_of, Content, Volume, record_of, with_name, sound_named, ReadSame, nameless, renamed, volume_named}
 use Rattle.std.proofs.Common.{◌==◌}
 use Rattle.std.specs.FinMap as finite

@@ -1,4 +1,4 @@
--- One eraseblock is given other bytes: who is a member then, who wins, and that nothing is at fault.
+-- One eraseblock is given other bytes: what is then a member, what wins, and that nothing is at fault.
 use Rattle.ubi_change.proofs.Prelude.{◌≡◌, ◌≢◌, ℕ, ◌<◌, ◌≤◌, inl, inr, Bool, true, false, List, [], length, set, ap, sym, ◌∙◌, subst, arith, length-set, get_or-set_same, get_or-set_other, Some, None, cases_eq, Sizes, IsClean, IsSound, block, IsMember, Leb, NoMember, Wins, good_at, good_in, named_in, sqnum_at, sqnum_in, seq_of}
 use Rattle.ubi_change.proofs.Kept.{KeepsLeb}
 

@@ -1,4 +1,4 @@
--- The eraseblocks after some steps: of two lists of steps, and of steps on one eraseblock.
+-- The eraseblocks after some steps: after two lists of steps, and after steps on one eraseblock.
 use Rattle.ubi_change.proofs.Prelude.{◌≡◌, ℕ, zero, suc, ◌+◌, ◌-◌, ◌<◌, ◌≤◌, inl, inr, List, [], ◌∷◌, ◌++◌, length, take, set, refl, ap, sym, ◌∙◌, subst, arith, length-append, get_or-set_same, fold, take_all, set-set, set-get_or, fold-append, take-append-add, take-append-le, Sizes, within_or_past, block, after, block_after, step_done, target, Step, Bool, true, false, cond}
 
 -- what holds of no steps, and of some, holds of those that a test decides to do

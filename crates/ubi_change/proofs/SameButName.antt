@@ -1,4 +1,4 @@
--- Records that are the same but for the name: what a volume reads doesn't depend on its name.
+-- Records that are the same except for the name: what a volume reads doesn't depend on its name.
 use Rattle.ubi_change.proofs.Prelude.{◌≡◌, ℕ, ◌-◌, ◌%◌, ◌⊎◌, inl, inr, List, take, refl, ap, sym, ◌∙◌, subst, arith, None, Option, Some, unwrap_or, blank, Sizes, leb_size, usable, VolumeRecord, VidHeader, block, leb, Leb, NoMember, Wins, Records, IsUnlike, IsWithin, IsOutside, StaticReads, VolumeReads, Content}
 use Rattle.std.specs.FinMap as finite
 use Rattle.ubi_volume.specs.declared.content.Content.TheVariants as content

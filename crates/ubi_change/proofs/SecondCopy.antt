@@ -1,4 +1,4 @@
--- Copy 1 of the table is written anew, where copy 0 already is: the meaning stays, and then both copies are good.
+-- Copy 1 of the table is rewritten after copy 0: the meaning stays, and then both copies are good.
 use Rattle.ubi_change.proofs.Prelude.{◌≡◌, ◌≢◌, ℕ, suc, ◌+◌, ◌<◌, List, [], ◌∷◌, ◌++◌, length, set, ap, ◌∙◌, subst, arith, length-set, IsGeometry, Sizes, EcHeader, VidHeader, NoFault, block, leb, Wins, layout, AreRecords, Records, copy_of, AcceptsBlocks, Meant, records_of, records_meant, program_header, program_text, BothGood, layout_header, table_pages, whole_place, Step, records_are}
 use Rattle.ubi_table.specs.declared.copy.CopyRead.TheVariants as copy
 use Rattle.ubi_change.proofs.Copied.{IsCopy}

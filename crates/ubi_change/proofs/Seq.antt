@@ -1,4 +1,4 @@
--- The eraseblocks that name the image, and what it is that an eraseblock isn't the only one.
+-- The eraseblocks that name the image, and when an eraseblock isn't the only one.
 use Rattle.ubi_change.proofs.Prelude.{◌≡◌, ◌≢◌, ℕ, zero, suc, ◌+◌, ◌<◌, ◌⊎◌, inl, inr, Bool, true, false, cond, not, List, [], ◌∷◌, length, refl, ap, sym, ◌∙◌, arith, ◌==◌, ◌&&◌, count_by, cases_eq, nat_tests, sum_by-cons, Sizes, block, carriers, is_carrier, seq_of, Agrees, is_sole_carrier}
 
 -- an eraseblock other than b names this image, if it isn't 0

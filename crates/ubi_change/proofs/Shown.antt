@@ -1,5 +1,5 @@
--- What the plans ask of an attach: of the states only those in which nothing is lost have to be so. Such is what an attach
--- shows, and what a plan sees of it that avoids something.
+-- What plans need of attaching: only the states in which nothing is lost have to be right. What attaching shows is so,
+-- and so is what a plan that avoids something sees of it.
 use Rattle.ubi_change.proofs.Prelude.{◌≡◌, ℕ, zero, suc, ◌+◌, Bool, true, false, cond, List, [], ◌∷◌, map, refl, ap, sym, ◌∙◌, subst, arith, IfSome, None, Option, Some, option_map, slice_get, enumerate_from, Sizes, Image, eraseblocks, in_image, IsScan, Records, Accepts, AreStates, IsAttached, StateIs, Whole, records_of, BlockState, Avoided, is_avoided, nothing, avoiding, state_avoiding, states_avoiding, is_unused}
 use Rattle.std.specs.Prelude.{not}
 use Rattle.ubi_volume.specs.declared.attached.BlockState.TheVariants as state

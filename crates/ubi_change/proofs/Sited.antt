@@ -1,4 +1,4 @@
--- What is read of an eraseblock, and the parts of a plan by that.
+-- What is read of an eraseblock, and the parts of a plan, given that.
 use Rattle.ubi_change.proofs.Prelude.{◌≡◌, ℕ, ◌<◌, ◌≤◌, cond, List, [], ◌∷◌, ◌++◌, length, map, refl, ap, sym, subst, arith, ◌&&◌, ◌||◌, ◌==◌, IfSome, None, Option, Some, option_map, slice_get, slice_index, option_map_or, same_Some, ec_reading, Sizes, EcHeader, carriers, valid_ec, Source, blocks_in, Whole, atomic_copy, mount, next_ec, program_text, renew, ec_at, is_sole_carrier, is_worn, stays, FitsIn, copy_on, is_sole_on, site_at, stays_on, VidHeader, Site}
 use Rattle.std.specs.Prelude.{not}
 use Rattle.ubi_change.proofs.Premises.{by_reading}

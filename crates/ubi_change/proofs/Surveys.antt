@@ -1,4 +1,4 @@
--- What a survey of an image tells of its meaning.
+-- What a survey of an image shows of its meaning.
 use Rattle.ubi_change.proofs.Prelude.{◌≡◌, ℕ, refl, ap, sym, ◌∙◌, None, Option, Some, option_map, get, same_Some, VolumeRecord, Image, Records, Whole, IsSurvey, Seen, Content, Volume, record_of, no_some}
 
 with_entry : (o : Option Volume) (r : VolumeRecord) → option_map (λ (v : Volume). v.entry) o ≡ Some r

@@ -1,4 +1,4 @@
--- From which number of pages on a text that was cut short is the whole, and that its check tells before.
+-- From which number of pages on contents that were cut short are whole, and that their CRC shows the cut before.
 use Rattle.ubi_change.proofs.Prelude.{◌≡◌, ℕ, zero, suc, ◌+◌, ◌-◌, ◌*◌, ◌%◌, ◌<◌, ◌≤◌, ◌⊎◌, inl, inr, Bool, true, false, cond, not, List, [], ◌∷◌, ◌++◌, length, take, drop, refl, ap, ap₂, sym, ◌∙◌, subst, arith, None, Option, Some, ◌==◌, ◌&&◌, find, nat_eq, unwrap_or, range_with_len, div-add-mod, nat_tests, drop-drop, drop_at, length-take-le, take-append-drop, take_all, check, blank, filled, same_bytes, Sizes, is_weak, is_whole, pages_of, torn, weak_place, whole_place, drop_blank, filled-by}
 use Rattle.std.proofs.lemmas.Nat as nat
 

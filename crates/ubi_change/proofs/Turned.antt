@@ -1,4 +1,4 @@
--- Where in a plan the header of the copy is programmed: once, behind the steps that make its eraseblock ready.
+-- Where in a plan the header of the copy is programmed: once, after the steps that make its eraseblock ready.
 use Rattle.ubi_change.proofs.Prelude.{◌≡◌, ◌≢◌, ℕ, suc, ◌+◌, ◌-◌, ◌*◌, ◌/◌, ◌%◌, ◌<◌, ◌≤◌, ◌⊎◌, inl, inr, Bool, true, false, cond, List, [], ◌∷◌, ◌++◌, append_assoc, length, map, take, drop, refl, ap, sym, ◌∙◌, arith, None, ◌==◌, ◌&&◌, count_by, fold, nat_lt, enumerate_from, position_or_len, first_chunks, div-add-mod, div-eq_of_lt, nat_tests, take_at, drop_at, fold-append, cases_lt, ec_bytes, blank, filled, Sizes, IsGeometry, vid_bytes, vid_fault, vid_reading, VidFits, EcHeader, VidHeader, fields_fit, vid_read_back, one_vid_reading, zero_or_more, header_in, is_copy, programs_copy, turn, vid_page, program_header, program_text, renew, pages_of, whole_place, Step, behind, filled-by, filled-is, length-filled, blank_vid}
 use Rattle.std.specs.Prelude.{slice_range}
 use Rattle.ubi_media.specs.declared.vid.VidRead.TheVariants as vid_read

@@ -1,4 +1,4 @@
--- What was read of a source for a change tells of whatever it may hold: its plan, or why it has none.
+-- What was read of a source for a change holds for whatever it may hold: its plan, or why it has none.
 use Rattle.ubi_change.proofs.Prelude.{◌≡◌, ℕ, inl, inr, List, [], length, sym, ◌∙◌, subst, Sizes, Refusal, Image, IsWholeSize, image_of, in_image, Agreed, Narrows, Source, WhereHeld, blocks_of, holds, memory, StreamError, still, Whole, ArePlacesError, IsSurvey, Seen, Volume, refused_in_memory, AreStepsOf, IsPrepared, IsUnplanned, from_stream, shown, IsChangeError, IsChangeRefusal, IsChangeRefusalAvoiding, IsPlanAvoiding, Avoided, ReadBlank, nothing, avoiding, PlanError, Prepared, ChangeRefusal, Step}
 use Rattle.ubi_scan.specs.declared.errors.StreamError.TheVariants as stream
 use Rattle.ubi_change.specs.declared.plan_error.PlanError.TheVariants as error

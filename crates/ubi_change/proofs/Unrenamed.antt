@@ -1,4 +1,4 @@
--- What was read of a source for a rename tells of whatever it may hold: its plan, or why it has none.
+-- What was read of a source for a rename holds for whatever it may hold: its plan, or why it has none.
 use Rattle.ubi_change.proofs.Prelude.{◌≡◌, ℕ, ◌<◌, inl, inr, List, length, ap, sym, ◌∙◌, subst, arith, None, Some, AreBytes, IsGeometry, Sizes, Refusal, Image, IsWholeSize, image_of, in_image, Agreed, Narrows, Source, WhereHeld, blocks_of, holds, memory, StreamError, still, ArePlacesError, IsSurvey, Seen, refused_in_memory, renamed_pages, IsRenameError, IsRenameOf, IsRenameRefusal, IsRenameRefusalAvoiding, ReadBlank, Avoided, nothing, states_avoiding, takeable, weak_place, AreCopiesOf, AreHolders, IsNamable, IsRenamable, IsSparesRefusal, IsUnrenamed, pages_for, two_copies, site_at, first_taken, Holders, PlanError, RenameRefusal, Renamable, Step, FirstTwo}
 use Rattle.std.specs.Prelude.{◌⊎◌}
 use Rattle.ubi_scan.specs.declared.errors.StreamError.TheVariants as stream

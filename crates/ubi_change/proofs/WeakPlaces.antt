@@ -1,5 +1,5 @@
--- Whether the first pages of a text are weak, by the check of its front and the bytes behind it; and the least such
--- place.
+-- Whether the first pages of some contents are weak, by the CRC of their front and the bytes after it; and the least
+-- such place.
 use Rattle.ubi_change.proofs.Prelude.{◌≡◌, ℕ, ◌+◌, ◌-◌, ◌*◌, ◌^◌, ◌<◌, ◌≤◌, inl, inr, Bool, true, false, not, List, [], ◌∷◌, ◌++◌, length, take, drop, refl, ap, ap₂, sym, ◌∙◌, arith, length-drop, None, Some, ◌==◌, ◌&&◌, nat_tests, length-take-le, take-append-drop, take_all, check, check_from, blank, is_blank, same_bytes, Sizes, check_from-append, check_from-empty, below_same_or_above, filled-by, join_blank, is_weak, is_whole, pages_of, torn, weak_place}
 use Rattle.std.proofs.Math.Seq.{take-add}
 use Rattle.ubi_change.proofs.Torn.{find_range}

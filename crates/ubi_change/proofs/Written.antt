@@ -1,6 +1,5 @@
--- What the eraseblocks are that the steps of a plan leave: blank, with an erase-counter header alone, or with a part of
--- a
--- copy.
+-- What the eraseblocks that the steps of a plan leave are: blank, with only an erase-counter header, or with a part of
+-- a copy.
 use Rattle.ubi_change.proofs.Prelude.{◌≡◌, ◌≢◌, ℕ, ◌+◌, ◌-◌, ◌*◌, ◌<◌, ◌≤◌, true, not, List, ◌++◌, length, take, refl, ap, ap₂, sym, ◌∙◌, subst, arith, None, Some, ◌==◌, ◌||◌, option_map, then_some, take_at, take-replicate, length-take-le, take-append-add, same_Some, check, ec_reading, blank, filled, Sizes, IsGeometry, vid_bytes, vid_fault, vid_reading, VidFits, EcHeader, VidHeader, fields_fit, vid_read_back, one_vid_reading, IsMislaid, ec, leb, vid, vid_area, IsMember, Leb, foreign, foreign_if, has_members, is_good, is_right, leb_of, member, member_if, sqnum_at, seq_if, seq_of, torn, behind, filled-by, filled-is, blank_ec, blank_vid, ec-laid, laid, leb-laid, vid-laid}
 use Rattle.ubi_media.specs.declared.ec.EcRead.TheVariants as ec_read
 use Rattle.ubi_media.specs.declared.vid.VidRead.TheVariants as vid_read

@@ -1,4 +1,4 @@
--- What is written of an image after steps, eraseblock by eraseblock.
+-- What is written of an image after the steps, eraseblock by eraseblock.
 use Rattle.ubi_change.proofs.Prelude.{◌≡◌, ℕ, ◌+◌, ◌<◌, List, [], ◌∷◌, ◌++◌, append-nil, length, take, drop, slice_range, ap, sym, ◌∙◌, arith, length-set, Option, fold, concat, take_all, take_more, concat-append, Sizes, block, Agreed, IsSource, Source, blocks_in, blocks_of, StreamError, count_blocks, All, IsWroteError, Wrote, part_is, error_where, wrote_where, Splits, error_behind, error_front, wrote_as, wrote_more, wrote_none, after, after_text, step_done, target, block_after, block_cut, block_text, front_text, Step}
 use Rattle.std.proofs.Common.{take-append-drop}
 use Rattle.ubi_change.proofs.BlockSteps.{block_done}

@@ -1,4 +1,4 @@
--- What a plan may not touch, and what an attach shows of an image as a plan sees it that avoids it.
+-- What a plan may not touch, and what attaching shows of an image to a plan that avoids it.
 use Rattle.std.specs.Prelude.{◌≡◌, ℕ, ◌<◌, ◌&&◌, ◌||◌, Bool, true, false, if◌then◌else◌, List, [], length, map, Some, slice_get, refl}
 use Rattle.std.specs.Coded.{Coded, code_by, coded×, coded_bool, coded_list}
 use Rattle.std.specs.List.{enumerate_from}
@@ -12,12 +12,12 @@ use Rattle.ubi_volume.specs.declared.attached.BlockState.TheVariants as state
 use Rattle.ubi_change.specs.Steps.{target}
 use Rattle.ubi_change.specs.declared.step.Step.{Step}
 
--- the eraseblocks that a plan may not touch: of each whether it is listed, and whether no Blank one may be touched
+-- the eraseblocks that a plan may not touch: whether each one is listed, and whether no Blank one may be touched
 pub record Avoided : Type 0 where
   pub marks : List Bool
   pub blank : Bool
 
--- the same as a pair
+-- the eraseblocks to avoid, as a pair
 abbrev pub avoided_code : Coded Avoided
 avoided_code =
     code_by (List Bool × Bool) (coded× (coded_list coded_bool) coded_bool) (λ e. (e.marks, e.blank))
@@ -37,15 +37,15 @@ module _ (av : Avoided) where
   abbrev pub is_avoided : ℕ → BlockState → Bool
   is_avoided p st = is_listed av.marks p || (av.blank && is_blank_one st)
 
-  -- its state as the plan sees it: what is avoided is as good as used
+  -- the state of p as the plan sees it: what is avoided counts as used
   abbrev pub state_avoiding : ℕ → BlockState → BlockState
   state_avoiding p st = if is_avoided p st then state.Used else st
 
-  -- and those of all
+  -- the states of all eraseblocks as the plan sees them
   abbrev pub states_avoiding : List BlockState → List BlockState
   states_avoiding states = map (λ e. state_avoiding e.0 e.1) (enumerate_from 0 states)
 
-  -- what an attach shows, as the plan sees it
+  -- what attaching shows, as the plan sees it
   abbrev pub avoiding : Whole → Whole
   avoiding a = record a { states = states_avoiding a.states }
 
@@ -54,7 +54,7 @@ abbrev pub AllBeside : List Bool → List Step → Type 0
 AllBeside marks steps = (k : ℕ) (next : Step) → slice_get steps k ≡ Some next → is_listed marks (target next) ≡ false
 
 module _ (s : Sizes) (bs : List (List ℕ)) (av : Avoided) where
-  -- p isn't listed, and it isn't Blank where no Blank one may be touched
+  -- p isn't listed, and isn't Blank if no Blank one may be touched
   abbrev pub MayTouch : ℕ → Type 0
   MayTouch p = (is_listed av.marks p ≡ false) × (av.blank ≡ true → ec s (block bs p) ≡ ec_read.Blank → ⊥)
 
@@ -66,10 +66,10 @@ module _ (s : Sizes) (bs : List (List ℕ)) (av : Avoided) where
   abbrev pub BlankBelow : ℕ → Type 0
   BlankBelow n = (p : ℕ) → p < n → is_listed av.marks p ≡ true → ec s (block bs p) ≡ ec_read.Blank
 
-  -- all listed eraseblocks that are there are Blank: none of them holds anything
+  -- all listed eraseblocks that exist are Blank: none of them holds anything
   abbrev pub ReadBlank : Type 0
   ReadBlank = BlankBelow (length bs)
 
-  -- p is the lowest listed eraseblock that is there and isn't Blank
+  -- p is the lowest listed eraseblock that exists and isn't Blank
   abbrev pub IsNotBlank : ℕ → Type 0
   IsNotBlank p = (is_listed av.marks p ≡ true) × (p < length bs) × (ec s (block bs p) ≡ ec_read.Blank → ⊥) × BlankBelow p

@@ -1,4 +1,4 @@
--- What is printed of a change or a rename that isn't planned.
+-- The texts that are printed for a change or a rename that isn't planned.
 use Rattle.std.specs.Prelude.{ℕ, List, Option, Some, ◌++◌, codes, decimal}
 use Rattle.ubi_media.specs.ErrorTexts.{refusal_text}
 use Rattle.ubi_change.specs.declared.plan_error.PlanError.{PlanError}
@@ -8,7 +8,7 @@ use Rattle.ubi_change.specs.declared.refusal.ChangeRefusal.TheVariants as change
 use Rattle.ubi_change.specs.declared.rename_refusal.RenameRefusal.{RenameRefusal}
 use Rattle.ubi_change.specs.declared.rename_refusal.RenameRefusal.TheVariants as rename
 
--- the text of why a change isn't planned
+-- the text that says why a change isn't planned
 abbrev pub change_refusal_text : ChangeRefusal → List ℕ
 change_refusal_text (change.Attach c) = refusal_text c
 change_refusal_text change.NoVolume = codes "K2 NoVolume"
@@ -21,7 +21,7 @@ change_refusal_text change.Exhausted = codes "K8 Exhausted"
 change_refusal_text change.NoFree = codes "K9 NoFree"
 change_refusal_text change.Memory = codes "out of memory"
 
--- the text of why a rename isn't planned
+-- the text that says why a rename isn't planned
 abbrev pub rename_refusal_text : RenameRefusal → List ℕ
 rename_refusal_text (rename.Attach c) = refusal_text c
 rename_refusal_text rename.NoVolume = codes "K2 NoVolume"
@@ -33,7 +33,7 @@ rename_refusal_text rename.Exhausted = codes "K8 Exhausted"
 rename_refusal_text rename.NoFree = codes "K9 NoFree"
 rename_refusal_text rename.Memory = codes "out of memory"
 
--- the text of why the image of a source has no plan, by those of its causes
+-- the text that says why the image of a source has no plan, by the texts of its causes
 abbrev pub plan_error_text : {C : Type 0} → (C → Option (List ℕ)) → PlanError C → Option (List ℕ)
 plan_error_text text (plan.Refused c) = text c
 plan_error_text text (plan.Read p) = Some (codes "a read failed block=" ++ decimal p)

@@ -7,7 +7,7 @@ use Rattle.ubi_change.specs.Steps.{after, target}
 use Rattle.ubi_change.specs.declared.step.Step.{Step}
 use Rattle.ubi_change.specs.declared.step.Step.TheVariants as step
 
--- each bit of the new bytes is kept or cleared: none is set that isn't in the old ones, which are as many
+-- each bit of the new bytes is kept or cleared: none is set that isn't set in the old bytes, which are as many
 abbrev pub only_clears : List ℕ → List ℕ → Bool
 only_clears old new = pointwise (λ o n. bit_and o n == n) old new
 
@@ -26,7 +26,7 @@ fits s bs (step.Program p page bytes) =
 abbrev pub AllFit : Sizes → List (List ℕ) → List Step → Type 0
 AllFit s bs steps = (k : ℕ) (next : Step) → slice_get steps k ≡ Some next → fits s (after s bs steps k) next ≡ true
 
--- a program's page lies in its eraseblock, and its bytes are one page
+-- the page of a program lies in its eraseblock, and its bytes are one page
 abbrev pub FitsBlock : Sizes → Step → Type 0
 FitsBlock s (step.Erase p) = Unit {0}
 FitsBlock s (step.Program p page bytes) = (page < s.peb_size / s.page) × (length bytes ≡ s.page)

@@ -14,18 +14,18 @@ use Rattle.ubi_change.specs.Weak.{weak_place}
 use Rattle.ubi_change.specs.declared.refusal.ChangeRefusal.{ChangeRefusal}
 use Rattle.ubi_change.specs.declared.refusal.ChangeRefusal.TheVariants as refusal
 
--- whether a length is no number of whole pages, or none, or above a limit
+-- whether a length isn't a number of whole pages, or is 0, or is above a limit
 abbrev pub is_bad_length : Sizes → ℕ → ℕ → Bool
 is_bad_length s limit n = (n == 0) || not (n % s.page == 0) || nat_lt limit n
 
--- the first of some causes that stands
+-- the first of some causes that applies
 abbrev pub first_of : List (Option ChangeRefusal) → Option ChangeRefusal
 first_of [] = None
 first_of (Some c ∷ rest) = Some c
 first_of (None ∷ rest) = first_of rest
 
 module _ (s : Sizes) (bs : List (List ℕ)) (a : Whole) where
-  -- why a LEB of a volume with this record isn't changed, each cause where it stands
+  -- why a LEB of a volume with this record isn't changed: each cause, if it applies
   abbrev pub causes : VolumeRecord → ℕ → ℕ → List ℕ → List (Option ChangeRefusal)
   causes r id lnum new =
       then_some (is_static r.kind) refusal.StaticVolume

@@ -1,4 +1,4 @@
--- The plan of a rename: both copies of the volume table are written anew.
+-- The plan of a rename: both copies of the volume table are rewritten.
 use Rattle.std.specs.Prelude.{ℕ, ◌+◌, ◌*◌, List, ◌++◌, length}
 use Rattle.std.specs.FinMap.{get}
 use Rattle.std.specs.Option.{option_map_or}
@@ -31,7 +31,7 @@ module _ (s : Sizes) (bs : List (List ℕ)) (a : Whole) where
   abbrev pub holder : ℕ → ℕ
   holder c = option_map_or (λ p. p) (get a.scan.winners (layout, c)) 0
 
-  -- copy c is written on the eraseblock that is taken as the c-th, and then its holder is erased
+  -- copy c is written to the c-th eraseblock that is taken, and then its holder is erased
   abbrev pub copy_plan : List ℕ → ℕ → ℕ → List Step
   copy_plan new c sqnum = atomic_copy s bs a (taken s bs a c) (layout_header c sqnum new) new (holder c) (ec_at s bs (holder c))
 

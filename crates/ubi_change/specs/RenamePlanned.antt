@@ -1,4 +1,4 @@
--- What the plan of a rename is, what holds of it at every cut and at its end, and why there is none.
+-- What the plan of a rename is, what holds for it at every cut and at its end, and why there is none.
 use Rattle.std.specs.Prelude.{◌≡◌, ℕ, ◌<◌, ◌≤◌, false, nat_lt, if◌then◌else◌, List, ◌∷◌, length, take, count_by}
 use Rattle.ubi_media.specs.Geometry.{Sizes}
 use Rattle.ubi_scan.specs.Image.{Image, IsWholeSize, eraseblocks, image_of, in_image}
@@ -26,8 +26,8 @@ use Rattle.ubi_change.specs.declared.rename_refusal.RenameRefusal.{RenameRefusal
 use Rattle.ubi_change.specs.declared.rename_refusal.RenameRefusal.TheVariants as refusal
 use Rattle.ubi_change.specs.declared.step.Step.{Step}
 
--- after any number of steps the eraseblocks are accepted: before the turn, which comes once the first copy is whole, with
--- the meaning m, and from it on with the renamed one; just two steps program the header of a copy
+-- after any number of steps the eraseblocks are accepted: before the commit point, which comes once the first copy is
+-- whole, with the meaning m, and from it on with the renamed one; exactly two steps program the header of a copy
 pub record SurvivesRename (s : Sizes) (bs : List (List ℕ)) (m : Meant) (id : ℕ) (name : List ℕ) (steps : List Step) : Type 0 where
   pub two_copies : count_by (programs_copy s) steps ≡ 2
   pub comes : turn s steps (renamed_pages s m id name) ≤ length steps
@@ -38,8 +38,8 @@ pub record SurvivesRename (s : Sizes) (bs : List (List ℕ)) (m : Meant) (id : �
 abbrev pub LeavesBothGood : Sizes → List (List ℕ) → Meant → ℕ → List ℕ → List Step → Type 0
 LeavesBothGood s bs m id name steps = BothGood s (after s bs steps (length steps)) (records_of (renamed m id name))
 
--- the steps touch just what they need, erase what holds a copy where the new one is good, unless it stays, and count each
--- erase
+-- the steps touch only what they need, erase the holder of a copy once the new one is good, unless it stays, and count
+-- each erase
 pub record IsFrugalRename (s : Sizes) (bs : List (List ℕ)) (a : Whole) (id : ℕ) (name : List ℕ) (steps : List Step) : Type 0 where
   pub touches : TouchesOnly (holder s bs a 0 ∷ holder s bs a 1 ∷ take 2 (takeable s bs a.states)) steps
   pub gives_up : (c : ℕ) → c < 2 → stays s bs (holder s bs a c) (ec_at s bs (holder s bs a c)) ≡ false
@@ -47,38 +47,38 @@ pub record IsFrugalRename (s : Sizes) (bs : List (List ℕ)) (a : Whole) (id : �
       × CopyIs s (after s bs steps k) c (copy.Good (records_of (renamed a.meaning id name)))
   pub counts : CountsErases s bs a steps
 
--- nothing stands against the rename, and the steps are those of its plan
+-- nothing applies against the rename, and the steps are those of its plan
 pub record IsRename (image : Image) (id : ℕ) (name : List ℕ) (steps : List Step) : Type 0 where
   pub from : Whole
   pub attached : IsAttached image from
   pub allowed : in_image MayBeNamed image from id name
   pub plan : steps ≡ in_image rename_plan image from id name
 
--- the same of a plan that avoids something, as it sees the image
+-- the same for a plan that avoids something, as it sees the image
 pub record IsRenameAvoiding (image : Image) (av : Avoided) (id : ℕ) (name : List ℕ) (steps : List Step) : Type 0 where
   pub from : Whole
   pub attached : IsAttached image from
   pub allowed : in_image MayBeNamed image (avoiding av from) id name
   pub plan : steps ≡ in_image rename_plan image (avoiding av from) id name
 
--- the image is accepted, and cut after any of the steps it means the old or the renamed
+-- the image is accepted, and after any number of the steps it means the old or the renamed
 abbrev pub SurvivesRenameOf : Image → ℕ → List ℕ → List Step → Type 0
 SurvivesRenameOf image id name steps = (m : Meant) × Accepts image m × in_image SurvivesRename image m id name steps
 
--- the image is accepted, and cut after any of the steps each volume reads as before
+-- the image is accepted, and after any number of the steps each volume reads as before
 abbrev pub KeepsReading : Image → List Step → Type 0
 KeepsReading image steps = (m : Meant) × Accepts image m × ((k : ℕ) → k ≤ length steps
     → (n : Meant) × AcceptsBlocks image.sizes (after image.sizes (eraseblocks image) steps k) n × ReadSame m n)
 
--- the image is accepted, and at the end both copies have the table of what it means then
+-- the image is accepted, and at the end both copies have the table of what it then means
 abbrev pub LeavesBothGoodOf : Image → ℕ → List ℕ → List Step → Type 0
 LeavesBothGoodOf image id name steps = (m : Meant) × Accepts image m × in_image LeavesBothGood image m id name steps
 
--- the steps touch just what they need, erase what held the copies, and count each erase
+-- the steps touch only what they need, erase what held the copies, and count each erase
 abbrev pub IsFrugalRenameOf : Image → ℕ → List ℕ → List Step → Type 0
 IsFrugalRenameOf image id name steps = (a : Whole) × IsAttached image a × in_image IsFrugalRename image a id name steps
 
--- the same of a plan that avoids something, as it sees the image
+-- the same for a plan that avoids something, as it sees the image
 abbrev pub IsFrugalRenameAvoiding : Image → Avoided → ℕ → List ℕ → List Step → Type 0
 IsFrugalRenameAvoiding image av id name steps =
     (a : Whole) × IsAttached image a × in_image IsFrugalRename image (avoiding av a) id name steps
@@ -89,7 +89,7 @@ IsRenameRefusal image id name refusal.Memory = Unit {0}
 IsRenameRefusal image id name (refusal.Attach c) = Refuses image c
 IsRenameRefusal image id name c = (a : Whole) × IsAttached image a × in_image IsFirstCause image a id name c
 
--- the same of a plan that avoids something, as it sees the image
+-- the same for a plan that avoids something, as it sees the image
 abbrev pub IsRenameRefusalAvoiding : Image → Avoided → ℕ → List ℕ → RenameRefusal → Type 0
 IsRenameRefusalAvoiding image av id name refusal.Memory = Unit {0}
 IsRenameRefusalAvoiding image av id name (refusal.Attach c) = Refuses image c
@@ -109,7 +109,7 @@ pub record IsRenameOf (image : Image) (av : Avoided) (id : ℕ) (name : List ℕ
   pub blank : in_image ReadBlank image av
 
 -- the steps for the image of a source: each works within one of its eraseblocks, and on none that is listed, and they are
--- those of whatever the source may hold
+-- right for whatever the source may hold
 pub record IsPlannedRename (s : Sizes) (k : Source) (agrees : Agreed) (av : Avoided) (id : ℕ) (name : List ℕ) (steps : List Step) : Type 0 where
   pub whole : IsWholeSize s k.size
   pub within : AllWithin s (blocks_in s k) steps

@@ -23,7 +23,7 @@ BothGood s bs t = CopyIs s bs 0 (copy.Good t) × CopyIs s bs 1 (copy.Good t)
 abbrev pub HasName : Whole → ℕ → List ℕ → ℕ → Type 0
 HasName a id name slot = (slot ≢ id) × (v : Volume) × (get a.meaning.volumes slot ≡ Some v) × (v.entry.name ≡ name)
 
--- nothing stands against a rename
+-- nothing applies against a rename
 pub record MayBeNamed (s : Sizes) (bs : List (List ℕ)) (a : Whole) (id : ℕ) (name : List ℕ) : Type 0 where
   pub volume : Volume
   pub there : get a.meaning.volumes id ≡ Some volume
@@ -34,7 +34,7 @@ pub record MayBeNamed (s : Sizes) (bs : List (List ℕ)) (a : Whole) (id : ℕ) 
   pub few : a.scan.top_sqnum + 2 ≤ 0xFFFFFFFFFFFFFFFF
   pub enough : 2 ≤ length (takeable s bs a.states)
 
--- a cause stands against a rename
+-- a cause applies against a rename
 abbrev pub Stands : Sizes → List (List ℕ) → Whole → ℕ → List ℕ → RenameRefusal → Type 0
 Stands s bs a id name refusal.NoVolume = get a.meaning.volumes id ≡ None
 Stands s bs a id name refusal.BadName = is_name name ≡ false
@@ -56,7 +56,7 @@ rank refusal.Exhausted = 6
 rank refusal.NoFree = 7
 rank _ = 0
 
--- a cause stands, and none before it in their order
+-- a cause applies, and none before it in their order does
 pub record IsFirstCause (s : Sizes) (bs : List (List ℕ)) (a : Whole) (id : ℕ) (name : List ℕ) (c : RenameRefusal) : Type 0 where
   pub stands : Stands s bs a id name c
   pub first : (d : RenameRefusal) → rank d < rank c → Stands s bs a id name d → ⊥

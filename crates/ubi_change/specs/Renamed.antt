@@ -10,7 +10,7 @@ use Rattle.ubi_volume.specs.declared.content.Volume.{Volume}
 abbrev pub volume_named : Volume → List ℕ → Volume
 volume_named v name = record v { entry = with_name v.entry name }
 
--- m, but that volume has this name
+-- m, except that the volume has this name
 abbrev pub renamed : Meant → ℕ → List ℕ → Meant
 renamed m id name = option_map_or (λ v. record m { volumes = insert m.volumes id (volume_named v name) }) (get m.volumes id) m
 
@@ -18,6 +18,6 @@ renamed m id name = option_map_or (λ v. record m { volumes = insert m.volumes i
 abbrev pub nameless : Volume → Volume
 nameless v = volume_named v []
 
--- two meanings have the same volumes, and each reads in the one what it reads in the other: they differ in names alone
+-- two meanings have the same volumes, and each reads the same in both: they differ in names alone
 abbrev pub ReadSame : Meant → Meant → Type 0
 ReadSame m n = (id : ℕ) → option_map nameless (get n.volumes id) ≡ option_map nameless (get m.volumes id)

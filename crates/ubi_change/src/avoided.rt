@@ -10,12 +10,12 @@ use std::marker::Model;
 use ubi_media::Geometry;
 use ubi_volume::{BlockState, Surveyed};
 
-/// Eraseblocks that a plan may not touch, as those of a flash device that are bad.
+/// Eraseblocks that a plan may not touch, such as the bad ones of a flash device.
 #[derive(Drop)]
 pub struct Avoided<'a> {
-    /// Of each eraseblock, by its number, whether it is listed. One that has no mark isn't.
+    /// Whether each eraseblock is listed, by its number. One that has no mark isn't.
     marks: &'a [bool],
-    /// Whether no eraseblock may be touched that is Blank.
+    /// Whether no Blank eraseblock may be touched.
     blank: bool,
 }
 
@@ -46,7 +46,7 @@ fn is_listed(marks: &[bool], p: u32) -> bool
     }
 }
 
-/// The lowest listed eraseblock that is there and isn't Blank, if there is one.
+/// The lowest listed eraseblock that exists and isn't Blank, if there is one.
 fn not_blank(marks: &[bool], geometry: &Geometry, surveyed: &Surveyed) -> Option<u32>
     requires { length surveyed.now.states ≤ geometry.now.pebs }
     ensures { NotBlankIs marks.now surveyed.now.states result }
@@ -75,7 +75,7 @@ fn listed(marks: &[bool], steps: &[Step]) -> Option<u32>
 }
 
 impl<'a> Avoided<'a> {
-    /// The eraseblocks whose marks say so, and the Blank ones where `blank` does.
+    /// The eraseblocks whose marks say so, and if `blank`, the Blank ones.
     pub fn new(marks: &'a [bool], blank: bool) -> Avoided<'a>
         ensures { result ≡ record { marks = marks.now; blank = blank } }
     {
@@ -89,7 +89,7 @@ impl<'a> Avoided<'a> {
         is_listed(self.marks, p) || (self.blank && is_blank(state))
     }
 
-    /// The lowest listed eraseblock that is there and isn't Blank, if there is one.
+    /// The lowest listed eraseblock that exists and isn't Blank, if there is one.
     pub(crate) fn not_blank(&self, geometry: &Geometry, surveyed: &Surveyed) -> Option<u32>
         requires { length surveyed.now.states ≤ geometry.now.pebs }
         ensures { NotBlankIs self.now.marks surveyed.now.states result }
@@ -104,7 +104,7 @@ impl<'a> Avoided<'a> {
         listed(self.marks, steps)
     }
 
-    /// What a plan sees of an eraseblock: its state, or that it is used where it is one of them.
+    /// The state of an eraseblock as a plan sees it: one that is avoided counts as used.
     pub(crate) fn state(&self, surveyed: &Surveyed, p: u32) -> BlockState
         requires { p < length surveyed.now.states }
         ensures { slice_get (states_avoiding self.now surveyed.now.states) p ≡ Some result }

@@ -1,4 +1,4 @@
-//! The causes not to plan a change that don't depend on which eraseblocks can be taken.
+//! The causes for not planning a change that don't depend on which eraseblocks can be taken.
 
 ghost use Rattle.std.specs.Prelude.{◌≡◌, None};
 ghost use Rattle.ubi_change.specs.inner.Making.{own_causes};
@@ -9,14 +9,14 @@ use crate::refusal::ChangeRefusal;
 use crate::weakness::weak_place;
 use ubi_media::{Geometry, VolKind, VolumeRecord};
 
-/// Whether a length is no number of whole pages, or none, or above a limit.
+/// Whether a length isn't a number of whole pages, or is 0, or is above a limit.
 fn is_bad_length(geometry: &Geometry, limit: u32, length: usize) -> bool
     ensures { result ≡ is_bad_length geometry.now limit length }
 {
     length == 0 || length % geometry.page() as usize != 0 || length > limit as usize
 }
 
-/// The first cause not to change a logical eraseblock of a volume with this record, of those that the request alone gives.
+/// The first cause for not changing a logical eraseblock of a volume with this record, among those that depend only on the request.
 pub fn own_cause(
     geometry: &Geometry,
     entry: &VolumeRecord,

@@ -56,7 +56,7 @@ pub fn ground_of<S: BlockSource>(
 ///
 /// # Errors
 ///
-/// Read where a read failed, with the count 0.
+/// `Read` if a read failed, with the count 0.
 pub fn winner_site<S: BlockSource>(
     geometry: &Geometry,
     source: &mut S,

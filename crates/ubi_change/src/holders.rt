@@ -44,7 +44,7 @@ fn are_same(first: &CopyRead, second: &CopyRead) -> bool
 ///
 /// # Errors
 ///
-/// Read where the read failed, with the count 0. Memory where it ran out.
+/// `Read` if the read failed, with the count 0. `Memory` if memory ran out.
 fn are_both_good<S: BlockSource>(
     alloc: Global,
     geometry: &Geometry,
@@ -68,11 +68,11 @@ fn are_both_good<S: BlockSource>(
     Ok(are_same(&first, &second))
 }
 
-/// The eraseblocks that hold the copies of the volume table. None where the copies aren't both good with equal tables.
+/// The eraseblocks that hold the copies of the volume table. `None` if the copies aren't both good with equal tables.
 ///
 /// # Errors
 ///
-/// Read where a read failed, with the count 0. Memory where it ran out.
+/// `Read` if a read failed, with the count 0. `Memory` if memory ran out.
 pub fn holders_of<S: BlockSource>(
     alloc: Global,
     geometry: &Geometry,

@@ -1,9 +1,9 @@
-//! Plans of steps that change an image, and that a cut between two steps can't harm: one logical eraseblock (LEB) gets new
-//! bytes ([`plan_change`]), or a volume another name ([`plan_rename`]).
+//! Plans that change an image and survive a power cut: a plan gives one logical eraseblock (LEB) new bytes
+//! ([`plan_change`]), or a volume another name ([`plan_rename`]).
 //!
-//! A plan is a list of erases of eraseblocks and of programs of single pages. After any number of them the image is
-//! accepted, and means the old or the new. It is made of the bytes of an image, or of a source that is read at places
-//! ([`plan_change_from`], [`plan_rename_from`]); [`write_after`] writes what it leaves.
+//! A plan is a list of steps, each of which erases an eraseblock or programs one page. After any whole number of steps the
+//! image is accepted, and means the old or the new. A plan is made from the bytes of an image, or from a source that is
+//! read at places ([`plan_change_from`], [`plan_rename_from`]); [`write_after`] writes the image that its steps leave.
 //!
 //! A caller, proved from the contracts alone (`crates/ubi_uses`):
 //!

@@ -21,7 +21,7 @@ fn fill_up(bytes: &mut Vec<u8>, size: usize) -> Result<(), AllocError>
     bytes.resize(size, 0xFF)
 }
 
-/// The page that holds an erase-counter header: 0xFF behind it.
+/// The page that holds an erase-counter header, with 0xFF after it.
 pub fn ec_page(alloc: Global, geometry: &Geometry, header: &EcHeader) -> Result<Bytes, AllocError>
     ensures { IfOk result (λ bytes. bytes ≡ filled geometry.now.page (ec_bytes geometry.now header.now)) }
 {
@@ -31,7 +31,7 @@ pub fn ec_page(alloc: Global, geometry: &Geometry, header: &EcHeader) -> Result<
     Ok(Bytes::new(bytes))
 }
 
-/// What stands before a volume-identifier header in its page: the erase-counter header, where that is page 0.
+/// What stands before a volume-identifier header in its page: the erase-counter header, if that is page 0.
 fn front_of<'a>(geometry: &Geometry, ec: &'a [u8]) -> &'a [u8]
     requires { length ec.now ≡ 64 }
     ensures value { result.now ≡ (if nat_lt geometry.now.vid_offset geometry.now.page then ec.now else []) }
@@ -44,8 +44,8 @@ fn front_of<'a>(geometry: &Geometry, ec: &'a [u8]) -> &'a [u8]
     }
 }
 
-/// The page that holds a volume-identifier header: 0xFF before and behind it. Where it is page 0, the bytes of the
-/// erase-counter header stand at its start.
+/// The page that holds a volume-identifier header, with 0xFF before and after it. If it is page 0, it begins with
+/// the bytes of the erase-counter header.
 pub fn vid_page(
     alloc: Global,
     geometry: &Geometry,
@@ -65,14 +65,14 @@ pub fn vid_page(
     Ok(Bytes::new(bytes))
 }
 
-/// In how many pages bytes lie, the last perhaps filled up.
+/// How many pages bytes take; the last may be filled up.
 fn page_count(geometry: &Geometry, bytes: &[u8]) -> usize
     ensures { result ≡ pieces geometry.now.page (length bytes.now) }
 {
     bytes.len().div_ceil(geometry.page() as usize)
 }
 
-/// The pages of a volume table: its bytes, and 0xFF behind them.
+/// The pages of a volume table: its bytes, and 0xFF after them.
 pub fn table_pages(alloc: Global, geometry: &Geometry, table: &Table) -> Result<Vec<u8>, AllocError>
     requires { table.now.sizes ≡ geometry.now }
     ensures pages { IfOk result (λ bytes. bytes.items ≡ table_pages geometry.now table.now) }

@@ -73,7 +73,7 @@ fn prepare<S: BlockSource>(
 ///
 /// # Errors
 ///
-/// The first cause that stands of those that the volume's record and the new bytes give.
+/// The first cause that applies of those that the volume's record and the new bytes decide.
 fn target_of(
     geometry: &Geometry,
     table: &Table,
@@ -99,7 +99,7 @@ fn target_of(
     }
 }
 
-/// The steps for a logical eraseblock with a winner: a copy, and then the winner is erased.
+/// The steps for a logical eraseblock with a winner: they write a copy, and then erase the winner.
 fn mapped_steps(
     alloc: Global,
     geometry: &Geometry,
@@ -127,7 +127,7 @@ fn mapped_steps(
     Ok(steps)
 }
 
-/// The steps for a logical eraseblock without a winner: a blank one, a copy, and then the blank one is erased.
+/// The steps for a logical eraseblock without a winner: they write a blank one and a copy, and then erase the blank one.
 fn unmapped_steps(
     alloc: Global,
     geometry: &Geometry,
@@ -187,7 +187,7 @@ fn steps_on(
 ///
 /// # Errors
 ///
-/// The first cause that stands but for `Attach`, or `Memory`.
+/// The first cause that applies, except `Attach`, or `Memory`.
 fn change_steps(
     alloc: Global,
     geometry: &Geometry,
@@ -203,7 +203,7 @@ fn change_steps(
 {
     let Ground { surveyed, taken } = &prepared.ground;
     let scan = surveyed.scan();
-    // By the limits of the geometry the new bytes lie in an eraseblock.
+    // By the limits of the geometry, the new bytes fit into an eraseblock.
     prove!(geometry.page() >= 64);
     let target = target_of(geometry, surveyed.table(), id, lnum, new)?;
     let sites = sites_of(scan, prepared.winner, taken)?;
@@ -224,16 +224,16 @@ fn unread(error: StreamError) -> PlanError<ChangeRefusal>
     }
 }
 
-/// The steps of [`plan_change`] for the image of a source, of which one eraseblock is held at a time.
+/// The steps of [`plan_change`] for the image of a source. One of its eraseblocks is held at a time.
 ///
-/// Each eraseblock that a step changes lies in the source, and a page that is programmed lies in its eraseblock. Whatever
-/// the source may hold after the reads that it answered, the steps are those for that image. None of them touches what is
+/// Each eraseblock that a step changes lies in the source, and a page that is programmed lies in its eraseblock. The
+/// steps are right for whatever image the source may hold after the reads that it answered. None of them touches what is
 /// avoided.
 ///
 /// # Errors
 ///
-/// The first cause in the order of [`ChangeRefusal`] that stands, or `Memory`; or Read where a read failed; or
-/// NotBlank where a listed eraseblock isn't Blank.
+/// The first cause in the order of [`ChangeRefusal`] that applies, or `Memory`; or `Read` if a read failed; or `NotBlank`
+/// if a listed eraseblock isn't Blank.
 pub fn plan_change_from<S: BlockSource>(
     alloc: Global,
     geometry: &Geometry,
@@ -249,7 +249,7 @@ pub fn plan_change_from<S: BlockSource>(
     ensures refused { IfErr result (IsChangeError geometry.now (S.known source.old) (S.agrees source.new) avoided.now id lnum new.now) }
     ensures named { IfErr result (NamesFailed geometry.now (S.failed_at source.new)) }
 {
-    // The law that plans survive asks for it.
+    // The law that plans survive needs it.
     prove!(geometry.page() >= 64);
     match prepare(alloc, geometry, source, avoided, id, lnum) {
         Ok(prepared) => match avoided.not_blank(geometry, &prepared.ground.surveyed) {
@@ -266,24 +266,24 @@ pub fn plan_change_from<S: BlockSource>(
     }
 }
 
-/// The steps that give a logical eraseblock of a dynamic volume new bytes, and 0xFF behind them.
+/// The steps that give a logical eraseblock of a dynamic volume new bytes, and 0xFF after them.
 ///
-/// The new bytes are whole pages, at least one, and no more than the volume uses of a logical eraseblock. Cut after any of
-/// the steps, the image is accepted and means the old or the new.
+/// The new bytes are whole pages, at least one, and no more than the volume uses of a logical eraseblock. After any number of the
+/// steps the image is accepted, and means the old or the new.
 ///
-/// Each step fits what those before it leave. Between two erases of an eraseblock its pages are programmed in rising order,
-/// none twice but page 0, and that not three times; a program of page 0 comes right behind an erase, or keeps the bytes of
-/// the erase-counter header as they stand.
+/// Each step fits what those before it leave. Between two erases of an eraseblock its pages are programmed in ascending order,
+/// none twice except page 0, and that at most twice. A program of page 0 comes right after an erase, or keeps the bytes of the
+/// erase-counter header as they stand.
 ///
-/// The steps touch only the winner of the logical eraseblock, if it has one, and the first of the eraseblocks that may be
-/// taken: one if it has a winner, else two. An eraseblock that alone names the image, by its image sequence number, isn't taken.
+/// The steps touch only the winner of the logical eraseblock, if it has one, and the first of the eraseblocks that may be taken:
+/// one if it has a winner, and two if not. An eraseblock that alone names the image, by its image sequence number, isn't taken.
 /// Once the copy is whole, they erase what is given up (the winner, or the one that is taken first), unless it can't count another
-/// erase by then, or alone names the image. Each eraseblock that is erased has at the end a Valid erase-counter header that
+/// erase by then, or alone names the image. Each eraseblock that is erased has a Valid erase-counter header at the end, which
 /// counts each erase.
 ///
 /// # Errors
 ///
-/// The first cause in the order of [`ChangeRefusal`] that stands, or `Memory`.
+/// The first cause in the order of [`ChangeRefusal`] that applies, or `Memory`.
 pub fn plan_change(
     alloc: Global,
     geometry: &Geometry,
@@ -312,7 +312,7 @@ pub fn plan_change(
         Err(PlanError::Refused(cause)) => Err(cause),
         // No read fails.
         Err(PlanError::Read(_)) => unreachable!(),
-        // None is listed.
+        // No eraseblock is listed.
         Err(PlanError::NotBlank(_)) => unreachable!(),
     }
 }

@@ -20,14 +20,14 @@ pub struct Replacement {
     pub target: Site,
     /// The volume-identifier header of the copy.
     pub header: VidHeader,
-    /// The eraseblock that wins the logical eraseblock so far.
+    /// The eraseblock that has won the logical eraseblock so far.
     pub old: Site,
-    /// The erase-counter header that the old eraseblock has by then.
+    /// The erase-counter header that the old eraseblock then has.
     pub old_ec: Option<EcHeader>,
 }
 
-/// The erase-counter header that an erase puts in the place of another: its counter is one above that, or the mean where
-/// there is none.
+/// The erase-counter header after an erase: its counter is one above that of the header before, or the mean if there was
+/// none.
 fn next_ec(scan: &Scan, old: Option<EcHeader>) -> EcHeader
     requires { IfSome old (λ header. header.counter ≤ 2 ^ 31) }
     ensures { result ≡ next_ec scan.now old }
@@ -55,7 +55,7 @@ pub fn ready_ec(scan: &Scan, site: &Site) -> Option<EcHeader>
     }
 }
 
-/// Adds an erase, and the program of an erase-counter header.
+/// Adds an erase, and the program of a rewritten erase-counter header.
 fn push_renew(
     alloc: Global,
     steps: &mut Vec<Step>,
@@ -75,7 +75,7 @@ fn push_renew(
     Ok(())
 }
 
-/// Adds the program of a volume-identifier header, behind the erase-counter header with these bytes.
+/// Adds the program of a volume-identifier header, after the erase-counter header with these bytes.
 fn push_header(
     alloc: Global,
     steps: &mut Vec<Step>,
@@ -96,7 +96,7 @@ fn push_header(
     Ok(())
 }
 
-/// Adds the programs of the pages of a text, from the data offset on.
+/// Adds the programs of the pages of some contents, from the data offset on.
 fn push_text(
     alloc: Global,
     steps: &mut Vec<Step>,
@@ -149,8 +149,8 @@ pub fn push_mount(
     )
 }
 
-/// Adds the erase of an old winner, whose erase-counter header is this by then. One that can't count it, or is the only one
-/// that names the image, is left.
+/// Adds the erase of an old winner, which then has this erase-counter header. The winner is left if it can't count the
+/// erase, or is the only one that names the image.
 fn push_release(
     alloc: Global,
     steps: &mut Vec<Step>,
@@ -168,7 +168,7 @@ fn push_release(
     push_renew(alloc, steps, geometry, site.pnum, &next_ec(scan, ec))
 }
 
-/// Adds a copy with this text, and the erase of the old winner behind it.
+/// Adds a copy with these contents, and then the erase of the old winner.
 pub fn push_copy(
     alloc: Global,
     steps: &mut Vec<Step>,

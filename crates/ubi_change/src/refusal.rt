@@ -9,8 +9,8 @@ use std::error::Error;
 use std::fmt;
 use ubi_media::Refusal;
 
-/// Why a change isn't planned: the first cause that stands, in this order. `Memory` may come at any growth, whatever else
-/// stands.
+/// Why a change isn't planned: the first cause that applies, in this order. `Memory` may come at any allocation, whatever
+/// else applies.
 #[derive(Clone, Copy, Debug, PartialEq, Eq)]
 pub enum ChangeRefusal {
     /// The image is refused, for this cause.
@@ -19,18 +19,18 @@ pub enum ChangeRefusal {
     NoVolume,
     /// The volume is static.
     StaticVolume,
-    /// An update of the volume began that didn't end.
+    /// An update of the volume began and didn't end.
     Updating,
     /// The volume doesn't reserve the logical eraseblock.
     OutOfRange,
-    /// There are no new bytes, or they aren't whole pages, or they are more than the volume uses of a logical eraseblock.
+    /// There are no new bytes, they aren't whole pages, or they are more than the volume uses of a logical eraseblock.
     BadLength,
-    /// The first pages of the new bytes, as many as this, and then 0xFF, aren't the new bytes and yet have their check: a cut
-    /// behind these pages couldn't be told from the whole. The number is the least such one.
+    /// The first pages of the new bytes, as many as this, and then 0xFF, aren't the new bytes but have the same CRC: after a
+    /// cut there the copy would look whole. The number is the least such one.
     WeakCheck(u32),
     /// The sequence numbers that the plan needs would pass 2^64 - 1.
     Exhausted,
-    /// Fewer eraseblocks can be taken than the plan needs: one if the logical eraseblock has a winner, else two.
+    /// Fewer eraseblocks can be taken than the plan needs: one if the logical eraseblock has a winner, and two if not.
     NoFree,
     /// Memory ran out.
     Memory,

@@ -9,21 +9,21 @@ use std::error::Error;
 use std::fmt;
 use ubi_media::Refusal;
 
-/// Why a rename isn't planned: the first cause that stands, in this order. `Memory` may come at any growth, whatever else
-/// stands.
+/// Why a rename isn't planned: the first cause that applies, in this order. `Memory` may come at any allocation, whatever
+/// else applies.
 #[derive(Clone, Copy, Debug, PartialEq, Eq)]
 pub enum RenameRefusal {
     /// The image is refused, for this cause.
     Attach(Refusal),
     /// The volume has no record.
     NoVolume,
-    /// The bytes are no name: none, more than 127, or one of them zero.
+    /// The bytes aren't a name: there are none, there are more than 127, or one of them is zero.
     BadName,
     /// Another volume has the name: its slot.
     SameName(u32),
     /// The two copies of the volume table aren't both good with equal tables.
     NeedsRepair,
-    /// The first pages of the new table, as many as this, and then 0xFF, aren't the new table and yet have its check. The
+    /// The first pages of the new table, as many as this, and then 0xFF, aren't the new table but have the same CRC. The
     /// number is the least such one.
     WeakCheck(u32),
     /// The two sequence numbers that the plan needs would pass 2^64 - 1.

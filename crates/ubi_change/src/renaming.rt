@@ -61,7 +61,7 @@ fn prepare<S: BlockSource>(
     Ok(Renamable { ground, holders })
 }
 
-/// The steps that write both copies anew, each followed by the erase of the eraseblock that held it.
+/// The steps that rewrite both copies. Each is followed by the erase of the eraseblock that held it.
 fn two_copies(
     alloc: Global,
     geometry: &Geometry,
@@ -98,7 +98,7 @@ fn two_copies(
 ///
 /// # Errors
 ///
-/// The first cause that stands but for `Attach`, or `Memory`.
+/// The first cause that applies, except `Attach`, or `Memory`.
 fn rename_steps(
     alloc: Global,
     geometry: &Geometry,
@@ -112,7 +112,7 @@ fn rename_steps(
     ensures refused { IfErr result (IsUnrenamed geometry.now renamable.now id name.now) }
 {
     let Ground { surveyed, taken } = &renamable.ground;
-    // By the limits of the geometry the pages lie in an eraseblock.
+    // By the limits of the geometry, the pages fit into an eraseblock.
     prove!(geometry.page() >= 64);
     let new = renamed_pages(alloc, geometry, surveyed.table(), id, name)?;
     let Some(holders) = renamable.holders else {
@@ -140,16 +140,16 @@ fn unread(error: StreamError) -> PlanError<RenameRefusal>
     }
 }
 
-/// The steps of [`plan_rename`] for the image of a source, of which one eraseblock is held at a time.
+/// The steps of [`plan_rename`] for the image of a source. One of its eraseblocks is held at a time.
 ///
-/// Each eraseblock that a step changes lies in the source, and a page that is programmed lies in its eraseblock. Whatever
-/// the source may hold after the reads that it answered, the steps are those for that image. None of them touches what is
+/// Each eraseblock that a step changes lies in the source, and a page that is programmed lies in its eraseblock. The
+/// steps are right for whatever image the source may hold after the reads that it answered. None of them touches what is
 /// avoided.
 ///
 /// # Errors
 ///
-/// The first cause in the order of [`RenameRefusal`] that stands, or `Memory`; or Read where a read failed; or
-/// NotBlank where a listed eraseblock isn't Blank.
+/// The first cause in the order of [`RenameRefusal`] that applies, or `Memory`; or `Read` if a read failed; or `NotBlank`
+/// if a listed eraseblock isn't Blank.
 pub fn plan_rename_from<S: BlockSource>(
     alloc: Global,
     geometry: &Geometry,
@@ -164,7 +164,7 @@ pub fn plan_rename_from<S: BlockSource>(
     ensures refused { IfErr result (IsRenameError geometry.now (S.known source.old) (S.agrees source.new) avoided.now id name.now) }
     ensures named { IfErr result (NamesFailed geometry.now (S.failed_at source.new)) }
 {
-    // The law that plans survive asks for it.
+    // The law that plans survive needs it.
     prove!(geometry.page() >= 64);
     match prepare(alloc, geometry, source, avoided) {
         Ok(renamable) => match avoided.not_blank(geometry, &renamable.ground.surveyed) {
@@ -181,23 +181,23 @@ pub fn plan_rename_from<S: BlockSource>(
     }
 }
 
-/// The steps that give a volume another name: both copies of the volume table are written anew, copy 0 first, each on an
-/// eraseblock that may be taken, and each is followed by the erase of the eraseblock that held it.
+/// The steps that give a volume another name. They rewrite both copies of the volume table, copy 0 first, each to an eraseblock
+/// that may be taken, and then erase the eraseblock that held the copy.
 ///
-/// The name is 1 to 127 bytes without zero; it may be the one that the volume has. Cut after any of the steps, the image is
-/// accepted and means the old or the renamed, and each volume reads as before. At the end both copies are good.
+/// The name is 1 to 127 bytes without zero; it may be the one that the volume has. After any number of the steps the image is
+/// accepted, it means the old or the renamed, and each volume reads as before. At the end both copies are good.
 ///
 /// Each step fits what those before it leave, and the pages of an eraseblock are programmed in order, as by
 /// [`crate::plan_change`]. The steps touch only the eraseblocks that hold the copies and the first two of those that may be
-/// taken. What holds a copy is erased once the new one is good, unless it can't count another erase or is the only eraseblock
-/// that names the image. Each eraseblock that is erased has at the end a Valid erase-counter header that counts each erase.
+/// taken. The holder of a copy is erased once the new one is good, unless it can't count another erase or is the only eraseblock
+/// that names the image. Each eraseblock that is erased has a Valid erase-counter header at the end, which counts each erase.
 ///
-/// A cut between the copies leaves two tables that differ, unless the name is the old one. What it left can't be renamed
-/// (`NeedsRepair`) until they are made equal, as Linux makes them when it attaches.
+/// A cut between the copies leaves two tables that differ, unless the name is the old one. The image that it leaves can't be
+/// renamed (`NeedsRepair`) until they are made equal, as Linux makes them when it attaches.
 ///
 /// # Errors
 ///
-/// The first cause in the order of [`RenameRefusal`] that stands, or `Memory`.
+/// The first cause in the order of [`RenameRefusal`] that applies, or `Memory`.
 pub fn plan_rename(
     alloc: Global,
     geometry: &Geometry,
@@ -227,7 +227,7 @@ pub fn plan_rename(
         Err(PlanError::Refused(cause)) => Err(cause),
         // No read fails.
         Err(PlanError::Read(_)) => unreachable!(),
-        // None is listed.
+        // No eraseblock is listed.
         Err(PlanError::NotBlank(_)) => unreachable!(),
     }
 }

@@ -13,7 +13,7 @@ use ubi_media::{EcHeader, EcRead, Geometry, read_ec};
 use ubi_scan::{BlockSource, StreamError, read_part};
 use ubi_volume::{BlockState, is_blank_part};
 
-/// The bytes of an erase-counter header.
+/// The size of an erase-counter header in bytes.
 const HEADER_SIZE: usize = 64;
 
 /// What a plan has to know of an eraseblock.
@@ -23,13 +23,13 @@ pub struct Site {
     pub pnum: u32,
     /// The bytes of its erase-counter header, as they stand.
     pub ec_area: [u8; HEADER_SIZE],
-    /// That header, None where it is blank or corrupt.
+    /// That header, `None` if it is blank or corrupt.
     pub ec: Option<EcHeader>,
-    /// Whether it needs no erase before it is written: it is free, and blank but for its erase-counter header.
+    /// Whether it needs no erase before it is written: it is free, and blank except for its erase-counter header.
     pub is_clean: bool,
 }
 
-/// The header that was read, None where it is blank or corrupt.
+/// The header that was read, `None` if it is blank or corrupt.
 fn valid_ec(read: EcRead) -> Option<EcHeader>
     ensures { result ≡ valid_ec read }
 {
@@ -46,8 +46,8 @@ fn is_free(state: BlockState) -> bool
     matches!(state, BlockState::Free)
 }
 
-/// Whether an eraseblock is free and blank but for its erase-counter header. The buffer has the size of an eraseblock, here
-/// and below.
+/// Whether an eraseblock is free, and blank except for its erase-counter header. The buffer has the size of an eraseblock,
+/// here and below.
 fn is_clean<S: BlockSource>(
     geometry: &Geometry,
     source: &mut S,
@@ -81,7 +81,7 @@ fn is_clean<S: BlockSource>(
 ///
 /// # Errors
 ///
-/// Read where a read failed, with the count 0.
+/// `Read` if a read failed, with the count 0.
 pub fn read_site<S: BlockSource>(
     geometry: &Geometry,
     source: &mut S,

@@ -18,7 +18,7 @@ pub enum Sites {
         /// The winner.
         old: Site,
     },
-    /// The logical eraseblock has none.
+    /// The logical eraseblock has no winner.
     Unmapped {
         /// The eraseblock that gets a blank one first.
         first: Site,

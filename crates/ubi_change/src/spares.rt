@@ -17,7 +17,7 @@ pub struct Spares {
     pub second: Site,
 }
 
-/// The eraseblocks that a rename takes, where two sequence numbers are left: the first two that may be taken.
+/// The eraseblocks that a rename takes, if two sequence numbers are left: the first two that may be taken.
 ///
 /// # Errors
 ///

@@ -5,7 +5,7 @@ ghost use Rattle.ubi_change.specs.Steps.{target};
 
 use ubi_volume::Bytes;
 
-/// One step: an eraseblock erased, or a page of it programmed.
+/// One step: it erases an eraseblock, or programs a page of it.
 #[derive(Debug, Drop, PartialEq)]
 pub enum Step {
     /// The eraseblock becomes 0xFF throughout.

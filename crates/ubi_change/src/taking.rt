@@ -18,7 +18,7 @@ use ubi_volume::{BlockState, Surveyed};
 /// The greatest erase counter.
 const LARGEST_COUNTER: u32 = 0x7FFF_FFFF;
 
-/// The first two of some eraseblocks, as far as there are so many.
+/// The first two of some eraseblocks, if there are so many.
 #[derive(Clone, Copy)]
 pub struct FirstTwo {
     /// The first.
@@ -28,13 +28,13 @@ pub struct FirstTwo {
 }
 
 impl FirstTwo {
-    /// Those of no eraseblock.
+    /// The first two of no eraseblock.
     const NONE: FirstTwo = FirstTwo {
         first: None,
         second: None,
     };
 
-    /// Those of one eraseblock more.
+    /// The first two with one more eraseblock.
     fn with(self, site: Site) -> FirstTwo
         ensures { result ≡ with_next self site }
     {
@@ -51,7 +51,7 @@ impl FirstTwo {
         }
     }
 
-    /// Those of these eraseblocks and then others.
+    /// The first two of these eraseblocks followed by others.
     fn followed_by(self, others: FirstTwo) -> FirstTwo
         ensures { result ≡ joined self others }
     {
@@ -69,14 +69,14 @@ impl FirstTwo {
 /// The first two eraseblocks of both kinds that may be taken.
 #[derive(Clone, Copy)]
 struct Parted {
-    /// Of those that are clean.
+    /// The first two that are clean.
     clean: FirstTwo,
-    /// Of those that aren't.
+    /// The first two that aren't.
     other: FirstTwo,
 }
 
 impl Parted {
-    /// Those of one eraseblock more, if it may be taken.
+    /// The first two of both kinds with one more eraseblock, if it may be taken.
     fn with(self, site: Option<Site>) -> Parted
         ensures { result ≡ parted_with self site }
     {
@@ -139,16 +139,16 @@ fn is_sole_carrier(scan: &Scan, site: &Site) -> bool
     }
 }
 
-/// Whether an eraseblock, whose erase-counter header is this by then, is never erased: it can't count another erase, or it
-/// is the only one that names the image.
+/// Whether an eraseblock that then has this erase-counter header is never erased: it can't count another erase, or it is
+/// the only one that names the image.
 pub fn stays(scan: &Scan, site: &Site, ec: Option<EcHeader>) -> bool
     ensures { result ≡ stays_on scan.now site.now ec }
 {
     is_worn(ec) || is_sole_carrier(scan, site)
 }
 
-/// An eraseblock that may be taken: nothing is lost with it, it isn't avoided, and it can be erased. None where it may not. The buffer has the
-/// size of an eraseblock, here and below.
+/// An eraseblock that may be taken: nothing is lost with it, it isn't avoided, and it can be erased. `None` if it may not. The
+/// buffer has the size of an eraseblock, here and below.
 fn takeable_site<S: BlockSource>(
     geometry: &Geometry,
     source: &mut S,
@@ -179,12 +179,12 @@ fn takeable_site<S: BlockSource>(
     }
 }
 
-/// The first two of the eraseblocks that may be taken: the clean ones first, and each of both kinds by rising number. They
-/// are read until two clean ones are found.
+/// The first two of the eraseblocks that may be taken: the clean ones first, and each kind in ascending order. They are read
+/// until two clean ones are found.
 ///
 /// # Errors
 ///
-/// Read where a read failed, with the count 0.
+/// `Read` if a read failed, with the count 0.
 pub fn first_takeable<S: BlockSource>(
     geometry: &Geometry,
     source: &mut S,

@@ -13,14 +13,14 @@ pub struct Target {
     pub id: u32,
     /// The number of the logical eraseblock.
     pub lnum: u32,
-    /// What is to be done with the volume where it isn't known: 0 of a user's.
+    /// What has to be done with the volume if it isn't known: 0 for a user's.
     pub compat: u8,
-    /// The bytes that the volume leaves free at the end of each logical eraseblock.
+    /// How many bytes the volume leaves free at the end of each logical eraseblock.
     pub data_pad: u32,
 }
 
 impl Target {
-    /// The one that holds a copy of the volume table.
+    /// The logical eraseblock that holds a copy of the volume table.
     pub fn of_table(copy: u32) -> Target
         ensures { result ≡ table_target copy }
     {
@@ -42,7 +42,7 @@ impl Target {
         }
     }
 
-    /// The header of a copy of a text.
+    /// The header of a copy with these contents.
     pub fn copy_header(&self, sqnum: u64, new: &[u8]) -> VidHeader
         requires { length new.now < 2 ^ 31 }
         ensures { result ≡ copy_header self.now.compat self.now.data_pad self.now.id self.now.lnum sqnum new.now }

@@ -1,4 +1,4 @@
-//! Whether a copy that is cut short can be told from the whole by its check.
+//! Whether the CRC of a copy that is cut short shows the cut.
 
 ghost use Rattle.std.specs.Prelude.{◌≡◌, ◌==◌, ◌%◌, ◌^◌, ◌<◌, ◌&&◌, length, not};
 ghost use Rattle.ubi_change.specs.Weak.{weak_place};
@@ -7,13 +7,13 @@ ghost use Rattle.ubi_media.specs.Fields.{blank, is_blank};
 
 use ubi_media::{Geometry, crc, crc_more, is_blank};
 
-/// The check of no byte.
+/// The CRC of no byte.
 const START: u32 = 0xFFFF_FFFF;
 
-/// Bytes as an erase leaves them. Each page is a multiple of so many.
+/// Bytes as an erase leaves them. Each page is a multiple of this many.
 const BLANK: [u8; 64] = [0xFF; 64];
 
-/// The check of bytes that go on with as many bytes 0xFF: `state` is the check of what comes before.
+/// The CRC of bytes that go on with `count` bytes 0xFF: `state` is the CRC of what comes before.
 fn check_with_blank(state: u32, count: usize) -> u32
     requires { count % 64 ≡ 0 }
     ensures { result ≡ check_from state (blank count) }
@@ -25,8 +25,8 @@ fn check_with_blank(state: u32, count: usize) -> u32
     register
 }
 
-/// Whether bytes whose front has the check `front`, and with it and `rest` together `whole`, have that check also with
-/// 0xFF in the place of `rest`, and are others then.
+/// Whether bytes have the same CRC with 0xFF in place of `rest`, and aren't 0xFF there. Their front has the CRC
+/// `front`, and front and `rest` together have `whole`.
 fn is_weak(front: u32, rest: &[u8], whole: u32) -> bool
     requires { length rest.now % 64 ≡ 0 }
     ensures { result ≡ (not (is_blank rest.now) && (check_from front (blank (length rest.now)) == whole)) }
@@ -34,12 +34,12 @@ fn is_weak(front: u32, rest: &[u8], whole: u32) -> bool
     !is_blank(rest) && check_with_blank(front, rest.len()) == whole
 }
 
-/// The least number of pages, below all, that with 0xFF behind them aren't the new bytes and yet have their check. None
-/// where there is none.
+/// The least number of pages, below all, that with 0xFF after them aren't the new bytes but have the same CRC. `None` if
+/// there is none.
 ///
-/// It takes time by the square of the number of pages: for each that isn't blank from there on, the check of as many bytes
-/// 0xFF as are left. Of a logical eraseblock with 64 pages these are 32 times its bytes; with 2^18 pages of 64 bytes, which
-/// no device has, 2^41 bytes.
+/// Its time grows with the square of the number of pages. For each number from which on the bytes aren't blank, it takes
+/// the CRC of as many bytes 0xFF as are left. For a logical eraseblock with 64 pages these are 32 times its bytes; with
+/// 2^18 pages of 64 bytes, which no device has, 2^41 bytes.
 pub fn weak_place(geometry: &Geometry, new: &[u8]) -> Option<u32>
     requires paged { length new.now % geometry.now.page ≡ 0 }
     requires short { length new.now < 2 ^ 32 }

@@ -1,4 +1,4 @@
-//! The image of a source after steps, into a writer.
+//! The image of a source after steps, written to a writer.
 
 ghost use Rattle.std.specs.Prelude.{◌≡◌, ◌+◌, ◌^◌, ◌<◌, ℕ, IfErr, IfOk, length};
 ghost use Rattle.ubi_change.specs.Fitting.{AllWithin};
@@ -16,12 +16,12 @@ use ubi_media::Geometry;
 use ubi_scan::{BlockSource, StreamError, read_part};
 use ubi_volume::write_all;
 
-/// Writes an eraseblock after those of the steps that change it. Gives how many bytes are written then; `done` of them were
-/// written before.
+/// Writes an eraseblock after those of the steps that change it. Returns how many bytes are now written; `done` of them
+/// were written before.
 ///
 /// # Errors
 ///
-/// The read failed, or a write.
+/// The read failed, or a write did.
 fn write_block<S: BlockSource, W: Write>(
     geometry: &Geometry,
     source: &mut S,
@@ -54,13 +54,13 @@ fn write_block<S: BlockSource, W: Write>(
     }
 }
 
-/// Writes the image of a source after the steps, and gives how many bytes that are. One eraseblock is held at a time, in a
-/// buffer of its size; no other memory is taken, and each eraseblock is read once.
+/// Writes the image of a source after the steps, and returns how many bytes that is. One eraseblock is held at a time, in
+/// a buffer of its size. No other memory is allocated, and each eraseblock is read once.
 ///
 /// # Errors
 ///
-/// Read where a read failed, and Write where a write failed: the writer received the first of the bytes then, and they say
-/// how many.
+/// `Read` if a read failed, and `Write` if a write failed: the writer then received the first of the bytes, and the
+/// error says how many.
 pub fn write_after<S: BlockSource, W: Write>(
     geometry: &Geometry,
     source: &mut S,

@@ -1,4 +1,4 @@
--- What is composed of a text, and listed of that.
+-- What is composed from a text, and what is listed of that.
 use Rattle.ubi_commands.proofs.Prelude.{Accepts, Accepts-unique, Answer, ComesTo, Composes, ComposesOf, Gives, Image, List, Lists, MeaningCause, Meant, Ok, Outcome, Sizes, Some, SpecCause, ap, arith, fits, image_of, list_lines, meaning_line, never_accepted_and_refused, one_first, option_map, same_Some, says, spec_line, subst, sym, volumes_of, ℕ, ◌∙◌, ◌≡◌}
 use Rattle.ubi_commands.specs.Compose.{crowded, described, unmade, unread}
 use Rattle.ubi_commands.specs.List.{accepted, refused}

@@ -1,4 +1,4 @@
--- What is told of a part of a file, of whatever the source over it may hold.
+-- What is found in a part of a file, whatever the source over it may hold.
 use Rattle.ubi_commands.proofs.Prelude.{List, ℕ, subst, sym, AreDetectedOf, IsDetectError, Agreed, IsSource, Source, Detected, Undetected, Gives, says, Detects, detected, undetected, Outcome, FilePart, undetected_told, geometry_told, Format}
 use Rattle.ubi_detect.specs.declared.detect.DetectError.TheVariants as error
 

@@ -1,4 +1,4 @@
--- What a change or a rename of a source answers: what its file means, of an image in memory, and into a file.
+-- What a change or a rename of a source answers: what its file means, for an image in memory, and into a file.
 use Rattle.ubi_commands.proofs.Prelude.{◌≡◌, ℕ, inr, List, [], ◌++◌, length, ap, arith, sym, take, true≢false, ◌∙◌, subst, refl, IfErr, IfOk, OnOk, Option, Result, Ok, Err, codes, AllocError, take_all, IfOk-at_ok, Sizes, image_of, Agreed, Narrows, Source, WhereHeld, holds, memory, still, All, Wrote, Avoided, nothing, changed, turn, programmed, IsPlanned, renamed_pages, IsPlannedRename, renamed, Step, shown_name, Gives, says, Changes, ChangesFrom, CutMeans, HasPlan, IsChangeFault, refused_line, AreCut, HasFile, IsCarryFault, cut_bytes, cut_text, plan_answer, plan_lines, refused_file, steps_done, CutIsNamed, HasRename, IsRenameFault, Renames, RenamesFrom, Outcome, ToolError}
 use Rattle.std.specs.Prelude.{Some}
 use Rattle.ubi_change.proofs.Unplanned as planning

@@ -1,4 +1,4 @@
--- How a dump is found of which the words give no geometry.
+-- How a dump without a geometry in the words is found.
 use Rattle.ubi_commands.proofs.Prelude.{◌≡◌, ◌≢◌, ◌∙◌, ◌⊎◌, ◌∷◌, [], List, inl, inr, refl, subst, sym, ℕ, ForSome, IsSomeAnd, Err, IfErr, Ok, Option, Result, codes, slice_index_or, first_broken, AreDetectedOf, Agreed, Narrows, holds, memory, Detected, Gives, says, Files, file_line, sizes_of, IsToldFirst, IsUnseen, Tells, TellsNothing, cannot_read, unreadable, Works, answered, no_source, Unread, Outcome, Dump, Tells-weaker, None}
 use Rattle.std.specs.Prelude.{Some}
 

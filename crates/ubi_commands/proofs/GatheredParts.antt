@@ -1,4 +1,4 @@
--- What the sections of a config come to.
+-- What the sections of a config give.
 use Rattle.ubi_commands.proofs.Prelude.{◌≡◌, ℕ, ◌+◌, ◌<◌, ◌^◌, List, [], ◌∷◌, ◌++◌, get_or, length, map, take, zero, suc, ap, arith, refl, subst, sym, ◌∙◌, map-append, take_more, filter_map-append, sum_by-append, AllByRecursion, cons_option, Contains, IfSome, MatchOption, Option, option_map, sum_by, unwrap_or, Sizes, Section, all_append, Part, AreBesideOut, ArePartsOf, IsNoVolume, IsSized, IsUngathered, IsUnreadLine, Sized, image_path, image_paths, len_of, part_at, Files, AreSoFar, IsFound, Outcome, IsPartOf, sum_cons, None}
 use Rattle.std.specs.Prelude.{◌≢◌, Some}
 use Rattle.ubi_commands.specs.inner.Gathering.{listed}

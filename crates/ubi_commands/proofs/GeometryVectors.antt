@@ -1,4 +1,4 @@
--- The lines of what is told of files, and of why nothing is, on literals.
+-- The lines of what is found in files, and of why nothing is, on literals.
 use Rattle.ubi_commands.proofs.Prelude.{◌≡◌, [], ◌∷◌, Some, refl, digits, Sizes, first_broken, options, options_lines, sizes_options, undetected_line, greatest, whole_file}
 use Rattle.std.proofs.Common.{None}
 use Rattle.std.proofs.Common.{codes}

@@ -1,4 +1,4 @@
--- How work ends that reads a source, and writes a file meanwhile.
+-- How work that reads a source, and writes a file meanwhile, ends.
 use Rattle.ubi_commands.proofs.Prelude.{◌≡◌, ◌≢◌, ℕ, List, ap, refl, subst, sym, ◌∙◌, IfOk-at_ok, ForSome, IfOk, IsSome, MatchResult, OnErr, Option, Result, Ok, Err, codes, is_some, AllocError, Source, WhereNotDone, after_run, Gives, says, AllStay, Files, Holds, IsKept, IsLeft, fresh, IsEnded, Works, contents_of, file_line, WritesInto, Outcome, ToolError, None}
 use Rattle.std.specs.Prelude.{Some, true}
 use Rattle.ubi_commands.specs.Program as program

@@ -1,5 +1,5 @@
--- Words that lack what a command needs are no request of it. One of the commands that read an image, and one of those that compare two, is
--- named in each list of cases, so that the last case is tried for each of the others.
+-- Words that lack what a command needs are no request of it. Each list of cases names one of the commands that read an
+-- image, and one of those that compare two, so the last case is tried for each of the others.
 use Rattle.ubi_commands.proofs.Prelude.{◌≡◌, ◌∙◌, ◌∷◌, [], Bool, List, ap, false, refl, sym, true, true≢false, ℕ, list_any, bytes_eq, bytes_eq-Decides, Row, Text, AsksAsked, AsksChange, AsksDump, AsksExtract, AsksNewImage, AsksNumbers, AsksPaths, AsksRename, HasNumber, finds, plans, IsAskedBy, Asked, Change, Dump, Extract, NewImage, Paths, Rename, Request, Numbers, AsksFormat, comparison_format, formats, Format}
 use Rattle.std.proofs.Common.{codes}
 use Rattle.ubi_commands.specs.declared.comparison.Comparison.TheVariants as comparison

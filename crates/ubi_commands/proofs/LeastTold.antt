@@ -1,4 +1,4 @@
--- Of what is told of a file the first accepts what another one does.
+-- The first of what is found in a file accepts what another one does.
 use Rattle.ubi_commands.proofs.Prelude.{◌≡◌, ℕ, List, subst, sym, Sizes, with_page, IsLesserTold, least_first, Detected, image_of, Accepts, meaning_with_page, normal_kept, IsNormalised, AreOfFirst, LeastTold, lesser_page}
 
 told_least : (bytes : List ℕ) (first other : Detected) → AreOfFirst bytes first other → IsLesserTold first other

@@ -1,4 +1,4 @@
--- What a normalising of a source tells of an image whose bytes are known, and over files.
+-- What normalising a source answers for an image whose bytes are known, and over files.
 use Rattle.ubi_commands.proofs.Prelude.{◌≡◌, ℕ, ◌/◌, List, ap, length, refl, subst, sym, ◌∙◌, IfErr-at_err, IfErr, IfOk, Option, Result, Ok, Err, IsGeometry, Sizes, Image, image_of, Agreed, Source, WhereHeld, Accepts, Meant, normal_blocks, IsStreamed, count-normal_bytes, Gives, says, blocks_line, HasMeaning, IsNormaliseError, Normalises, Outcome, ToolError}
 use Rattle.ubi_commands.specs.Normalise.{accepted, refused}
 use Rattle.ubi_files.specs.declared.outcome.ToolError.TheVariants as tool

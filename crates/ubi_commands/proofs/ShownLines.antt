@@ -1,4 +1,4 @@
--- What is shown of a source, of whatever it may hold.
+-- What is shown of a source, whatever it may hold.
 use Rattle.ubi_commands.proofs.Prelude.{◌≡◌, ℕ, ◌<◌, ◌≤◌, List, length, subst, sym, Sizes, Refusal, IsLengthFault, IsWholeSize, block, image_of, Agreed, IsSource, Source, blocks_in, blocks_of, count_blocks, Gives, says, no_block_line, refusal_line, Shows, block_lines, no_block, Outcome, shown}
 use Rattle.ubi_commands.specs.Show.{no_image}
 

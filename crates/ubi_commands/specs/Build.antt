@@ -1,4 +1,4 @@
--- What building an image of a config and of the files that it names answers.
+-- What building an image from a config and from the files that it names answers.
 use Rattle.std.specs.Prelude.{◌≡◌, ◌≢◌, ℕ, ◌+◌, ◌/◌, ◌<◌, ◌≤◌, List, [], ◌∷◌, Contains, IfSome, MatchOption, None, Option, Some, Ok, Err, codes, get_or, length, map, option_map, take, unwrap_or}
 use Rattle.std.specs.List.{AllByRecursion, filter_map}
 use Rattle.std.specs.Path.{path_with_file_name}
@@ -27,7 +27,7 @@ use Rattle.ubi_files.specs.Lines.{file_line, refused_line}
 use Rattle.ubi_files.specs.Row.{row_bytes}
 use Rattle.ubi_files.specs.declared.outcome.Outcome.{Outcome}
 
--- the line of a config's line that something is wrong with
+-- the printed line for a line of a config that has a fault
 abbrev pub config_line : ℕ → ConfigCause → List ℕ
 config_line n c = refused_line (config_error_text (error.Refused n c))
 
@@ -35,7 +35,7 @@ config_line n c = refused_line (config_error_text (error.Refused n c))
 abbrev pub image_path : List ℕ → List ℕ → List ℕ
 image_path config image = path_with_file_name config image
 
--- the paths of the image files that sections name, in their order
+-- the paths of the image files that sections name, in order
 abbrev pub image_paths : List ℕ → List Section → List (List ℕ)
 image_paths config sections = filter_map (λ (x : Section). option_map (image_path config) x.image) sections
 
@@ -43,19 +43,19 @@ image_paths config sections = filter_map (λ (x : Section). option_map (image_pa
 abbrev pub AreBesideOut : List ℕ → List ℕ → List Section → Type 0
 AreBesideOut config out sections = AllByRecursion (λ path. path ≢ out) (image_paths config sections)
 
--- the line of a file that can't be read
+-- the printed line for a file that can't be read
 abbrev pub IsUnreadLine : List ℕ → Outcome → Type 0
 IsUnreadLine path o = Gives o (says (file_line (codes "cannot read ") path) 1)
 
--- a section, and how many bytes its image file has, where it names one
+-- a section, and the size of its image file in bytes, if it names one
 abbrev pub Sized : Type 0
 Sized = Section × Option ℕ
 
--- how many bytes its volume is given
+-- how many bytes the volume of a section is given
 abbrev pub len_of : Sized → ℕ
 len_of e = unwrap_or e.1 0
 
--- the length is that of the file that the section names, where it is known what that holds; none, where it names none
+-- the length is that of the file that the section names, if it is known what that holds; there is none if it names no file
 abbrev pub IsSized : Files → List ℕ → Sized → Type 0
 IsSized d config e = MatchOption e.0.image (e.1 ≡ None)
     (λ image. (n : ℕ) × (e.1 ≡ Some n) × IfSome (d.holds (image_path config image)) (λ all. length all ≡ n))
@@ -64,14 +64,14 @@ IsSized d config e = MatchOption e.0.image (e.1 ≡ None)
 abbrev pub part_at : ℕ → Sized → VolumeRecord → Part
 part_at start e r = record { id = e.0.id; entry = r; start = start; len = len_of e }
 
--- the volumes of sections, the bytes of each behind those of the one before
+-- the volumes of sections, each with its bytes after those of the one before
 abbrev pub ArePartsOf : Sizes → ℕ → List Sized → List Part → Type 0
 ArePartsOf s start [] [] = Unit {0}
 ArePartsOf s start (e ∷ es) (p ∷ ps) =
     (r : VolumeRecord) × (record_in s e.0 e.1 ≡ Ok r) × (p ≡ part_at start e r) × ArePartsOf s (start + len_of e) es ps
 ArePartsOf s start _ _ = ⊥
 
--- what sections come to: their volumes, and what the files hold that have their bytes, in their order
+-- what sections give: their volumes, and what the files with their bytes hold, in order
 pub record AreGathered (d : Files) (s : Sizes) (config : List ℕ) (xs : List Section) (ps : List Part)
     (bytes : List (Option (List ℕ))) : Type 0 where
   pub sized : List Sized
@@ -84,8 +84,8 @@ pub record AreGathered (d : Files) (s : Sizes) (config : List ℕ) (xs : List Se
 abbrev pub numbered : Sizes → ℕ → List Part → Parts
 numbered s seq parts = record { sizes = s; image_seq = seq; of = parts }
 
--- why a section comes to no volume: the line of its image file, which can't be read, which the output may not be either, or whose
--- path isn't text; or that of the section, which gives no record to a file of that size
+-- why a section gives no volume: the line of its image file, which can't be read, or is the output file, or has a path that isn't
+-- text; or the line of the section, which gives no record for a file of that size
 pub data IsNoVolume (d : Files) (s : Sizes) (config : List ℕ) (x : Section) : Outcome → Type 0 where
   no_image : {o : Outcome} (image : List ℕ) → x.image ≡ Some image → IsUnreadLine (image_path config image) o
       → IsNoVolume d s config x o
@@ -94,7 +94,7 @@ pub data IsNoVolume (d : Files) (s : Sizes) (config : List ℕ) (x : Section) : 
   no_record : {o : Outcome} (len : Option ℕ) (c : ConfigCause) → IsSized d config (x, len) → record_in s x len ≡ Err c
       → Gives o (says (config_line x.line c) 1) → IsNoVolume d s config x o
 
--- why sections come to no volumes: why one of them doesn't, where all before it do
+-- why sections give no volumes: why one of them gives none, when all before it do
 pub record IsUngathered (d : Files) (s : Sizes) (config : List ℕ) (xs : List Section) (o : Outcome) : Type 0 where
   pub at : ℕ
   pub inside : at < length xs
@@ -108,9 +108,9 @@ pub record HaveImage (ps : Parts) (spares : ℕ) : Type 0 where
   pub meaning : HaveMeaning ps
   pub room : most_blocks ps + spares ≤ ps.sizes.pebs
 
--- what the volumes are answered, and what becomes of the files: how many eraseblocks the image has, which the output received,
--- whatever the files hold that agrees with what was read of them; the line of volumes that have no meaning together, of a device
--- that is too small for them, of a file that can't be read, or of an output that can't be written
+-- what is answered for the volumes, and what becomes of the files: how many eraseblocks the image has, which the output
+-- received, whatever the files hold that agrees with what was read of them; or the line of volumes that have no meaning
+-- together, of a device that is too small for them, of a file that can't be read, or of an output that can't be written
 pub data BuildsParts (d e : Files) (config out : List ℕ) (sections : List Section) (ps : Parts) (held : Option (List ℕ)) (spares : ℕ)
     : Outcome → Type 0 where
   unmade : {o : Outcome} (c : MeaningCause) → IsRecipeError ps.sizes ps.of (recipe.Refused c) → Gives o (says (meaning_line c) 1)
@@ -126,7 +126,7 @@ pub data BuildsParts (d e : Files) (config out : List ℕ) (sections : List Sect
   unwritten : {o : Outcome} → HaveImage ps spares → Gives o (says (file_line (codes "cannot write ") out) 1)
       → BuildsParts d e config out sections ps held spares o
 
--- what the command answers of a config, and what becomes of the files
+-- what the command answers for a config, and what becomes of the files
 pub data Builds (d e : Files) (config out : List ℕ) (s : Sizes) (text : List ℕ) (spares seq : ℕ) : Outcome → Type 0 where
   faulty : {o : Outcome} (n : ℕ) (c : ConfigCause) → first_fault text ≡ Some (n, c) → Gives o (says (config_line n c) 1)
       → AllStay d e → Builds d e config out s text spares seq o

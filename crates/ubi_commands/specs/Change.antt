@@ -23,19 +23,19 @@ use Rattle.ubi_files.specs.declared.outcome.Outcome.{Outcome}
 use Rattle.ubi_files.specs.declared.outcome.ToolError.{ToolError}
 use Rattle.ubi_files.specs.declared.outcome.ToolError.TheVariants as tool
 
--- the line of a change that isn't planned; memory that ran out has none
+-- the line of a change that isn't planned; there is none if memory ran out
 abbrev pub cause_line : ChangeRefusal → Option (List ℕ)
 cause_line refusal.Memory = None
 cause_line c = Some (refused_line (change_refusal_text c))
 
--- the image after the first k steps is accepted: before the turn it means what it meant before them, and from the turn on
--- that with the new bytes
+-- the image after the first k steps is accepted: before the commit point it means what it meant at first, and from it on
+-- the same with the new bytes
 abbrev pub CutMeans : Image → ℕ → ℕ → List ℕ → List Step → ℕ → Type 0
 CutMeans image id lnum new steps k =
     (m : Meant) × Accepts image m × CutAccepts image steps (turn image.sizes steps new) m (changed m id lnum new) k
 
--- what the command answers of an image: that of the plan, and what its file means; or the line of the cause for which
--- nothing is planned
+-- what the command answers for an image: the answer of the plan, and what its file means; or the line of the cause for
+-- which nothing is planned
 pub data Changes (image : Image) (id lnum : ℕ) (new : List ℕ) (stop : Option ℕ) : Outcome → Type 0 where
   planned : {o : Outcome} (steps : List Step) → IsPlanOf image nothing id lnum new steps → Gives o (plan_answer image steps stop)
       → CutMeans image id lnum new steps (steps_done steps stop) → Changes image id lnum new stop o
@@ -43,9 +43,9 @@ pub data Changes (image : Image) (id lnum : ℕ) (new : List ℕ) (stop : Option
       → Gives o (says line 1) → Changes image id lnum new stop o
 
 module _ (av : Avoided) (id lnum : ℕ) (new : List ℕ) (stop : Option ℕ) (s : Sizes) (k : Source) (agrees : Agreed) where
-  -- what it answers of a source: the lines of a plan that avoids some eraseblocks, with the pages that the steps done program;
-  -- and, whatever the source may hold, the writer received what the file holds. Or the line of the cause for which nothing is
-  -- planned, or of a listed eraseblock that isn't blank, and the writer received nothing
+  -- what it answers for a source: the lines of a plan that avoids some eraseblocks, with the pages that the steps done
+  -- program; and the writer received what the file holds, whatever the source may hold. Or the line of the cause for which
+  -- nothing is planned, or of a listed eraseblock that isn't blank, and the writer received nothing
   pub data ChangesFrom (pages : List ℕ) (old now : Option (List ℕ)) : Outcome → Type 0 where
     planned_from : {o : Outcome} (steps : List Step) → IsPlanned s k agrees av id lnum new steps
         → Gives o (says (plan_lines steps) 0) → pages ≡ programmed (take (steps_done steps stop) steps)
@@ -56,7 +56,7 @@ module _ (av : Avoided) (id lnum : ℕ) (new : List ℕ) (stop : Option ℕ) (s 
     not_blank_from : {o : Outcome} (p : ℕ) → IsChangeError s k agrees av id lnum new (error.NotBlank p)
         → Gives o (says (not_blank_line p) 1) → Keeps old now → ChangesFrom pages old now o
 
-  -- why it answers nothing: memory ran out, and the writer received nothing; or a read or a write failed, and it received
+  -- why there is no answer: memory ran out, and the writer received nothing; or a read or a write failed, and it received
   -- the first of what the plan leaves
   abbrev pub IsChangeFault : Option (List ℕ) → Option (List ℕ) → ToolError → Type 0
   IsChangeFault old now tool.Memory = Keeps old now

@@ -1,4 +1,4 @@
--- What is counted of the eraseblocks of an image.
+-- How the eraseblocks of an image are counted.
 use Rattle.std.specs.Prelude.{ℕ, List, [], ◌∷◌, ◌++◌, codes, decimal, length}
 use Rattle.std.specs.List.{flat_map}
 use Rattle.ubi_media.specs.declared.refusal.Refusal.{Refusal}
@@ -20,7 +20,7 @@ use Rattle.ubi_commands.specs.declared.format.Format.{Format}
 use Rattle.ubi_commands.specs.declared.format.Format.TheVariants as format
 use Rattle.ubi_files.specs.declared.outcome.Outcome.{Outcome}
 
--- a number behind its word
+-- a number after its word
 abbrev pub number_line : List ℕ → ℕ → List ℕ
 number_line word n = word ++ decimal n ++ codes "\n"
 
@@ -36,7 +36,7 @@ state_word state.Table = codes "table "
 state_word state.Used = codes "used "
 state_word state.Stale = codes "stale "
 
--- how many eraseblocks have a state
+-- the line that says how many eraseblocks have a state
 abbrev pub state_line : List BlockState → BlockState → List ℕ
 state_line states of = number_line (state_word of) (count_of states of)
 
@@ -53,23 +53,23 @@ check_lines a =
     ++ number_line (codes "top sqnum ") a.scan.top_sqnum ++ number_line (codes "image seq ") a.scan.image_seq
     ++ number_line (codes "mean counter ") a.scan.mean_ec ++ codes "accepted\n"
 
--- what is told of it in a format: those lines, or the line of its object
+-- what is printed for a survey in a format: those lines, or the line of its object
 abbrev pub check_told : Format → Seen → List ℕ
 check_told format.Text a = check_lines a
 check_told format.Json a = json_line (check_data a)
 
--- what the command answers of an image: that, or the cause of its refusal
+-- what the command answers for an image: its lines, or the cause of its refusal
 pub data Checks (format : Format) (image : Image) : Outcome → Type 0 where
   accepted : {o : Outcome} (a : Seen) → IsSurvey image a → Gives o (says (check_told format a) 0) → Checks format image o
   refused : {o : Outcome} (c : Refusal) → Refuses image c → Gives o (says (refusal_told format c) 1) → Checks format image o
 
--- what it answers of any source: what is told of what surveying it gives, or the cause of its refusal
+-- what it answers for any source: what is printed for its survey, or the cause of its refusal
 pub data ChecksFrom (format : Format) (s : Sizes) (k : Source) (agrees : Agreed) : Outcome → Type 0 where
   surveyed : {o : Outcome} (a : Seen) → IsSurveyOf s k agrees a → Gives o (says (check_told format a) 0)
       → ChecksFrom format s k agrees o
   unsurveyed : {o : Outcome} (c : Refusal) → ArePlacesError s k agrees (stream.Refused c)
       → Gives o (says (refusal_told format c) 1) → ChecksFrom format s k agrees o
 
--- what it answers of a source: whatever that may hold, it is what it answers of that image
+-- what it answers for a source: the answer for the image, whatever the source may hold
 abbrev pub ChecksOf : Format → Sizes → Source → Agreed → Outcome → Type 0
 ChecksOf format s k agrees o = ChecksFrom format s k agrees o × WhereHeld agrees (λ bytes. Checks format (image_of s bytes) o)

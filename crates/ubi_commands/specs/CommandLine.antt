@@ -27,34 +27,34 @@ use Rattle.ubi_commands.specs.declared.volume_key.VolumeKey.TheVariants as key
 abbrev pub HasText : List Row → List ℕ → Bor (List ℕ) → Type 0
 HasText words name text = first_of name words ≡ Some text.now
 
--- this is the text that they give under the name, where they give one
+-- this is the text that the words give under the name, if they give one
 abbrev pub MayHaveText : List Row → List ℕ → Option (Bor (List ℕ)) → Type 0
 MayHaveText words name text = option_map (λ t. t.now) text ≡ first_of name words
 
--- they give this number below a limit in decimal, where a plus may stand first
+-- the words give this number below a limit in decimal, where a plus may stand first
 abbrev pub HasBelow : ℕ → List Row → List ℕ → ℕ → Type 0
 HasBelow limit words name n = (digits : List ℕ)
     × (option_map without_leading_plus (one_of name words) ≡ Some digits)
     × IsNumeral 10 digits × (n ≡ digits_value 10 digits) × (n < limit)
 
--- this is the number below a limit that they give, where they give one
+-- this is the number below a limit that the words give, if they give one
 abbrev pub MayHaveBelow : ℕ → List Row → List ℕ → Option ℕ → Type 0
 MayHaveBelow limit words name number = (n : ℕ) → (number ≡ Some n) ↔ HasBelow limit words name n
 
--- they give this number of 32 bits
+-- the words give this number of 32 bits
 abbrev pub HasNumber : List Row → List ℕ → ℕ → Type 0
 HasNumber words name n = HasBelow (2 ^ 32) words name n
 
--- this is the number of 32 bits that they give, where they give one
+-- this is the number of 32 bits that the words give, if they give one
 abbrev pub MayHaveNumber : List Row → List ℕ → Option ℕ → Type 0
 MayHaveNumber words name number = MayHaveBelow (2 ^ 32) words name number
 
--- they give this number of 32 bits, or none, and then it is the default
+-- the words give this number of 32 bits; or they give none, and it is the default
 abbrev pub HasNumberOr : ℕ → List Row → List ℕ → ℕ → Type 0
 HasNumberOr default words name n = (number : Option ℕ) × MayHaveNumber words name number
     × (n ≡ unwrap_or number default)
 
--- this is the number of 64 bits that they give, where they give one
+-- this is the number of 64 bits that the words give, if they give one
 abbrev pub MayHaveLong : List Row → List ℕ → Option ℕ → Type 0
 MayHaveLong words name number = MayHaveBelow (2 ^ 64) words name number
 
@@ -66,13 +66,13 @@ AsksNumbers words numbers = HasNumber words (codes "peb") numbers.peb_size
     × MayHaveNumber words (codes "data") numbers.data_offset
     × MayHaveNumber words (codes "pebs") numbers.pebs
 
--- the words give this part of a file: all of it from its beginning on, where they say nothing of it
+-- the words give this part of a file: all of it from its beginning on, if they don't mention a part
 abbrev pub AsksPart : List Row → FilePart → Type 0
 AsksPart words part = (start : Option ℕ) × MayHaveLong words (codes "start") start × (part.start ≡ unwrap_or start 0)
     × MayHaveLong words (codes "length") part.length
 
--- the words give this dump: its numbers, its part of the file, how many out-of-band bytes a page has, none if they don't say, and the
--- list of its bad eraseblocks, if there is one
+-- the words give this dump: its numbers, its part of the file, how many out-of-band bytes a page has, which is none if they don't
+-- say, and the list of its bad eraseblocks, if there is one
 abbrev pub AsksDump : List Row → Dump → Type 0
 AsksDump words dump = AsksNumbers words dump.numbers
     × AsksPart words dump.part
@@ -84,26 +84,26 @@ AsksDump words dump = AsksNumbers words dump.numbers
 abbrev pub gives : List Row → List ℕ → Bool
 gives words name = is_some (first_of name words)
 
--- they say nothing of a geometry but how many eraseblocks there are
+-- the words say nothing about a geometry except how many eraseblocks there are
 abbrev pub gives_no_geometry : List Row → Bool
 gives_no_geometry words =
     not (gives words (codes "peb")) && not (gives words (codes "page")) && not (gives words (codes "vid"))
     && not (gives words (codes "data")) && not (gives words (codes "oob"))
 
--- the words give this dump of which they give no geometry: its part of the file, how many eraseblocks there are, and the list of its
--- bad eraseblocks, if there is one
+-- the words give this dump without a geometry: its part of the file, how many eraseblocks there are, and the list of its bad
+-- eraseblocks, if there is one
 abbrev pub AsksSought : List Row → Sought → Type 0
 AsksSought words sought = AsksPart words sought.part
     × MayHaveNumber words (codes "pebs") sought.pebs
     × MayHaveText words (codes "bad") sought.bad
     × ForSome sought.bad (λ list. is_block_list list.now ≡ true)
 
--- the words tell how a dump is read, or say nothing of that
+-- the words say how a dump is read, or leave that to its headers
 abbrev pub AsksAsked : List Row → Asked → Type 0
 AsksAsked words (asked.Given dump) = AsksDump words dump
 AsksAsked words (asked.Sought sought) = (gives_no_geometry words ≡ true) × AsksSought words sought
 
--- the words name this volume: by its number or by its name, and not by both
+-- the words name this volume: by its number or by its name, but not by both
 abbrev pub AsksKey : List Row → VolumeKey → Type 0
 AsksKey words (key.Id id) = HasNumber words (codes "id") id × (first_of (codes "name") words ≡ None)
 AsksKey words (key.Name name) = HasText words (codes "name") name × (first_of (codes "id") words ≡ None)
@@ -116,16 +116,16 @@ AsksPaths words paths = HasText words (codes "IMAGE") paths.image × HasText wor
 abbrev pub AsksExtract : List Row → Extract → Type 0
 AsksExtract words extract = AsksPaths words extract.paths × AsksKey words extract.key
 
--- the words give this image to make, of the file under the name
+-- the words give this image to make, from the file under the name
 abbrev pub AsksNewImage : List Row → List ℕ → NewImage → Type 0
 AsksNewImage words name new = HasText words name new.from × HasText words (codes "out") new.out
     × HasNumberOr 0 words (codes "spares") new.spares × HasNumberOr 0 words (codes "seq") new.image_seq
 
--- the words say this of Blank eraseblocks: that they are kept, or nothing
+-- the words say this about Blank eraseblocks: that they are kept, or nothing
 abbrev pub AsksBlank : List Row → Bool → Type 0
 AsksBlank words keeps = first_of (codes "blank") words ≡ then_some keeps (codes "keep")
 
--- they name this format, which is that of lines where they name none
+-- the words name this format; if they name none, it is that of lines
 abbrev pub AsksFormat : List Row → Format → Type 0
 AsksFormat words format = unwrap_or (first_of (codes "format") words) (codes "text") ≡ format_word format
 

@@ -1,4 +1,4 @@
--- The commands: a row for each, with what it takes, what its words ask, what it can be answered, and which files it leaves alone.
+-- The commands: a row for each, with what it takes, what its words ask for, what it can answer, and which files it leaves alone.
 use Rattle.std.specs.Borrow.{Bor}
 use Rattle.std.specs.Prelude.{◌≡◌, ◌∷◌, ◌++◌, [], List, None, Option, Some, codes, false, true, ℕ}
 use Rattle.clap.specs.Faults.{fault_of}
@@ -80,7 +80,7 @@ normalise = on_image false (codes "normalise") (output ∷ [])
 abbrev pub same : Shape
 same = on_image false (codes "same") (needed (record (new_rule (codes "OTHER")) { value_names = 1 }) ∷ answer_format ∷ [])
 
--- `diff`, likewise
+-- `diff`, over an image and another, with the format of the answer
 abbrev pub diff : Shape
 diff = on_image false (codes "diff") (needed (record (new_rule (codes "OTHER")) { value_names = 1 }) ∷ answer_format ∷ [])
 
@@ -94,7 +94,7 @@ change =
 abbrev pub rename : Shape
 rename = on_image true (codes "rename") (output ∷ volume ∷ needed (option (codes "name")) ∷ plan_options)
 
--- all of them, in the order of the help
+-- all commands, in the order of the help
 abbrev pub commands : List Shape
 commands =
     geometry ∷ list ∷ check ∷ show ∷ map ∷ extract ∷ unpack ∷ compose ∷ build ∷ normalise ∷ same ∷ diff ∷ change ∷ rename ∷ []
@@ -115,12 +115,12 @@ reading_command (reading.Show block) = show
 reading_command reading.Map = map
 reading_command reading.Page = map
 
--- the command that compares two images so
+-- the command that makes this comparison of two images
 abbrev pub comparing_command : Comparison → Shape
 comparing_command (comparison.Same format) = same
 comparing_command (comparison.Diff format) = diff
 
--- what its words say beside the dump and the image. A geometry and a map are asked for by requests of their own
+-- what the words of a reading command say beside the dump and the image; a geometry and a map have requests of their own
 abbrev pub AsksReading : List Row → Reading → Type 0
 AsksReading words (reading.Geometry part format) = ⊥
 AsksReading words (reading.List format) = AsksFormat words format
@@ -129,25 +129,25 @@ AsksReading words (reading.Show block) = HasNumber words (codes "block") block
 AsksReading words reading.Map = ⊥
 AsksReading words reading.Page = ⊥
 
--- what can be answered where a map is asked for: without a page, and with one, which is written
+-- what can be answered if a map is asked for: without a page, or with one, which is written
 abbrev pub AnswersMap : Files → Files → Asked → List ℕ → Option (Bor (List ℕ)) → Outcome → Type 0
 AnswersMap d e dump image None = OfAsked d e dump image MapsOf
 AnswersMap d e dump image (Some page) = PicturesInto page.now d e (OfAsked d d dump image PicturesOf)
 
--- and which files hold what they held: all but the page
+-- which files hold what they held: all but the page
 abbrev pub LeavesMap : Files → Files → List ℕ → Option (Bor (List ℕ)) → Type 0
 LeavesMap d e image None = AllStay d e
 LeavesMap d e image (Some page) = OthersStay d e page.now × Stays d e image
 
--- what is said of a request: by which command it is made; that the words give what it says; what it can be answered, of the files
--- before and after; and which of them hold what they held
+-- what is said about a request: which command makes it; that the words give what it says; what can be answered, from the files
+-- before and after; and which of these hold what they held
 pub record Said : Type 1 where
   pub command : Shape
   pub asks : List Row → Type 0
   pub answers : Files → Files → Outcome → Type 0
   pub leaves : Files → Files → Type 0
 
--- of each
+-- what is said about each request
 abbrev pub said : Request → Said
 said (request.Geometry part image format) = record {
   command = geometry;
@@ -236,7 +236,7 @@ said (request.Rename dump rename_it) =
       leaves = λ d e. PlanStays d e plan;
     }
 
--- the name of the command by which a request is made
+-- the name of the command that makes a request
 abbrev pub command_name : Request → List ℕ
 command_name r = (said r).command.name
 
@@ -244,13 +244,13 @@ command_name r = (said r).command.name
 abbrev pub Asks : List Row → Request → Type 0
 Asks words r = (said r).asks words
 
--- what a request can be answered: what its command answers, for its own numbers, paths and volume, of the files that are
--- named, as they are seen, and with what becomes of the files that are written
+-- what can be answered to a request: what its command answers, for its own numbers, paths and volume, over the files
+-- that are named, as they are seen, and with what becomes of the files that are written
 abbrev pub IsAnswerTo : Files → Files → Request → Outcome → Type 0
 IsAnswerTo d e r = (said r).answers d e
 
--- each file holds what it held, but for the one that a request writes, or those in the folder that it writes; and so does a
--- text or a file with new bytes, also where that is named for the output
+-- each file holds what it held, except the one that a request writes, or those in the folder that it writes; a text or a
+-- file with new bytes holds what it held even if it is also named for the output
 abbrev pub IsAllElse : Request → Files → Files → Type 0
 IsAllElse r d e = (said r).leaves d e
 
@@ -258,9 +258,9 @@ IsAllElse r d e = (said r).leaves d e
 abbrev pub IsRequest : Option (Text × List Row) → Request → Type 0
 IsRequest named r = (words : List Row) × (named ≡ Some (command_name r, words)) × Asks words r
 
--- the command line takes the words, the program's name first: nothing is wrong with them, they ask for no help, those of
--- `extract` name one volume, what lists bad eraseblocks is a list, `--blank` has the word `keep`, a geometry is whole or left out, and
--- `--format` has the word `text` or `json`
+-- the command line takes the words, the program's name first: they have no fault, they ask for no help, those of `extract` name one
+-- volume, what lists bad eraseblocks is a list, `--blank` has the word `keep`, a geometry is whole or left out, and `--format` has the
+-- word `text` or `json`
 abbrev pub Takes : List Text → Type 0
 Takes words = (fault_of tool words ≡ []) × Mean (subcommand_of tool words)
 
@@ -268,8 +268,8 @@ Takes words = (fault_of tool words ≡ []) × Mean (subcommand_of tool words)
 abbrev pub Requests : List Text → Request → Type 0
 Requests words r = Takes words × IsRequest (subcommand_of tool words) r
 
--- what the program can answer: nothing where the command line doesn't take the words, and else what the request that
--- they are can be answered; and no other file is changed than the one that it names
+-- what the program can answer: nothing if the command line doesn't take the words, or else what can be answered to the
+-- request that they are; and no file is changed except the one that it names
 pub data IsAnswer (words : List (List ℕ)) (d e : Files) : Outcome → Type 0 where
   wrong_words : {o : Outcome} → (Takes words → ⊥) → Gives o (says [] 2) → AllStay d e → IsAnswer words d e o
   answered : {o : Outcome} (request : Request) → Requests words request → IsAnswerTo d e request o → IsAllElse request d e

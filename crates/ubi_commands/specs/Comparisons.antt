@@ -1,4 +1,4 @@
--- What the commands answer that compare two images: `same` and `diff`.
+-- What the commands that compare two images answer: `same` and `diff`.
 use Rattle.std.specs.Prelude.{◌≡◌, ◌≢◌, ◌⊎◌, ◌==◌, ℕ, ◌++◌, Bool, List, ◌∷◌, [], codes, decimal, false, flat_map, if◌then◌else◌, true}
 use Rattle.hex.specs.Hex.{encode_lower}
 use Rattle.ubi_media.specs.Geometry.{Sizes}
@@ -34,7 +34,7 @@ side_words left right = codes " left=" ++ left ++ codes " right=" ++ right ++ co
 abbrev pub volume_words : ℕ → List ℕ → List ℕ
 volume_words id word = codes "volume " ++ decimal id ++ codes " " ++ word
 
--- a range of LEBs: its number where it is one
+-- a range of LEBs: only one number if it has only one
 abbrev pub range_words : ℕ → ℕ → List ℕ
 range_words first last = if first == last then decimal first else decimal first ++ codes "-" ++ decimal last
 
@@ -62,12 +62,12 @@ comparison_status false = 1
 abbrev pub differences_text : List Difference → List ℕ
 differences_text ds = flat_map difference_line ds ++ comparison_line (are_none ds)
 
--- what is told in a format of two images that mean the same, or don't: that line, or the line of its object
+-- what is printed in a format for two images that mean the same, or don't: that line, or the line of its object
 abbrev pub same_told : Format → Bool → List ℕ
 same_told format.Text same = comparison_line same
 same_told format.Json same = json_line (same_data same)
 
--- and of their differences
+-- what is printed in a format for the differences of two images
 abbrev pub differences_told : Format → List Difference → List ℕ
 differences_told format.Text ds = differences_text ds
 differences_told format.Json ds = json_line (differences_data ds)
@@ -77,14 +77,14 @@ abbrev pub comparison_format : Comparison → Format
 comparison_format (comparison.Same format) = format
 comparison_format (comparison.Diff format) = format
 
--- what is answered of two meanings: whether they are the same, or in what they differ
+-- what is answered for two meanings: whether they are the same, or where they differ
 abbrev pub AnswersOf : Comparison → Meant → Meant → Outcome → Type 0
 AnswersOf (comparison.Same format) m n o =
     ((m ≡ n) × Gives o (says (same_told format true) 0)) ⊎ ((m ≢ n) × Gives o (says (same_told format false) 1))
 AnswersOf (comparison.Diff format) m n o =
     Gives o (says (differences_told format (differences m n)) (comparison_status (are_none (differences m n))))
 
--- what a command answers of two images: that of their meanings, or what is told of the first that is refused
+-- what a command answers for two images: the answer for their meanings, or what is printed for the first one that is refused
 pub data Compares (how : Comparison) (left right : Image) : Outcome → Type 0 where
   compared : {o : Outcome} (m n : Meant) → Accepts left m → Accepts right n → AnswersOf how m n o → Compares how left right o
   left_refused : {o : Outcome} (c : Refusal) → Refuses left c → Gives o (says (side_told (comparison_format how) side.Left c) 1)
@@ -92,13 +92,13 @@ pub data Compares (how : Comparison) (left right : Image) : Outcome → Type 0 w
   right_refused : {o : Outcome} (m : Meant) (c : Refusal) → Accepts left m → Refuses right c
       → Gives o (says (side_told (comparison_format how) side.Right c) 1) → Compares how left right o
 
--- what can be answered of any two sources that were compared
+-- what can be answered for any two sources that were compared
 abbrev pub AnswersAny : Comparison → Outcome → Type 0
 AnswersAny (comparison.Same format) o = (answer : Bool) × Gives o (says (same_told format answer) (comparison_status answer))
 AnswersAny (comparison.Diff format) o =
     (ds : List Difference) × Gives o (says (differences_told format ds) (comparison_status (are_none ds)))
 
--- what it answers of any two sources: such an answer, or what is told of the first that is refused
+-- what it answers for any two sources: such an answer, or what is printed for the first one that is refused
 pub data ComparesFrom (how : Comparison) (s : Sizes) (k : Source) (left : Agreed) (l : Source) (right : Agreed) : Outcome → Type 0 where
   compared_from : {o : Outcome} → AnswersAny how o → ComparesFrom how s k left l right o
   left_refused_from : {o : Outcome} (c : Refusal) → ArePlacesError s k left (stream.Refused c)
@@ -106,7 +106,7 @@ pub data ComparesFrom (how : Comparison) (s : Sizes) (k : Source) (left : Agreed
   right_refused_from : {o : Outcome} (c : Refusal) → ArePlacesError s l right (stream.Refused c)
       → Gives o (says (side_told (comparison_format how) side.Right c) 1) → ComparesFrom how s k left l right o
 
--- what it answers of two sources: whatever these may hold, it is what it answers of those images
+-- what it answers for two sources: the answer for the images, whatever the sources may hold
 abbrev pub ComparesOf : Comparison → Sizes → Source → Agreed → Source → Agreed → Outcome → Type 0
 ComparesOf how s k left l right o =
     ComparesFrom how s k left l right o × WhereBothHeld left right (λ x y. Compares how (image_of s x) (image_of s y) o)

@@ -20,7 +20,7 @@ use Rattle.ubi_commands.specs.Lines.{blocks_line}
 use Rattle.ubi_files.specs.Lines.{file_line, refused_line}
 use Rattle.ubi_files.specs.declared.outcome.Outcome.{Outcome}
 
--- the line of a text's line that something is wrong with
+-- the printed line for a line of a text that has a fault
 abbrev pub spec_line : ℕ → SpecCause → List ℕ
 spec_line n cause = refused_line (spec_error_text (spec.Refused n cause))
 
@@ -40,14 +40,14 @@ composed_answer m spares = record {
   file = Some (composed m spares);
 }
 
--- what is answered of a meaning: its image, which is accepted with it, or the line of a device without room for it
+-- what is answered for a meaning: its image, which is accepted with it, or the line of a device without room for it
 pub data ComposesOf (m : Meant) (spares : ℕ) : Outcome → Type 0 where
   fits : {o : Outcome} → HasRoom m spares → Accepts (image_of m.sizes (composed m spares)) m → Gives o (composed_answer m spares)
       → ComposesOf m spares o
   crowded : {o : Outcome} → m.sizes.pebs < length (normal_blocks m) + spares → Gives o (says room_line 1) → ComposesOf m spares o
 
--- what the command answers of a text: that of the meaning that it comes to; or the line of the first of its lines that
--- something is wrong with, or of volumes that have no meaning together
+-- what the command answers for a text: the answer for the meaning that it comes to; or the line of the first of its
+-- lines that has a fault, or of volumes that have no meaning together
 pub data Composes (s : Sizes) (text : List ℕ) (spares seq : ℕ) : Outcome → Type 0 where
   described : {o : Outcome} (m : Meant) → ComesTo s seq text (Ok m) → ComposesOf m spares o → Composes s text spares seq o
   unread : {o : Outcome} (line : ℕ) (cause : SpecCause) → first_cause s text ≡ Some (line, cause)

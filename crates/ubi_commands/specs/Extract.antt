@@ -1,4 +1,4 @@
--- What is extracted of an image: what one of its volumes reads.
+-- What is extracted from an image: what one of its volumes reads.
 use Rattle.std.specs.Prelude.{◌≡◌, ℕ, ◌<◌, List, Option, Result, Ok, Err, length, take}
 use Rattle.std.specs.Option.{option_map_or}
 use Rattle.std.specs.Io.KnownBytes.{Appends, Keeps}
@@ -38,14 +38,14 @@ read_key m key = option_map_or (read_volume m) (number_in (records_of m) key) (E
 abbrev pub RefusesToRead : ReadError → Outcome → Type 0
 RefusesToRead e o = (text : List ℕ) × (read_refusal e ≡ Ok text) × Gives o (says (refused_line text) 1)
 
--- what is answered of a volume of a meaning: the line of the refusal to read it, and the writer received nothing; or how
--- many bytes it reads, and the writer received them
+-- what is answered for a volume of a meaning: the line of the refusal to read it, and the writer received nothing; or
+-- how many bytes it reads, and the writer received them
 pub data ReadsVolume (m : Meant) (key : VolumeKey) (old new : Option (List ℕ)) : Outcome → Type 0 where
   unread : {o : Outcome} (e : ReadError) → read_key m key ≡ Err e → RefusesToRead e o → Keeps old new → ReadsVolume m key old new o
   read : {o : Outcome} (text : List ℕ) → read_key m key ≡ Ok text → Gives o (says (bytes_line (length text)) 0)
       → Appends old new text → ReadsVolume m key old new o
 
--- why nothing is answered of it: memory ran out, and the writer received nothing; or a write failed, and it received the
+-- why there is no answer for it: memory ran out, and the writer received nothing; or a write failed, and it received the
 -- first n bytes and not all
 abbrev pub IsVolumeError : Meant → VolumeKey → Option (List ℕ) → Option (List ℕ) → ToolError → Type 0
 IsVolumeError m key old new tool.Memory = Keeps old new
@@ -53,20 +53,20 @@ IsVolumeError m key old new tool.Write =
     (text : List ℕ) × (n : ℕ) × (read_key m key ≡ Ok text) × (n < length text) × Appends old new (take n text)
 IsVolumeError m key old new tool.Read = ⊥
 
--- what the command answers of an image: that of the volume of its meaning, or the line of its refusal, and the writer
--- received nothing
+-- what the command answers for an image: the answer for the volume of its meaning, or the line of its refusal, and the
+-- writer received nothing
 pub data Extracts (image : Image) (key : VolumeKey) (old new : Option (List ℕ)) : Outcome → Type 0 where
   accepted : {o : Outcome} (m : Meant) → Accepts image m → ReadsVolume m key old new o → Extracts image key old new o
   refused : {o : Outcome} (c : Refusal) → Refuses image c → Gives o (says (refusal_line c) 1) → Keeps old new
       → Extracts image key old new o
 
--- why it answers nothing of an image
+-- why there is no answer for an image
 abbrev pub IsExtractError : Image → VolumeKey → Option (List ℕ) → Option (List ℕ) → ToolError → Type 0
 IsExtractError image key old new tool.Memory = Keeps old new
 IsExtractError image key old new e = (m : Meant) × Accepts image m × IsVolumeError m key old new e
 
--- what it answers of any source: of one that has the size of an image how many bytes the writer received, or the line of a
--- refusal to read the volume; or the line of a refusal of the image; the writer received nothing where it is a refusal
+-- what it answers for any source: for one that has the size of an image, how many bytes the writer received, or the line
+-- of a refusal to read the volume; or the line of a refusal of the image. After a refusal the writer received nothing
 pub data ExtractsFrom (s : Sizes) (k : Source) (agrees : Agreed) (old new : Option (List ℕ)) : Outcome → Type 0 where
   wrote : {o : Outcome} (n : ℕ) → IsWholeSize s k.size → HasGot old new n → Gives o (says (bytes_line n) 0)
       → ExtractsFrom s k agrees old new o
@@ -75,7 +75,7 @@ pub data ExtractsFrom (s : Sizes) (k : Source) (agrees : Agreed) (old new : Opti
   refused_from : {o : Outcome} (c : Refusal) → ArePlacesError s k agrees (stream.Refused c) → Gives o (says (refusal_line c) 1) → Keeps old new
       → ExtractsFrom s k agrees old new o
 
--- what it answers of a source: whatever that may hold, it is what it answers of that image
+-- what it answers for a source: the answer for the image, whatever the source may hold
 abbrev pub ExtractsOf : VolumeKey → Sizes → Source → Agreed → Option (List ℕ) → Option (List ℕ) → Outcome → Type 0
 ExtractsOf key s k agrees old new o =
     ExtractsFrom s k agrees old new o × WhereHeld agrees (λ bytes. Extracts (image_of s bytes) key old new o)

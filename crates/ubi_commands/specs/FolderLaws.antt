@@ -1,4 +1,4 @@
--- What the config in the folder of `unpack` is read as.
+-- How the config in the folder of `unpack` is read.
 use Rattle.std.specs.Prelude.{◌≡◌, ℕ, List, None, Ok, Some, true}
 use Rattle.std.specs.List.{AllByRecursion}
 use Rattle.ubi_media.specs.Geometry.{IsGeometry}
@@ -15,26 +15,26 @@ use Rattle.ubi_files.specs.Disk.{Files}
 use Rattle.ubi_files.specs.declared.outcome.Outcome.{Outcome}
 use Rattle.ubi_commands.specs.Unpack.{all_described, file_name, folder_config, listed}
 
--- that of an accepted image has no fault, and its sections are those of the volumes that aren't left out
+-- the config of an accepted image has no fault, and its sections are those of the volumes that aren't left out
 abbrev pub FolderConfigReads : Type 0
 FolderConfigReads = (image : Image) (m : Meant) → IsGeometry image.sizes → Accepts image m
     → (first_fault (folder_config m) ≡ None)
     × (sections_of (folder_config m) ≡ sections_written m.sizes (all_described (volume_len m) (listed m)))
 
--- the volumes that are described: all of them
+-- every volume is described
 abbrev pub AreAllDescribed : Meant → Type 0
 AreAllDescribed m =
     AllByRecursion (λ v. left_out (may_grow (all_described (volume_len m) (listed m))) v ≡ None)
     (all_described (volume_len m) (listed m))
 
--- the file of each volume holds what the volume reads, where a config lies beside it
+-- the file of each volume, beside the config, holds what the volume reads
 abbrev pub HoldVolumes : Files → List ℕ → Meant → Type 0
 HoldVolumes d config m =
     AllByRecursion (λ e. (text : List ℕ) × (read_volume m e.0 ≡ Ok text) × (d.holds (image_path config (file_name e)) ≡ Some text))
     (listed m)
 
--- of an image that is accepted, the config of its volumes, each of which it describes, and the files with what they read, `build` makes the
--- normal image again, where it ends with the status 0 over a disk that tells its files
+-- from the config of an accepted image, which describes each of its volumes, and from the files with what they read, `build` makes the
+-- normal image again, if it ends with the status 0 over a disk on which it is known what each file holds
 abbrev pub BuildsTheImage : Type 0
 BuildsTheImage = (d e : Files) (config out : List ℕ) (image : Image) (m : Meant) (o : Outcome) (bytes : List ℕ)
     → IsGeometry image.sizes → Accepts image m → AreAllDescribed m → HoldVolumes d config m

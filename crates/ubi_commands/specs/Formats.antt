@@ -1,4 +1,4 @@
--- The formats in which commands answer, and what is told in each where nothing else is.
+-- The formats in which commands answer, and what each prints if there is no other answer.
 use Rattle.std.specs.Prelude.{List, codes, ℕ}
 use Rattle.ubi_media.specs.declared.refusal.Refusal.{Refusal}
 use Rattle.ubi_detect.specs.declared.detect.Undetected.{Undetected}
@@ -15,17 +15,17 @@ abbrev pub format_word : Format → List ℕ
 format_word format.Text = codes "text"
 format_word format.Json = codes "json"
 
--- what is told of an image that is refused: the line of the cause, or the line of its object
+-- what is printed for an image that is refused: the line of the cause, or the line of its object
 abbrev pub refusal_told : Format → Refusal → List ℕ
 refusal_told format.Text c = refusal_line c
 refusal_told format.Json c = json_line (refusal_data c)
 
--- of one of two images that is refused
+-- what is printed if one of two images is refused
 abbrev pub side_told : Format → Side → Refusal → List ℕ
 side_told format.Text side c = side_line side c
 side_told format.Json side c = json_line (side_data side c)
 
--- and of a file of which no geometry is told
+-- what is printed for a file in which no geometry is found
 abbrev pub undetected_told : Format → Undetected → List ℕ
 undetected_told format.Text c = undetected_line c
 undetected_told format.Json c = json_line (undetected_data c)

@@ -1,4 +1,4 @@
--- What is printed of the geometries that a dump's own headers give.
+-- What is printed for the geometries that a dump's own headers give.
 use Rattle.std.specs.Prelude.{◌≢◌, ℕ, ◌+◌, ◌==◌, ◌&&◌, Bool, List, [], ◌++◌, codes, decimal, if◌then◌else◌, is_none, length}
 use Rattle.std.specs.List.{flat_map}
 use Rattle.ubi_media.specs.Geometry.{Sizes}
@@ -16,58 +16,58 @@ use Rattle.ubi_commands.specs.declared.format.Format.TheVariants as format
 use Rattle.ubi_files.specs.declared.outcome.Outcome.{Outcome}
 use Rattle.ubi_files.specs.declared.view.FilePart.{FilePart}
 
--- the options by which the other commands are given the sizes of a device
+-- the options that give the other commands the sizes of a device
 unfoldable pub sizes_options : Sizes → List ℕ
 sizes_options s =
     codes "--peb " ++ decimal s.peb_size ++ codes " --page " ++ decimal s.page ++ codes " --vid " ++ decimal s.vid_offset
     ++ codes " --data " ++ decimal s.data_offset
 
--- that by which they are given how many out-of-band bytes lie behind each page, where some do
+-- the option that gives them how many out-of-band bytes follow each page, if some do
 abbrev pub oob_option : ℕ → List ℕ
 oob_option oob = if oob == 0 then [] else codes " --oob " ++ decimal oob
 
--- whether what is told of a part of n bytes is told of the whole file: not where the words say how long the part is, as the file may
+-- whether what is found in a part of n bytes is the whole file; it isn't if the words say how long the part is, as the file may
 -- be longer
 abbrev pub is_whole_file : FilePart → ℕ → Detected → Bool
 is_whole_file part n told = is_none part.length && (part.start == 0) && (told.start == 0) && (told.length == n)
 
--- those by which they are given which part of the file the image is, where it isn't the whole file: it begins so many bytes behind the
+-- the options that give them which part of the file the image is, if it isn't the whole file: it begins this many bytes after the
 -- start of the part in which it was found
 abbrev pub part_options : FilePart → ℕ → Detected → List ℕ
 part_options part n told =
     if is_whole_file part n told then [] else codes " --start " ++ decimal (part.start + told.start) ++ codes " --length " ++ decimal told.length
 
--- the options by which they are given what is told of a part of n bytes
+-- the options that give them what is found in a part of n bytes
 unfoldable pub options : FilePart → ℕ → Detected → List ℕ
 options part n told = sizes_options told.geometry ++ oob_option told.oob ++ part_options part n told
 
--- the line of it
+-- the line of these options
 abbrev pub options_line : FilePart → ℕ → Detected → List ℕ
 options_line part n told = options part n told ++ codes "\n"
 
--- the lines of all that is told, in their order
+-- the lines of all that is found, in order
 abbrev pub options_lines : FilePart → ℕ → List Detected → List ℕ
 options_lines part n found = flat_map (options_line part n) found
 
--- what is told in a format of all of it: those lines, or the line of its object
+-- what is printed in a format for all that is found: those lines, or the line of its object
 abbrev pub geometry_told : Format → FilePart → ℕ → List Detected → List ℕ
 geometry_told format.Text part n found = options_lines part n found
 geometry_told format.Json part n found = json_line (geometries_data part found)
 
--- what the command answers of the bytes of a part of a file: what is told of them, or the cause for which nothing is
+-- what the command answers for the bytes of a part of a file: what is printed for them, or the cause for which nothing is found
 pub data Detects (format : Format) (part : FilePart) (bytes : List ℕ) : Outcome → Type 0 where
   detected : {o : Outcome} (found : List Detected) → AreDetected bytes found
       → Gives o (says (geometry_told format part (length bytes) found) 0) → Detects format part bytes o
   undetected : {o : Outcome} (c : Undetected) → IsUndetected bytes c → Gives o (says (undetected_told format c) 1)
       → Detects format part bytes o
 
--- what it answers of any source: what is told of whatever it may hold; or a cause, which stands in whatever it may hold
+-- what it answers for any source: what is printed for whatever it may hold; or a cause, which applies to whatever it may hold
 pub data DetectsFrom (format : Format) (part : FilePart) (k : Source) (agrees : Agreed) : Outcome → Type 0 where
   detected_from : {o : Outcome} (found : List Detected) → AreDetectedOf agrees found → found ≢ []
       → Gives o (says (geometry_told format part k.size found) 0) → DetectsFrom format part k agrees o
   undetected_from : {o : Outcome} (c : Undetected) → IsDetectError k agrees (error.Undetected c)
       → Gives o (says (undetected_told format c) 1) → DetectsFrom format part k agrees o
 
--- what it answers of a source: whatever that may hold, it is what it answers of those bytes
+-- what it answers for a source: the answer for the bytes, whatever the source may hold
 abbrev pub DetectsOf : Format → FilePart → Source → Agreed → Outcome → Type 0
 DetectsOf format part k agrees o = DetectsFrom format part k agrees o × WhereHeld agrees (λ bytes. Detects format part bytes o)

@@ -5,7 +5,7 @@ use Rattle.ubi_compose.specs.Laws.{Normalising}
 use Rattle.ubi_change.specs.Laws.{PlanSurvives}
 
 -- of accepted images of one geometry, two mean the same exactly if their normalised images are equal byte for byte;
--- normalising keeps the meaning and twice is once; an image has one meaning at most; it is refused exactly where a stated
+-- normalising keeps the meaning and twice is once; an image has at most one meaning; it is refused exactly where a stated
 -- fault stands, which is one cause; and an atomic change cut after any whole step means the old or the new
 pub record Headline : Type 0 where
   pub one_meaning : OneMeaning

@@ -15,14 +15,14 @@ use Rattle.ubi_commands.specs.declared.asked.Asked.{Asked}
 use Rattle.ubi_commands.specs.declared.format.Format.{Format}
 use Rattle.ubi_commands.specs.declared.format.Format.TheVariants as format
 
--- what is answered as JSON: of a file that can't be had, the object of the line that is printed of it, with the status of that; or
--- what a command answers of what it reads
+-- what is answered as JSON: for a file that can't be opened, the object of the line that is printed for it, with its status; or
+-- what a command answers for what it reads
 pub data InJson (fails answers : Outcome → Type 0) : Outcome → Type 0 where
   failed : {o : Outcome} (plain : Outcome) → fails plain → Gives o (says (json_line (error_data plain.text.items)) plain.status)
       → InJson fails answers o
   answered : {o : Outcome} → answers o → InJson fails answers o
 
--- what a command answers of a dump that can be read
+-- what a command answers for a dump that can be read
 abbrev pub OfRead : Files → Dump → List ℕ → (Sizes → Source → Agreed → Outcome → Type 0) → Outcome → Type 0
 OfRead d dump path answers o = WhereRead d dump path (λ k agrees. answers (sizes_of dump.numbers) k agrees o)
 
@@ -31,12 +31,12 @@ abbrev pub OfFileIn : Format → Files → Dump → List ℕ → (Sizes → Sour
 OfFileIn format.Text d dump path answers = OfFile d dump path answers
 OfFileIn format.Json d dump path answers = InJson (IsUnseen d dump path) (OfRead d dump path answers)
 
--- what is printed of a file where no dump is told of it, or the dump can't be had: what can be answered over it by a command that
--- answers nothing of what it reads
+-- what is printed for a file if no dump is found in it, or the dump can't be opened: what a command that answers nothing for what
+-- it reads can answer over it
 abbrev pub IsUnreadOfAsked : Files → Files → Asked → List ℕ → Outcome → Type 0
 IsUnreadOfAsked d e asked path = OfAsked d e asked path (λ _ _ _ _. ⊥)
 
--- what a command answers of the dump that is asked for, where that can be read
+-- what a command answers for the dump that is asked for, if that can be read
 abbrev pub OfReadAsked : Files → Asked → List ℕ → (Sizes → Source → Agreed → Outcome → Type 0) → Outcome → Type 0
 OfReadAsked d asked path answers o = (dump : Dump) × IsDump d path asked dump × OfRead d dump path answers o
 
@@ -45,18 +45,18 @@ abbrev pub OfAskedIn : Format → Files → Files → Asked → List ℕ → (Si
 OfAskedIn format.Text d e asked path answers = OfAsked d e asked path answers
 OfAskedIn format.Json d e asked path answers = InJson (IsUnreadOfAsked d e asked path) (OfReadAsked d asked path answers)
 
--- what is printed of two files where no dump is told of one of them, their geometries differ, or a dump can't be had: what can be
--- answered over them by a command that answers nothing of what it reads
+-- what is printed for two files if no dump is found in one of them, their geometries differ, or a dump can't be opened: what a
+-- command that answers nothing for what it reads can answer over them
 abbrev pub IsUnreadOfBoth : Files → Asked → List ℕ → List ℕ → Outcome → Type 0
 IsUnreadOfBoth d asked left right = OfBoth d asked left right (λ _ _ _ _ _ _. ⊥)
 
--- what a command answers of two dumps that can be read
+-- what a command answers for two dumps that can be read
 abbrev pub OfReadDumps : Files → Dump → List ℕ → Dump → List ℕ → (Sizes → Source → Agreed → Source → Agreed → Outcome → Type 0) → Outcome
     → Type 0
 OfReadDumps d here left there right answers =
     OfRead d here left (λ s k agrees. OfRead d there right (λ _ l fits. answers s k agrees l fits))
 
--- of those that are asked for, where they have one geometry and can be read
+-- what a command answers for the two dumps that are asked for, if they have one geometry and can be read
 abbrev pub OfReadBoth : Files → Asked → List ℕ → List ℕ → (Sizes → Source → Agreed → Source → Agreed → Outcome → Type 0) → Outcome → Type 0
 OfReadBoth d asked left right answers o = (here : Dump) × (there : Dump) × IsDump d left asked here × IsDump d right asked there
     × (here.numbers ≡ there.numbers) × OfReadDumps d here left there right answers o

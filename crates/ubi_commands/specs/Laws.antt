@@ -10,13 +10,13 @@ use Rattle.ubi_commands.specs.List.{Lists, list_lines}
 use Rattle.ubi_files.specs.declared.outcome.Outcome.{Outcome}
 use Rattle.ubi_commands.specs.declared.format.Format.TheVariants as format
 
--- what composing answers is a function of the text, the number of spares and the image
--- sequence number: what one run gives, each gives
+-- what composing answers is a function of the text, the number of spares and the image sequence number: each run gives
+-- the same
 abbrev pub OneComposed : Type 0
 OneComposed = (s : Sizes) (text : List ℕ) (spares seq : ℕ) (o p : Outcome) (a : Answer)
     → Composes s text spares seq o → Composes s text spares seq p → Gives o a → Gives p a
 
--- what is listed of a composed image is the meaning that the text comes to
+-- `list` of a composed image shows the meaning that the text comes to
 abbrev pub ListsComposed : Type 0
 ListsComposed = (s : Sizes) (text bytes : List ℕ) (spares seq : ℕ) (o p : Outcome)
     → Composes s text spares seq o → option_map (λ v. v.items) o.file ≡ Some bytes → Lists format.Text (image_of s bytes) p

@@ -8,15 +8,15 @@ use Rattle.ubi_compare.specs.declared.difference.Side.{Side}
 use Rattle.ubi_files.specs.Lines.{refusal_line, refused_line}
 use Rattle.ubi_json.specs.Words.{side_word}
 
--- the line of a file of which no geometry is told
+-- the line of a file in which no geometry is found
 abbrev pub undetected_line : Undetected → List ℕ
 undetected_line c = refused_line (undetected_text c)
 
--- the same of one of two files, behind the side on which it stands
+-- the same for one of two files, after the side on which it stands
 abbrev pub undetected_side_line : List ℕ → Undetected → List ℕ
 undetected_side_line side c = side ++ undetected_line c
 
--- the numbers of a geometry but how many eraseblocks there are
+-- the numbers of a geometry except how many eraseblocks there are
 unfoldable pub layout_words : Sizes → List ℕ
 layout_words s =
     codes "peb=" ++ decimal s.peb_size ++ codes " page=" ++ decimal s.page ++ codes " vid=" ++ decimal s.vid_offset
@@ -26,7 +26,7 @@ layout_words s =
 abbrev pub unlike_line : Sizes → Sizes → List ℕ
 unlike_line left right = refused_line (codes "F9 Geometries left " ++ layout_words left ++ codes " right " ++ layout_words right)
 
--- the line of one of two images that is refused, behind the side on which it stands
+-- the line of one of two images that is refused, after the side on which it stands
 abbrev pub side_line : Side → Refusal → List ℕ
 side_line side c = side_word side ++ codes " " ++ refusal_line c
 

@@ -1,4 +1,4 @@
--- What is listed of the volumes of an image.
+-- What is listed about the volumes of an image.
 use Rattle.std.specs.Prelude.{ℕ, List, [], ◌∷◌, ◌++◌, codes, decimal, length}
 use Rattle.std.specs.FinMap.{entries}
 use Rattle.std.specs.List.{flat_map}
@@ -34,7 +34,7 @@ amount_word amount.Damaged = codes "damaged"
 amount_word (amount.Bytes bytes) = codes "bytes=" ++ decimal bytes
 amount_word (amount.Lebs count) = codes "lebs=" ++ decimal count
 
--- the numbers that follow from it, and how many eraseblocks there are
+-- the numbers that follow from sizes, and how many eraseblocks there are
 unfoldable pub room_words : Sizes → List ℕ
 room_words s = codes " leb=" ++ decimal (leb_size s) ++ codes " slots=" ++ decimal (slots s) ++ codes " pebs=" ++ decimal s.pebs
 
@@ -42,7 +42,7 @@ room_words s = codes " leb=" ++ decimal (leb_size s) ++ codes " slots=" ++ decim
 unfoldable pub sizes_line : Sizes → List ℕ
 sizes_line s = codes "geometry " ++ layout_words s ++ room_words s ++ codes "\n"
 
--- what a record says of its volume but the name
+-- what a record says about its volume, except the name
 abbrev pub record_words : Sizes → VolumeRecord → List ℕ
 record_words s r =
     kind_word r.kind ++ codes " reserved=" ++ decimal r.reserved ++ codes " alignment=" ++ decimal r.alignment
@@ -64,23 +64,23 @@ list_lines m =
     sizes_line m.sizes ++ flat_map (volume_line m.sizes) (entries m.volumes)
     ++ codes "volumes " ++ decimal (length (entries m.volumes)) ++ codes "\n"
 
--- what is told of a meaning in a format: those lines, or the line of its object
+-- what is printed for a meaning in a format: those lines, or the line of its object
 abbrev pub list_told : Format → Meant → List ℕ
 list_told format.Text m = list_lines m
 list_told format.Json m = json_line (list_data m)
 
--- what the command answers of an image: what is told of its meaning, or the cause of its refusal
+-- what the command answers for an image: what is printed for its meaning, or the cause of its refusal
 pub data Lists (format : Format) (image : Image) : Outcome → Type 0 where
   accepted : {o : Outcome} (m : Meant) → Accepts image m → Gives o (says (list_told format m) 0) → Lists format image o
   refused : {o : Outcome} (c : Refusal) → Refuses image c → Gives o (says (refusal_told format c) 1) → Lists format image o
 
--- what it answers of any source: some text, of one whose places were found; or the cause of its refusal
+-- what it answers for any source: some text, if its places were found; or the cause of its refusal
 pub data ListsFrom (format : Format) (s : Sizes) (k : Source) (agrees : Agreed) : Outcome → Type 0 where
   listed : {o : Outcome} (p : Placed) (text : List ℕ) → ArePlacesOf s k agrees p → Gives o (says text 0)
       → ListsFrom format s k agrees o
   unlisted : {o : Outcome} (c : Refusal) → ArePlacesError s k agrees (stream.Refused c)
       → Gives o (says (refusal_told format c) 1) → ListsFrom format s k agrees o
 
--- what it answers of a source: whatever that may hold, it is what it answers of that image
+-- what it answers for a source: the answer for the image, whatever the source may hold
 abbrev pub ListsOf : Format → Sizes → Source → Agreed → Outcome → Type 0
 ListsOf format s k agrees o = ListsFrom format s k agrees o × WhereHeld agrees (λ bytes. Lists format (image_of s bytes) o)

@@ -1,4 +1,4 @@
--- What is told of the eraseblocks of an image one by one: in rows of letters, and on a page.
+-- How the eraseblocks of an image are shown one by one: in rows of letters, and on a page.
 use Rattle.std.specs.Prelude.{◌≡◌, ℕ, List, ◌++◌, IsSome, None, Option, Some, codes, length, option_map}
 use Rattle.ubi_media.specs.Geometry.{Sizes}
 use Rattle.ubi_media.specs.declared.refusal.Refusal.{Refusal}
@@ -21,31 +21,31 @@ use Rattle.ubi_map.specs.Page.{page_of}
 abbrev pub state_rows : Seen → List ℕ
 state_rows a = rows (state_letters a.states)
 
--- those of any eraseblocks, by their headers alone
+-- the rows of any eraseblocks, by their headers alone
 abbrev pub header_rows : Sizes → List (List ℕ) → List ℕ
 header_rows s bs = rows (header_letters s bs (length bs))
 
--- what the command answers of an image: its rows; the cause of its refusal, behind the rows by its headers; or that alone, of bytes that
--- are no image
+-- what the command answers for an image: its rows; or rows by its headers, and then the cause of its refusal; or for bytes
+-- that are no image, the cause alone
 pub data Maps (image : Image) : Outcome → Type 0 where
   mapped : {o : Outcome} (a : Seen) → IsSurvey image a → Gives o (says (state_rows a) 0) → Maps image o
   no_blocks : {o : Outcome} (c : Refusal) → IsSizeFault image c → Gives o (says (refusal_line c) 1) → Maps image o
   refused_map : {o : Outcome} (c : Refusal) → IsWhole image → Refuses image c
       → Gives o (says (header_rows image.sizes (eraseblocks image) ++ refusal_line c) 1) → Maps image o
 
--- what it answers of any source: the rows of what surveying it gives; some rows and the cause of its refusal; or the cause alone, of one
--- that hasn't the size of an image
+-- what it answers for any source: the rows of its survey; or some rows and the cause of its refusal; or the cause alone, if it doesn't
+-- have the size of an image
 pub data MapsFrom (s : Sizes) (k : Source) (agrees : Agreed) : Outcome → Type 0 where
   mapped_from : {o : Outcome} (a : Seen) → IsSurveyOf s k agrees a → Gives o (says (state_rows a) 0) → MapsFrom s k agrees o
   no_blocks_from : {o : Outcome} (c : Refusal) → IsLengthFault s k.size c → Gives o (says (refusal_line c) 1) → MapsFrom s k agrees o
   refused_map_from : {o : Outcome} (c : Refusal) (letters : List ℕ) → ArePlacesError s k agrees (stream.Refused c)
       → Gives o (says (rows letters ++ refusal_line c) 1) → MapsFrom s k agrees o
 
--- what it answers of a source: whatever that may hold, it is what it answers of that image
+-- what it answers for a source: the answer for the image, whatever the source may hold
 abbrev pub MapsOf : Sizes → Source → Agreed → Outcome → Type 0
 MapsOf s k agrees o = MapsFrom s k agrees o × WhereHeld agrees (λ bytes. Maps (image_of s bytes) o)
 
--- the page of an image: of its eraseblocks, with what they mean or why they are refused; bytes that are no image have none
+-- the page of an image: its eraseblocks, with what they mean or why they are refused; bytes that are no image have no page
 pub data IsPageOf (image : Image) : Option (List ℕ) → Type 0 where
   accepted_page : (a : Seen) (m : Meant) → IsSurvey image a → Accepts image m
       → IsPageOf image (Some (page_of (map_data (eraseblocks image) a m)))
@@ -53,7 +53,7 @@ pub data IsPageOf (image : Image) : Option (List ℕ) → Type 0 where
       → IsPageOf image (Some (page_of (refused_map_data image.sizes (eraseblocks image) c)))
   no_page : (c : Refusal) → IsSizeFault image c → IsPageOf image None
 
--- what is answered with a page: what the command answers without one, and its file
+-- what is answered with a page: what the command answers without one, and the file of the page
 pub record WithFile (answers : Outcome → Type 0) (is : Option (List ℕ) → Type 0) (o : Outcome) : Type 0 where
   pub plain : Outcome
   pub answered : answers plain
@@ -61,17 +61,17 @@ pub record WithFile (answers : Outcome → Type 0) (is : Option (List ℕ) → T
   pub status : o.status ≡ plain.status
   pub page : is (option_map (λ v. v.items) o.file)
 
--- with a page, of an image
+-- what is answered with a page for an image
 abbrev pub Pictures : Image → Outcome → Type 0
 Pictures image o = WithFile (Maps image) (IsPageOf image) o
 
--- and of a source
+-- what is answered with a page for a source
 abbrev pub PicturesOf : Sizes → Source → Agreed → Outcome → Type 0
 PicturesOf s k agrees o =
     WithFile (MapsFrom s k agrees) (λ page. Unit {0}) o × WhereHeld agrees (λ bytes. Pictures (image_of s bytes) o)
 
--- what is answered where the page is written: that, and the file at a path received it, if there is one; or the line of a file that can't
--- be written
+-- what is answered if the page is written: the answer with a page, and the file at a path received it, if there is one; or the line of a
+-- file that can't be written
 pub data PicturesInto (out : List ℕ) (old new : Files) (answers : Outcome → Type 0) : Outcome → Type 0 where
   pictured : {o : Outcome} → answers o → Receives old new out (option_map (λ v. v.items) o.file) → PicturesInto out old new answers o
   unpictured : {o : Outcome} (made : Outcome) → answers made → IsSome made.file

@@ -1,4 +1,4 @@
--- What normalising a source into a writer answers.
+-- What normalising a source to a writer answers.
 use Rattle.std.specs.Prelude.{ℕ, ◌/◌, List, Option, length}
 use Rattle.std.specs.Io.KnownBytes.{Appends, Keeps}
 use Rattle.ubi_media.specs.Geometry.{Sizes}
@@ -18,7 +18,7 @@ use Rattle.ubi_files.specs.declared.outcome.Outcome.{Outcome}
 use Rattle.ubi_files.specs.declared.outcome.ToolError.{ToolError}
 use Rattle.ubi_files.specs.declared.outcome.ToolError.TheVariants as tool
 
--- what the command answers of an image: how many eraseblocks the normal image of what it means has, and the writer
+-- what the command answers for an image: how many eraseblocks the normal image of what it means has, and the writer
 -- received that; or the line of its refusal, and the writer received nothing
 pub data Normalises (image : Image) (old new : Option (List ℕ)) : Outcome → Type 0 where
   accepted : {o : Outcome} (m : Meant) → Accepts image m → Gives o (says (blocks_line (length (normal_blocks m))) 0)
@@ -26,7 +26,7 @@ pub data Normalises (image : Image) (old new : Option (List ℕ)) : Outcome → 
   refused : {o : Outcome} (c : Refusal) → Refuses image c → Gives o (says (refusal_line c) 1) → Keeps old new
       → Normalises image old new o
 
--- what it answers of any source: of one that has the size of an image how many eraseblocks the n bytes are that the
+-- what it answers for any source: for one that has the size of an image, how many eraseblocks the n bytes are that the
 -- writer received; or the line of a refusal, and the writer received nothing
 pub data NormalisesTo (s : Sizes) (k : Source) (agrees : Agreed) (old new : Option (List ℕ)) : Outcome → Type 0 where
   wrote : {o : Outcome} (n : ℕ) → IsWholeSize s k.size → IsNormalisedTo s agrees old new n → Gives o (says (blocks_line (n / s.peb_size)) 0)
@@ -34,14 +34,14 @@ pub data NormalisesTo (s : Sizes) (k : Source) (agrees : Agreed) (old new : Opti
   wrote_nothing : {o : Outcome} (c : Refusal) → ArePlacesError s k agrees (stream.Refused c) → Gives o (says (refusal_line c) 1)
       → Keeps old new → NormalisesTo s k agrees old new o
 
--- why it answers nothing: memory ran out, and the writer received nothing; or a read or a write failed, and it
--- received a first part
+-- why there is no answer: memory ran out, and the writer received nothing; or a read or a write failed, and it received
+-- a first part
 abbrev pub IsNormaliseError : Sizes → Source → Agreed → Option (List ℕ) → Option (List ℕ) → ToolError → Type 0
 IsNormaliseError s k agrees old new tool.Memory = Keeps old new
 IsNormaliseError s k agrees old new tool.Read = (p : ℕ) × (n : ℕ) × IsNormaliseToError s k agrees old new (stream.Read p n)
 IsNormaliseError s k agrees old new tool.Write = (n : ℕ) × IsNormaliseToError s k agrees old new (stream.Write n)
 
--- what it answers of a source: whatever that may hold, it is what it answers of that image
+-- what it answers for a source: the answer for the image, whatever the source may hold
 abbrev pub NormalisesOf : Sizes → Source → Agreed → Option (List ℕ) → Option (List ℕ) → Outcome → Type 0
 NormalisesOf s k agrees old new o =
     NormalisesTo s k agrees old new o × WhereHeld agrees (λ bytes. Normalises (image_of s bytes) old new o)

@@ -10,14 +10,14 @@ use Rattle.ubi_volume.specs.Meant.{Meant}
 use Rattle.ubi_volume.specs.PageLaws.{meaning_with_page}
 use Rattle.ubi_compose.specs.Normal.{IsNormalised}
 
--- of what is told of a file, the one is first, and the other any of them
+-- of what is found in a file, the one comes first, and the other is any of it
 abbrev pub AreOfFirst : List ℕ → Detected → Detected → Type 0
 AreOfFirst bytes first other = (rest : List Detected) × AreDetected bytes (first ∷ rest) × Contains (first ∷ rest) other
 
--- of what is told of a file, the first has a page that divides that of each other one, and the same place. Where the
--- pages of another one have no out-of-band bytes, those of the first have none, and the sizes differ in nothing but
--- the page; so what is accepted with the other one is accepted with the first, with the same meaning but for the page,
--- and with the same normal image
+-- of what is found in a file, the first has a page that divides that of each other one, and the same place; if the
+-- pages of another one have no out-of-band bytes, those of the first have none, and the sizes differ only in the page;
+-- so an image that is accepted with the other one is accepted with the first, with the same meaning except for the
+-- page, and with the same normal image
 pub record LeastTold : Type 0 where
   pub page : (bytes : List ℕ) (first other : Detected) → AreOfFirst bytes first other
       → first.geometry.page ∣ other.geometry.page

@@ -21,7 +21,7 @@ abbrev pub step_words : Step → List ℕ
 step_words (step.Erase p) = codes "erase block=" ++ decimal p
 step_words (step.Program p page bytes) = codes "program block=" ++ decimal p ++ codes " page=" ++ decimal page
 
--- its line
+-- the line of a step
 abbrev pub step_line : Step → List ℕ
 step_line next = step_words next ++ codes "\n"
 
@@ -29,11 +29,11 @@ step_line next = step_words next ++ codes "\n"
 abbrev pub plan_lines : List Step → List ℕ
 plan_lines steps = codes "steps " ++ decimal (length steps) ++ codes "\n" ++ flat_map step_line steps
 
--- the line of a listed eraseblock that isn't blank, so that nothing is planned
+-- the line of a listed eraseblock that isn't blank, for which nothing is planned
 abbrev pub not_blank_line : ℕ → List ℕ
 not_blank_line p = refused_line (codes "K10 NotBlank block=" ++ decimal p)
 
--- how many steps are done: as many as are asked for, or all where there are no more, or where no number is given
+-- how many steps are done: as many as are asked for, or all if there are no more, or if no number is given
 abbrev pub steps_done : List Step → Option ℕ → ℕ
 steps_done steps (Some stop) = min (length steps) stop
 steps_done steps None = length steps
@@ -50,18 +50,18 @@ plan_answer image steps stop = record {
   file = Some (cut_bytes image steps (steps_done steps stop));
 }
 
--- the text is the bytes of an image after the first k steps
+-- the bytes of an image after the first k steps
 abbrev pub cut_text : Sizes → List Step → ℕ → List ℕ → List ℕ → Type 0
 cut_text s steps k image text = text ≡ cut_bytes (image_of s image) steps k
 
--- why that wasn't written: memory ran out, and the writer received nothing; or a read or a write failed, and it received
--- the first of it
+-- why that image wasn't written: memory ran out, and the writer received nothing; or a read or a write failed, and it
+-- received the first of the image
 abbrev pub IsCarryFault : Sizes → Agreed → List Step → ℕ → Option (List ℕ) → Option (List ℕ) → ToolError → Type 0
 IsCarryFault s agrees steps k old new tool.Memory = Keeps old new
 IsCarryFault s agrees steps k old new tool.Read = (n : ℕ) × Wrote agrees old new (cut_text s steps k) First 0 n
 IsCarryFault s agrees steps k old new tool.Write = (n : ℕ) × Wrote agrees old new (cut_text s steps k) NotAll 0 n
 
--- the image after the first k steps is accepted: before the turn with the old meaning, and from it on with the new one
+-- the image after the first k steps is accepted: before the commit point with the old meaning, and from it on with the new one
 abbrev pub CutAccepts : Image → List Step → ℕ → Meant → Meant → ℕ → Type 0
 CutAccepts image steps turn old new k =
     Accepts (record image { bytes = cut_bytes image steps k }) (if nat_lt k turn then old else new)

@@ -1,4 +1,4 @@
--- What is printed of an answer, and the status that the program ends with.
+-- What is printed for an answer, and the status that the program ends with.
 use Rattle.std.specs.Prelude.{◌≡◌, ℕ, ◌<◌, ◌⊎◌, List, Option, Result, Ok, Err, codes, length, take}
 use Rattle.std.specs.Io.KnownBytes.{Appends}
 use Rattle.std.specs.declared.alloc.AllocError.{AllocError}
@@ -9,7 +9,7 @@ abbrev pub status_of : Result Outcome AllocError → ℕ
 status_of (Ok outcome) = outcome.status
 status_of (Err _) = 1
 
--- the text of the outcome, or one line where memory ran out
+-- the text of the outcome, or one line if memory ran out
 abbrev pub printed_text : Result Outcome AllocError → List ℕ
 printed_text (Ok outcome) = outcome.text.items
 printed_text (Err _) = codes "out of memory\n"

@@ -30,14 +30,14 @@ use Rattle.ubi_files.specs.declared.view.FilePart.{FilePart}
 abbrev pub text_limit : Sizes → ℕ
 text_limit s = 4 * (s.pebs * s.peb_size) + 65536
 
--- what a command over a text file can answer: that of a file that can't be had, or what it answers of the text that the
--- file holds, and that isn't too long
+-- what a command over a text file can answer: the line of a file that can't be opened, or the answer for the text that
+-- the file holds, which isn't too long
 pub data OfText (d : Files) (numbers : Numbers) (path : List ℕ) (answers : Sizes → List ℕ → Outcome → Type 0) : Outcome → Type 0 where
   no_text : {o : Outcome} → IsUnread numbers path o → OfText d numbers path answers o
   text : {o : Outcome} (bytes : List ℕ) → first_broken (sizes_of numbers) ≡ None → length bytes ≤ text_limit (sizes_of numbers)
       → IsTextOf d path bytes → answers (sizes_of numbers) bytes o → OfText d numbers path answers o
 
--- a dump of which the words give no geometry, as its own headers tell
+-- a dump without a geometry in the words, as its own headers show it
 abbrev pub told_dump : Sought → Detected → Dump
 told_dump sought told = record {
   numbers = record (numbers_of told.geometry) { pebs = sought.pebs };
@@ -46,38 +46,38 @@ told_dump sought told = record {
   bad = sought.bad;
 }
 
--- this is told first of a source
+-- this is found first in a source
 abbrev pub IsToldFirst : Agreed → Detected → Type 0
 IsToldFirst agrees told = (others : List Detected) × AreDetectedOf agrees (told ∷ others)
 
--- the headers in a part of the file at a path tell this first
+-- this is found first by the headers in a part of the file at a path
 abbrev pub TellFirst : Files → FilePart → List ℕ → Detected → Type 0
 TellFirst d part path told = WhereRead d (greatest_dump part) path (λ _ agrees. IsToldFirst agrees told)
 
--- the dump that is asked for: the one that the words give; or, where they give no geometry, what its headers tell first
+-- the dump that is asked for: the one that the words give; or if they give no geometry, what its headers show first
 pub data IsDump (d : Files) (path : List ℕ) : Asked → Dump → Type 0 where
   given : {dump : Dump} → IsDump d path (asked.Given dump) dump
   told : {sought : Sought} (told : Detected) → TellFirst d sought.part path told
       → IsDump d path (asked.Sought sought) (told_dump sought told)
 
--- the line of the cause for which the headers of a source tell nothing, behind a side
+-- the line of the cause for which the headers of a source show nothing, after a side
 abbrev pub TellsNothing : List ℕ → Source → Agreed → Outcome → Type 0
 TellsNothing side k agrees o = (c : Undetected) × IsDetectError k agrees (error.Undetected c)
     × Gives o (says (undetected_side_line side c) 1)
 
--- what is answered where no dump is told: that of a part of a file that can't be had; or the line of the cause
+-- what is answered if no dump is found: the line of a part of a file that can't be opened; or the line of the cause
 abbrev pub IsUntold : Files → List ℕ → List ℕ → Asked → Outcome → Type 0
 IsUntold d path side (asked.Given dump) o = ⊥
 IsUntold d path side (asked.Sought sought) o = OfFile d (greatest_dump sought.part) path (λ _. TellsNothing side) o
 
--- what a command can answer over one image file: where no dump is told, that, and no file is changed; or what it answers of the dump
+-- what a command can answer over one image file: if no dump is found, that, and no file is changed; or the answer for the dump
 pub data OfAsked (d e : Files) (asked : Asked) (path : List ℕ) (answers : Sizes → Source → Agreed → Outcome → Type 0) : Outcome
     → Type 0 where
   untold : {o : Outcome} → IsUntold d path [] asked o → AllStay d e → OfAsked d e asked path answers o
   of_dump : {o : Outcome} (dump : Dump) → IsDump d path asked dump → OfFile d dump path answers o
       → OfAsked d e asked path answers o
 
--- and over two: where no dump is told of one of them, that; the line of two geometries, where they have two; or what it answers of both
+-- what it can answer over two: if no dump is found in one, that; the line of two geometries, if they differ; or the answer for both
 pub data OfBoth (d : Files) (asked : Asked) (left right : List ℕ)
     (answers : Sizes → Source → Agreed → Source → Agreed → Outcome → Type 0) : Outcome → Type 0 where
   no_left : {o : Outcome} → IsUntold d left (codes "left ") asked o → OfBoth d asked left right answers o
@@ -89,17 +89,17 @@ pub data OfBoth (d : Files) (asked : Asked) (left right : List ℕ)
       → OfFile d here left (λ s k agrees. OfFile d there right (λ _ l fits. answers s k agrees l fits)) o
       → OfBoth d asked left right answers o
 
--- what can be answered of a source by a command that writes the file at a path: what it answers, and the file received what
--- it wrote; or the line of a file that can't be written, where there is something to write
+-- what a command that writes the file at a path can answer for a source: what it answers, and the file received what it
+-- wrote; or the line of a file that can't be written, if there is something to write
 pub data WritesInto (out : List ℕ) (old new : Files) (answers : Option (List ℕ) → Option (List ℕ) → Outcome → Type 0) (writes : Type 0)
     : Outcome → Type 0 where
   written : {o : Outcome} (received : Option (List ℕ)) → answers (fresh old) received o → IsLeft old new out received o
       → WritesInto out old new answers writes o
   unwritten : {o : Outcome} → writes → Gives o (says (file_line (codes "cannot write ") out) 1) → WritesInto out old new answers writes o
 
--- what can be answered of a source by a command that plans, writes the file at a path, and may write the programmed pages to a
--- second: what is said of the first, and where all is done, the second received the pages, and else it stays as it was, unless it is
--- the first; or the line of a second file that can't be written, where all is done but that
+-- what a command that plans can answer for a source, if it writes the file at a path, and may write the programmed pages to a
+-- second: what is said for the first; and if all is done, the second received the pages, or else it stays as it was, unless it is
+-- the first; or the line of a second file that can't be written, when all but that is done
 pub data WritesPlan (out : List ℕ) (pages : Option (Bor (List ℕ))) (old new : Files)
     (answers : List ℕ → Option (List ℕ) → Option (List ℕ) → Outcome → Type 0) (writes : Type 0) : Outcome → Type 0 where
   planned : {o : Outcome} (bytes : List ℕ) → WritesInto out old new (answers bytes) writes o
@@ -109,17 +109,17 @@ pub data WritesPlan (out : List ℕ) (pages : Option (Bor (List ℕ))) (old new 
       → WritesInto out old new (answers bytes) writes done → done.status ≡ 0
       → Gives o (says (file_line (codes "cannot write ") path.now) 1) → WritesPlan out pages old new answers writes o
 
--- what can be answered of a dump by a command that plans: nothing, as of wrong words, where it may be a device of which no bad
--- eraseblocks are listed; or what it answers
+-- what a command that plans can answer for a dump: nothing, as for wrong words, if it may be a device and no bad eraseblocks
+-- are listed; or what it answers
 pub data WithList (d e : Files) (bad : Option (Bor (List ℕ))) (path : List ℕ) (answers : Outcome → Type 0) : Outcome → Type 0 where
   no_list : {o : Outcome} → bad ≡ None → d.holds path ≡ None → Gives o (says [] 2) → AllStay d e → WithList d e bad path answers o
   with_list : {o : Outcome} → answers o → WithList d e bad path answers o
 
--- what a plan avoids of a dump: its bad eraseblocks, and Blank ones where they are kept
+-- what a plan avoids in a dump: its bad eraseblocks, and Blank ones if they are kept
 abbrev pub avoided : Dump → Plan → Avoided
 avoided dump plan = record { marks = marks_of dump; blank = plan.keeps_blank }
 
--- each file holds what it held, but for those that a plan writes; and the image does, unless it is itself the file that the
+-- each file holds what it held, except those that a plan writes; and the image does, unless it is itself the file that the
 -- changed image is written to
 pub record PlanStays (d e : Files) (plan : Plan) : Type 0 where
   pub others : OthersStayBeside d e plan.paths.out.now plan.pages

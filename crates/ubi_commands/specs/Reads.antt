@@ -1,4 +1,4 @@
--- What the commands answer that read one image, and write no file.
+-- What the commands that read one image, and write no file, answer.
 use Rattle.ubi_media.specs.Geometry.{Sizes}
 use Rattle.ubi_scan.specs.Source.{Agreed, Source}
 use Rattle.ubi_commands.specs.Check.{ChecksOf}
@@ -12,7 +12,7 @@ use Rattle.ubi_commands.specs.declared.format.Format.TheVariants as format
 use Rattle.ubi_commands.specs.declared.readers.Reading.{Reading}
 use Rattle.ubi_commands.specs.declared.readers.Reading.TheVariants as reading
 
--- what a command answers of a source
+-- what a command answers for a source
 abbrev pub reads : Reading → Sizes → Source → Agreed → Outcome → Type 0
 reads (reading.Geometry part format) s = DetectsOf format part
 reads (reading.List format) s = ListsOf format s
@@ -21,7 +21,7 @@ reads (reading.Show block) s = ShowsOf block s
 reads reading.Map s = MapsOf s
 reads reading.Page s = PicturesOf s
 
--- the format in which it answers
+-- the format in which a command answers
 abbrev pub format_of : Reading → Format
 format_of (reading.Geometry part format) = format
 format_of (reading.List format) = format

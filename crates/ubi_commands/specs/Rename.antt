@@ -26,20 +26,20 @@ use Rattle.ubi_files.specs.declared.outcome.Outcome.{Outcome}
 use Rattle.ubi_files.specs.declared.outcome.ToolError.{ToolError}
 use Rattle.ubi_files.specs.declared.outcome.ToolError.TheVariants as tool
 
--- the line of a rename that isn't planned; memory that ran out has none
+-- the line of a rename that isn't planned; there is none if memory ran out
 abbrev pub rename_line : RenameRefusal → Option (List ℕ)
 rename_line refusal.Memory = None
 rename_line c = Some (refused_line (rename_refusal_text c))
 
--- the image after the first k steps is accepted: before the turn it means what it meant before them, and from the turn on
--- that with the new name
+-- the image after the first k steps is accepted: before the commit point it means what it meant at first, and from it on
+-- the same with the new name
 abbrev pub CutIsNamed : Image → ℕ → List ℕ → List Step → ℕ → Type 0
 CutIsNamed image id name steps k =
     (m : Meant) × Accepts image m
     × CutAccepts image steps (turn image.sizes steps (renamed_pages image.sizes m id name)) m (renamed m id name) k
 
--- what the command answers of an image and a word: where the word shows a name, that of the plan, and what its file means,
--- or the line of the cause for which nothing is planned; or that the word shows none
+-- what the command answers for an image and a word: if the word shows a name, the answer of the plan, and what its file
+-- means, or the line of the cause for which nothing is planned; or that the word shows no name
 pub data Renames (image : Image) (id : ℕ) (word : List ℕ) (stop : Option ℕ) : Outcome → Type 0 where
   planned : {o : Outcome} (name : List ℕ) (steps : List Step) → shown_name word ≡ Some name
       → IsRenameOf image nothing id name steps → Gives o (plan_answer image steps stop)
@@ -51,9 +51,9 @@ pub data Renames (image : Image) (id : ℕ) (word : List ℕ) (stop : Option ℕ
       → Renames image id word stop o
 
 module _ (av : Avoided) (id : ℕ) (word : List ℕ) (stop : Option ℕ) (s : Sizes) (k : Source) (agrees : Agreed) where
-  -- what it answers of a source: where the word shows a name, the lines of a plan that avoids some eraseblocks, with the pages
-  -- that the steps done program; and, whatever the source may hold, the writer received what the file holds. Or the line of
-  -- the cause for which nothing is planned, of a listed eraseblock that isn't blank, or that the word shows no name, and the
+  -- what it answers for a source: if the word shows a name, the lines of a plan that avoids some eraseblocks, with the pages
+  -- that the steps done program; and the writer received what the file holds, whatever the source may hold. Or the line of the
+  -- cause for which nothing is planned, of a listed eraseblock that isn't blank, or that the word shows no name, and the
   -- writer received nothing
   pub data RenamesFrom (pages : List ℕ) (old now : Option (List ℕ)) : Outcome → Type 0 where
     planned_from : {o : Outcome} (name : List ℕ) (steps : List Step) → shown_name word ≡ Some name
@@ -70,7 +70,7 @@ module _ (av : Avoided) (id : ℕ) (word : List ℕ) (stop : Option ℕ) (s : Si
         → IsRenameError s k agrees av id name (error.NotBlank p) → Gives o (says (not_blank_line p) 1) → Keeps old now
         → RenamesFrom pages old now o
 
-  -- why it answers nothing: memory ran out, and the writer received nothing; or a read or a write failed, and it received
+  -- why there is no answer: memory ran out, and the writer received nothing; or a read or a write failed, and it received
   -- the first of what the plan leaves
   abbrev pub IsRenameFault : Option (List ℕ) → Option (List ℕ) → ToolError → Type 0
   IsRenameFault old now tool.Memory = Keeps old now

@@ -1,4 +1,4 @@
--- What commands take, and what their words have to say beside that.
+-- What commands take, and what else their words have to say.
 use Rattle.std.specs.Prelude.{◌≡◌, ◌∷◌, ◌++◌, ◌&&◌, ◌||◌, ◌⊎◌, [], Bool, List, Option, Some, codes, is_some, not, pos, true}
 use Rattle.std.specs.List.{list_any}
 use Rattle.std.specs.Option.{ForSome}
@@ -17,11 +17,11 @@ needed r = record r { required = true }
 abbrev pub option : Text → Rule
 option name = record (new_rule name) { long = Some name; value_names = 1 }
 
--- one that takes a number of 32 bits
+-- an option that takes a number of 32 bits
 abbrev pub number : Text → Rule
 number name = record (option name) { parser = Some (parser.Signed (pos 0) (pos 4294967295)) }
 
--- one that takes a place in a file, or how many bytes of it: a number of 63 bits
+-- an option that takes a place in a file, or a number of its bytes: a number of 63 bits
 abbrev pub long : Text → Rule
 long name = record (option name) { parser = Some (parser.Signed (pos 0) (pos 9223372036854775807)) }
 
@@ -29,7 +29,7 @@ long name = record (option name) { parser = Some (parser.Signed (pos 0) (pos 922
 abbrev pub measure : Bool → Text → Rule
 measure need name = record (number name) { required = need }
 
--- the numbers of a geometry, of which the two sizes have to be given, or may be left out
+-- the numbers of a geometry; the two sizes have to be given, or may be left out
 abbrev pub numbers : Bool → List Rule
 numbers need = measure need (codes "peb") ∷ measure need (codes "page") ∷ number (codes "vid") ∷ number (codes "data")
     ∷ number (codes "pebs") ∷ []
@@ -62,25 +62,25 @@ bad_list = option (codes "bad")
 abbrev pub image_part : List Rule
 image_part = image_file ∷ long (codes "start") ∷ long (codes "length") ∷ []
 
--- one over an image file, whose pages may have out-of-band bytes, and whose bad eraseblocks may be listed
+-- a command over an image file, whose pages may have out-of-band bytes, and whose bad eraseblocks may be listed
 abbrev pub on_image : Bool → Text → List Rule → Shape
 on_image need name rules = command need name (image_part ++ number (codes "oob") ∷ bad_list ∷ rules)
 
--- the options of a plan, all of which may be left out: the steps to do, what is said of Blank eraseblocks, and the file for the
--- pages
+-- the options of a plan, all of which may be left out: the steps to do, what is said about Blank eraseblocks, and the file for
+-- the pages
 abbrev pub plan_options : List Rule
 plan_options = number (codes "stop") ∷ option (codes "blank") ∷ option (codes "pages") ∷ []
 
--- of the words of `extract`, just one names the volume
+-- the words of `extract` name the volume exactly once
 abbrev pub HasOneVolume : Option (Text × List Row) → Type 0
 HasOneVolume named = (words : List Row) → named ≡ Some (codes "extract", words)
     → is_some (first_of (codes "name") words) ≡ not (is_some (first_of (codes "id") words))
 
--- the commands that read no dump as the words list its bad eraseblocks
+-- whether a command reads a dump whose bad eraseblocks the words may list: all but three do
 abbrev pub reads_dump : Text → Bool
 reads_dump name = not (list_any (bytes_eq name) (codes "geometry" ∷ codes "compose" ∷ codes "build" ∷ []))
 
--- of the words of a command over a dump, what lists bad eraseblocks is a list
+-- in the words of a command over a dump, what lists bad eraseblocks is a list
 abbrev pub HasBlockList : Option (Text × List Row) → Type 0
 HasBlockList named = (name : Text) (words : List Row) → named ≡ Some (name, words) → reads_dump name ≡ true
     → ForSome (first_of (codes "bad") words) (λ list. is_block_list list ≡ true)
@@ -89,16 +89,16 @@ HasBlockList named = (name : Text) (words : List Row) → named ≡ Some (name, 
 abbrev pub plans : Text → Bool
 plans name = list_any (bytes_eq name) (codes "change" ∷ codes "rename" ∷ [])
 
--- the commands that find the geometry of a dump where the words give none
+-- the commands that find the geometry of a dump if the words give none
 abbrev pub finds : Text → Bool
 finds name = reads_dump name && not (plans name)
 
--- of the words of such a command both sizes are given, or nothing of a geometry is but how many eraseblocks there are
+-- the words of such a command give both sizes, or nothing of a geometry except how many eraseblocks there are
 abbrev pub HasGeometryOrNone : Option (Text × List Row) → Type 0
 HasGeometryOrNone named = (name : Text) (words : List Row) → named ≡ Some (name, words) → finds name ≡ true
     → ((gives words (codes "peb") && gives words (codes "page")) || gives_no_geometry words) ≡ true
 
--- of the words of a command that plans, what is said of Blank eraseblocks is that they are kept
+-- in the words of a command that plans, what is said about Blank eraseblocks is that they are kept
 abbrev pub HasBlankWord : Option (Text × List Row) → Type 0
 HasBlankWord named = (name : Text) (words : List Row) → named ≡ Some (name, words) → plans name ≡ true
     → ForSome (first_of (codes "blank") words) (λ word. word ≡ codes "keep")
@@ -107,12 +107,12 @@ HasBlankWord named = (name : Text) (words : List Row) → named ≡ Some (name, 
 abbrev pub formats : Text → Bool
 formats name = list_any (bytes_eq name) (codes "geometry" ∷ codes "list" ∷ codes "check" ∷ codes "same" ∷ codes "diff" ∷ [])
 
--- of the words of such a command, what names the format is the word of one
+-- in the words of such a command, what names the format is the word of one
 abbrev pub HasFormatWord : Option (Text × List Row) → Type 0
 HasFormatWord named = (name : Text) (words : List Row) → named ≡ Some (name, words) → formats name ≡ true
     → ForSome (first_of (codes "format") words) (λ word. (word ≡ codes "text") ⊎ (word ≡ codes "json"))
 
--- the words say what their command can do, beside what the command line knows
+-- the words say what their command can do, beyond what the command line knows
 pub record Mean (named : Option (Text × List Row)) : Type 0 where
   pub volume : HasOneVolume named
   pub list : HasBlockList named

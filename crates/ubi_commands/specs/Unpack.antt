@@ -1,4 +1,4 @@
--- What is unpacked of an image: what each of its volumes reads, into a file of its own.
+-- What is unpacked from an image: what each of its volumes reads, into a file of its own.
 use Rattle.std.specs.Prelude.{◌≡◌, ℕ, ◌==◌, if◌then◌else◌, List, [], ◌∷◌, ◌++◌, Option, Some, Result, Ok, Err, codes, decimal, is_ok, length, map, nat_le, slice_get, take}
 use Rattle.std.specs.Bool.{then_some}
 use Rattle.std.specs.FinMap.{entries}
@@ -27,11 +27,11 @@ use Rattle.ubi_json.specs.Words.{shown, shown_byte}
 use Rattle.ubi_commands.specs.List.{amount_word}
 use Rattle.ubi_files.specs.declared.outcome.Outcome.{Outcome}
 
--- a record of a volume table, behind the number of its volume
+-- a record of a volume table, after the number of its volume
 abbrev pub Listed : Type 0
 Listed = ℕ × VolumeRecord
 
--- a byte of a volume's name in the name of its file: as it is shown, but a slash by its digits
+-- a byte of a volume's name in the name of its file: as it is shown, except a slash, which is given by its digits
 abbrev pub file_byte : ℕ → List ℕ
 file_byte b = if b == 0x2F then codes "\\x2f" else shown_byte b
 
@@ -39,7 +39,7 @@ file_byte b = if b == 0x2F then codes "\\x2f" else shown_byte b
 abbrev pub number_and_name : Listed → List ℕ
 number_and_name e = decimal e.0 ++ codes "-" ++ flat_map file_byte e.1.name
 
--- the name of a volume's file: its number and its name; or the number alone, where that is longer than the name of a file can be
+-- the name of a volume's file: its number and its name; or the number alone, if that would be longer than the name of a file can be
 unfoldable pub file_name : Listed → List ℕ
 file_name e = if nat_le (length (number_and_name e)) 255 then number_and_name e else decimal e.0
 
@@ -62,28 +62,28 @@ unpacked_line len e =
 abbrev pub unpacked_lines : (ℕ → Result ℕ ReadError) → List Listed → List ℕ
 unpacked_lines len es = flat_map (λ e. unpacked_line (len e.0) e) es
 
--- the status: that all is done, where each volume can be read
+-- the status: success if each volume can be read
 abbrev pub unpacked_status : (ℕ → Result ℕ ReadError) → List Listed → ℕ
 unpacked_status len es = if list_all (λ e. is_ok (len e.0)) es then 0 else 1
 
--- the records of a meaning's table, by rising number
+-- the records of a meaning's table, in ascending order
 abbrev pub listed : Meant → List Listed
 listed m = entries (records_of m).of
 
--- a text was written to a new file: it received the text, and each other path holds what it held
+-- bytes were written to a new file: it received them, and each other path holds what it held
 abbrev pub IsWritten : List ℕ → List ℕ → Files → Files → Type 0
 IsWritten text path old new = (received : Option (List ℕ)) × Appends (fresh old) received text × IsKept old new path received
 
--- a volume was unpacked: what it reads was written to a new file; where it can't be read, no file is written
+-- a volume was unpacked: what it reads was written to a new file; if it can't be read, no file is written
 abbrev pub IsUnpacked : Result (List ℕ) ReadError → List ℕ → Files → Files → Type 0
 IsUnpacked (Ok text) path old new = IsWritten text path old new
 IsUnpacked (Err e) path old new = new ≡ old
 
--- a volume as the config in the folder describes it: with its file, where it can be read
+-- a volume as the config in the folder describes it: with its file, if it can be read
 abbrev pub described : Result ℕ ReadError → Listed → ConfigVolume
 described len e = record { id = e.0; entry = e.1; image = then_some (is_ok len) (file_name e) }
 
--- all volumes
+-- all volumes as the config in the folder describes them
 abbrev pub all_described : (ℕ → Result ℕ ReadError) → List Listed → List ConfigVolume
 all_described len es = map (λ e. described (len e.0) e) es
 
@@ -91,17 +91,17 @@ all_described len es = map (λ e. described (len e.0) e) es
 abbrev pub folder_config : Meant → List ℕ
 folder_config m = config_text m.sizes m.image_seq (all_described (volume_len m) (listed m))
 
--- its path in a folder
+-- the path of the config in a folder
 abbrev pub config_path : List ℕ → List ℕ
 config_path dir = dir ++ codes "/ubi.ini"
 
--- volumes were unpacked into a folder, one after the other
+-- volumes were unpacked into a folder, in order
 abbrev pub AreUnpacked : (ℕ → Result (List ℕ) ReadError) → List ℕ → List Listed → Files → Files → Type 0
 AreUnpacked read dir [] old new = new ≡ old
 AreUnpacked read dir (e ∷ es) old new =
     (between : Files) × IsUnpacked (read e.0) (file_path dir e) old between × AreUnpacked read dir es between new
 
--- the volumes before the one at a place were unpacked, that one can be read, and then no other file was written than its own
+-- the volumes before the one at a place were unpacked, that one can be read, and after them no file was written except its own
 pub record AreUnpackedUntil (read : ℕ → Result (List ℕ) ReadError) (dir : List ℕ) (es : List Listed) (i : ℕ) (e : Listed) (old new : Files)
     : Type 0 where
   pub next : slice_get es i ≡ Some e
@@ -110,9 +110,9 @@ pub record AreUnpackedUntil (read : ℕ → Result (List ℕ) ReadError) (dir : 
   pub readable : (text : List ℕ) × (read e.0 ≡ Ok text)
   pub others : OthersStay between new (file_path dir e)
 
--- what the command answers of an image, and what becomes of the files: the lines of the volumes, which are unpacked, and then
--- their config is written; the line of the image's refusal; or that of a folder that can't be made or isn't empty, of a
--- volume's file that can't be written, or of the config
+-- what the command answers for an image, and what becomes of the files: the lines of the volumes, which are unpacked, and
+-- then their config is written; or the line of the image's refusal; or that of a folder that can't be made or isn't empty, of
+-- a volume's file that can't be written, or of the config
 pub data Unpacks (image : Image) (dir : List ℕ) (old new : Files) : Outcome → Type 0 where
   unpacked : {o : Outcome} (m : Meant) (between : Files) → Accepts image m → AreUnpacked (read_volume m) dir (listed m) old between
       → IsWritten (folder_config m) (config_path dir) between new
@@ -129,14 +129,14 @@ pub data Unpacks (image : Image) (dir : List ℕ) (old new : Files) : Outcome �
       → OthersStay between new (config_path dir)
       → Gives o (says (file_line (codes "cannot write ") (config_path dir)) 1) → Unpacks image dir old new o
 
--- what it answers of any source: some lines, of one whose places were found; or the line of its refusal
+-- what it answers for any source: some lines, if its places were found; or the line of its refusal
 pub data UnpacksFrom (s : Sizes) (k : Source) (agrees : Agreed) (old new : Files) : Outcome → Type 0 where
   told : {o : Outcome} (p : Placed) (text : List ℕ) (status : ℕ) → ArePlacesOf s k agrees p → Gives o (says text status)
       → UnpacksFrom s k agrees old new o
   refused_from : {o : Outcome} (c : Refusal) → ArePlacesError s k agrees (stream.Refused c) → Gives o (says (refusal_line c) 1)
       → AllStay old new → UnpacksFrom s k agrees old new o
 
--- what it answers of a source: whatever that may hold, it is what it answers of that image
+-- what it answers for a source: the answer for the image, whatever the source may hold
 abbrev pub UnpacksOf : List ℕ → Files → Files → Sizes → Source → Agreed → Outcome → Type 0
 UnpacksOf dir old new s k agrees o =
     UnpacksFrom s k agrees old new o × WhereHeld agrees (λ bytes. Unpacks (image_of s bytes) dir old new o)

@@ -15,38 +15,38 @@ use ubi_files::{Dump, FilePart, Numbers, is_block_list};
 /// The one word that `--blank` takes.
 const KEEP: &str = "keep";
 
-/// The word for a format: lines for people.
+/// The word for the format of lines for people.
 const TEXT: &str = "text";
 
-/// The word for another: JSON.
+/// The word for the format of JSON.
 const JSON: &str = "json";
 
-/// The paths of a command that reads one image and writes a file, or the files of a folder.
+/// The paths of a command that reads one image, and writes a file or the files of a folder.
 #[derive(Clone, Copy)]
 pub struct Paths<'a> {
-    /// That of the image.
+    /// The path of the image.
     pub image: &'a str,
-    /// That of the file or the folder that is written.
+    /// The path of the file or the folder that is written.
     pub out: &'a str,
 }
 
-/// A dump of which the words give no geometry: it is read as its own headers tell.
+/// A dump without a geometry in the words: it is read as its own headers show.
 #[derive(Clone, Copy)]
 pub struct Sought<'a> {
     /// The part of its file in which its headers are looked for.
     pub part: FilePart,
-    /// The eraseblocks of the device; the most that there can be where they are left out.
+    /// The number of eraseblocks of the device; if it is left out, the most that there can be.
     pub pebs: Option<u32>,
-    /// The list of its bad eraseblocks, which read 0xFF; none is bad where it is left out.
+    /// The list of its bad eraseblocks, which read 0xFF; if it is left out, none is bad.
     pub bad: Option<&'a str>,
 }
 
 /// How a dump is read.
 #[derive(Clone, Copy)]
 pub enum Asked<'a> {
-    /// As the words tell.
+    /// As the words say.
     Given(Dump<'a>),
-    /// As its own headers tell.
+    /// As its own headers show.
     Sought(Sought<'a>),
 }
 
@@ -59,7 +59,7 @@ pub struct Extract<'a> {
     pub key: VolumeKey<'a>,
 }
 
-/// An image to make of a text, or of a config and the files that it names.
+/// An image to make from a text, or from a config and the files that it names.
 #[derive(Clone, Copy)]
 pub struct NewImage<'a> {
     /// The path of the text or the config.
@@ -77,7 +77,7 @@ pub struct NewImage<'a> {
 pub struct Plan<'a> {
     /// The paths of the image and of the file that is written.
     pub paths: Paths<'a>,
-    /// After how many steps the image is written; after all where it is left out.
+    /// After how many steps the image is written; if it is left out, after all.
     pub stop: Option<u32>,
     /// Whether no Blank eraseblock is taken.
     pub keeps_blank: bool,
@@ -109,7 +109,7 @@ pub struct Rename<'a> {
     pub name: &'a str,
 }
 
-/// The volume that the words name, by its number or by its name. None where they do neither, or both.
+/// The volume that the words name, by its number or by its name. `None` if they name none, or give both.
 fn key_of<'a>(matches: &'a ArgMatches<'_>) -> Option<VolumeKey<'a>>
     ensures { IsOneOf (AsksKey (words_in matches.now)) result }
 {
@@ -137,7 +137,7 @@ pub fn volume_extract<'a>(matches: &'a ArgMatches<'_>) -> Option<Extract<'a>>
     })
 }
 
-/// The image that the words ask for, of the file under a name.
+/// The image that the words ask for, from the file under a name.
 pub fn new_image<'a>(matches: &'a ArgMatches<'_>, name: &str) -> Option<NewImage<'a>>
     ensures { IsOneOf (AsksNewImage (words_in matches.now) name.now) result }
 {
@@ -181,7 +181,7 @@ fn plan_of<'a>(matches: &'a ArgMatches<'_>) -> Option<Plan<'a>>
     })
 }
 
-/// Whether the words keep Blank eraseblocks. None where they say something else of them.
+/// Whether the words keep Blank eraseblocks. `None` if they say something else about them.
 pub fn blank_of(matches: &ArgMatches<'_>) -> Option<bool>
     ensures { IsOneOf (AsksBlank (words_in matches.now)) result }
 {
@@ -192,7 +192,7 @@ pub fn blank_of(matches: &ArgMatches<'_>) -> Option<bool>
     }
 }
 
-/// The format of the answer, which is that of lines where the words name none. None where they name another.
+/// The format of the answer; if the words name none, it is that of lines. `None` if they name an unknown one.
 pub fn format_of(matches: &ArgMatches<'_>) -> Option<Format>
     ensures { IsOneOf (AsksFormat (words_in matches.now)) result }
 {
@@ -204,8 +204,8 @@ pub fn format_of(matches: &ArgMatches<'_>) -> Option<Format>
     }
 }
 
-/// How a dump is read: as the words tell, or, where they give no geometry, as its own headers do. None where they give half a geometry,
-/// or the list of its bad eraseblocks is none.
+/// How a dump is read: as the words say, or if they give no geometry, as its own headers show. `None` if they give half a geometry, or
+/// if the list of its bad eraseblocks isn't a list.
 pub fn asked_of<'a>(matches: &'a ArgMatches<'_>) -> Option<Asked<'a>>
     ensures { IsOneOf (AsksAsked (words_in matches.now)) result }
 {
@@ -216,7 +216,7 @@ pub fn asked_of<'a>(matches: &'a ArgMatches<'_>) -> Option<Asked<'a>>
     }
 }
 
-/// Whether the words say nothing of a geometry but how many eraseblocks there are.
+/// Whether the words say nothing about a geometry except how many eraseblocks there are.
 pub fn gives_no_geometry(matches: &ArgMatches<'_>) -> bool
     ensures { result ≡ gives_no_geometry (words_in matches.now) }
 {
@@ -234,7 +234,7 @@ fn gives(matches: &ArgMatches<'_>, name: &str) -> bool
     matches.get_str(name).is_some()
 }
 
-/// A dump of which the words give no geometry. None where the list of its bad eraseblocks is none.
+/// A dump without a geometry in the words. `None` if the list of its bad eraseblocks isn't a list.
 fn sought_of<'a>(matches: &'a ArgMatches<'_>) -> Option<Sought<'a>>
     ensures { IsOneOf (AsksSought (words_in matches.now)) result }
 {
@@ -249,7 +249,7 @@ fn sought_of<'a>(matches: &'a ArgMatches<'_>) -> Option<Sought<'a>>
     })
 }
 
-/// A dump of which the words give the geometry. None where the list of its bad eraseblocks is none.
+/// A dump with its geometry in the words. `None` if the list of its bad eraseblocks isn't a list.
 pub fn dump_of<'a>(matches: &'a ArgMatches<'_>) -> Option<Dump<'a>>
     ensures { IsOneOf (AsksDump (words_in matches.now)) result }
 {
@@ -320,7 +320,7 @@ pub fn number_of(matches: &ArgMatches<'_>, name: &str) -> Option<u32>
     matches.get_one::<u32>(name)
 }
 
-/// The place in a file that an option gives, or how many bytes of it.
+/// The place in a file that an option gives, or a number of its bytes.
 fn long_of(matches: &ArgMatches<'_>, name: &str) -> Option<u64>
     ensures { MayHaveLong (words_in matches.now) name.now result }
 {

@@ -1,4 +1,4 @@
-//! The command `build`: the image of a config, and of the files that it names.
+//! The command `build`: the image that is built from a config, and from the files that it names.
 
 ghost use Rattle.std.specs.Prelude.{◌≡◌, ◌+◌, ◌≤◌, ◌⊎◌, ◌∷◌, [], ℕ, Contains, Err, IfErr, IfOk, IsOk, IsSome, List, None, Ok, OnErr, false, map, sum_by, vec_capacity, vec_len};
 ghost use Rattle.ubi_compose.specs.Building.{WhereNotBegun};
@@ -28,21 +28,21 @@ use ubi_files::{DONE, Disk, FAILED, FileRow, LateFile, Numbers, Outcome, Target,
 use ubi_media::Geometry;
 use ubi_scan::{BlockSource, FileSource};
 
-/// What can be answered of a build, made before the output is opened, so that no part of it is written where memory runs out.
+/// What can be answered for a build. It is made before the output is opened, so that nothing is written if memory runs out.
 #[derive(Drop)]
 struct Answers {
     /// Room for the line of a number of eraseblocks.
     line: Vec<u8>,
-    /// Where the bytes of a volume can't be read, for each volume; and else.
+    /// The answer if the bytes of a volume can't be read, for each volume; and the answer for other reads.
     unread: Vec<Outcome>,
     unread_else: Outcome,
-    /// Where the output can't be written.
+    /// The answer if the output can't be written.
     unwritten: Outcome,
-    /// Whether the output may be opened: not so where it may be the config.
+    /// Whether the output may be opened: it may not if it could be the config.
     may_open: bool,
 }
 
-/// The line at a place, or another where there is none.
+/// The line at a place, or another if there is none.
 fn line_at(mut lines: Vec<Outcome>, place: Option<usize>, other: Outcome) -> Outcome
     ensures { Contains (other ∷ lines.items) result }
 {
@@ -52,7 +52,7 @@ fn line_at(mut lines: Vec<Outcome>, place: Option<usize>, other: Outcome) -> Out
     }
 }
 
-/// The line of the volume with a number, of those of all volumes; or another where there is none.
+/// The line of the volume with a number, among those of all volumes; or another if there is none.
 fn unread_of(recipe: &Recipe, id: u32, lines: Vec<Outcome>, other: Outcome) -> Outcome
     ensures { Contains (other ∷ lines.items) result }
 {
@@ -60,11 +60,11 @@ fn unread_of(recipe: &Recipe, id: u32, lines: Vec<Outcome>, other: Outcome) -> O
     line_at(lines, place, other)
 }
 
-/// Opens the output of a build that was done, where no write did.
+/// Opens the output of a build that was done, if no write did.
 ///
 /// # Errors
 ///
-/// Those of the build, and Write where the output can't be opened.
+/// Those of the build, and `Write` if the output can't be opened.
 fn finished<D: Disk, K: Target>(
     work: Result<u64, BuildError>,
     late: &mut LateFile<'_, '_, D, K>,
@@ -81,7 +81,7 @@ fn finished<D: Disk, K: Target>(
     }
 }
 
-/// What is answered of a build that ended so.
+/// What is answered for a build that ended with this result.
 ///
 /// # Errors
 ///
@@ -123,7 +123,7 @@ fn told(
     }
 }
 
-/// Builds the image of a recipe into a file, which is opened at the first write. Gives the disk back.
+/// Builds the image of a recipe into a file, which is opened at the first write. Returns the disk.
 fn build_into<'a, D: Disk, K: Target>(
     disk: &'a mut D,
     alloc: Global,
@@ -154,7 +154,7 @@ fn build_into<'a, D: Disk, K: Target>(
     disk
 }
 
-/// Builds the image of the volumes that sections come to.
+/// Builds the image of the volumes that sections give.
 fn build_gathered<D: Disk>(
     disk: &mut D,
     alloc: Global,
@@ -202,7 +202,7 @@ fn build_gathered<D: Disk>(
     outcome
 }
 
-/// Builds the image of the sections of a config.
+/// Builds the image from the sections of a config.
 fn build_sections<D: Disk>(
     disk: &mut D,
     alloc: Global,
@@ -225,8 +225,8 @@ fn build_sections<D: Disk>(
     }
 }
 
-/// Builds the image of a config and of the files that it names, into another file. The files are read a logical eraseblock at a
-/// time.
+/// Builds the image from a config and from the files that it names, into another file. The files are read one logical
+/// eraseblock at a time.
 pub fn build_file<D: Disk>(
     disk: &mut D,
     alloc: Global,

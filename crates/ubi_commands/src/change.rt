@@ -39,18 +39,18 @@ pub struct NewBytes<'a> {
     pub bytes: &'a [u8],
 }
 
-/// Plans the change of a logical eraseblock of a dynamic volume of a source, which touches none of the eraseblocks that are
-/// to be avoided: answers the lines of all steps, writes the image after the first `stop` of them, or after all where there
-/// are no more or `stop` is left out, and adds the pages that these program to `pages`. At most an eraseblock of contents is
-/// held.
+/// Plans the change of a logical eraseblock of a dynamic volume of a source. The plan touches none of the eraseblocks that
+/// are to be avoided. It answers with the lines of all steps, writes the image after the first `stop` of them (after all, if
+/// there are no more or `stop` is left out), and adds the pages that these program to `pages`. At most one eraseblock of
+/// contents is held.
 ///
-/// Where no change can be planned, the line of its first cause is answered, and nothing is written. What is written is
+/// If no change can be planned, it answers with the line of the first cause, and nothing is written. What is written is
 /// accepted as an image whatever `stop` is, and means the old or the new.
 ///
 /// # Errors
 ///
-/// Read where a read failed, and Write where a write failed: the writer received the first of the bytes then, or nothing.
-/// Memory where memory ran out, and nothing is written then.
+/// `Read` if a read failed, and `Write` if a write failed: the writer then received the first of the bytes, or none.
+/// `Memory` if memory ran out; then nothing is written.
 pub fn run_change_from<S: BlockSource, W: Write>(
     alloc: Global,
     geometry: &Geometry,
@@ -85,11 +85,11 @@ pub fn run_change_from<S: BlockSource, W: Write>(
     }
 }
 
-/// Plans the change of a logical eraseblock of a dynamic volume: the lines of all steps, and as the file the image after
-/// the first `stop` of them, or after all where there are no more or `stop` is left out.
+/// Plans the change of a logical eraseblock of a dynamic volume. It answers with the lines of all steps, and as the file
+/// the image after the first `stop` of them (after all, if there are no more or `stop` is left out).
 ///
-/// Where no change can be planned, the line of its first cause is answered, and no file. The file is accepted as an image
-/// whatever `stop` is, and means the old or the new.
+/// If no change can be planned, it answers with the line of the first cause, and no file. The file is accepted as an
+/// image whatever `stop` is, and means the old or the new.
 ///
 /// # Errors
 ///

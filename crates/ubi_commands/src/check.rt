@@ -90,7 +90,7 @@ fn check_lines(alloc: Global, surveyed: &Surveyed) -> Result<Vec<u8>, AllocError
     Ok(text)
 }
 
-/// What is told in a format of an image that is surveyed.
+/// What is printed in a format for an image that is surveyed.
 fn check_told(alloc: Global, format: Format, surveyed: &Surveyed) -> Result<Vec<u8>, AllocError>
     ensures { IfOk result (λ text. text.items ≡ check_told format surveyed.now) }
 {
@@ -100,12 +100,12 @@ fn check_told(alloc: Global, format: Format, surveyed: &Surveyed) -> Result<Vec<
     }
 }
 
-/// Counts the states of the eraseblocks of a source, or answers the cause of its refusal. One eraseblock is held at a time; of
-/// the contents of volumes only copied data are read, and the volume table.
+/// Counts the states of the eraseblocks of a source, or answers with the cause of its refusal. One eraseblock is held at a
+/// time. Of the contents of volumes, only copied data and the volume table are read.
 ///
 /// # Errors
 ///
-/// Read where a read failed. Memory where memory ran out.
+/// `Read` if a read failed. `Memory` if memory ran out.
 pub fn run_check_from<S: BlockSource>(
     alloc: Global,
     geometry: &Geometry,
@@ -131,7 +131,7 @@ pub fn run_check_from<S: BlockSource>(
     }
 }
 
-/// Counts the states of the eraseblocks of an image in lines, as [`run_check_from`] does of a source.
+/// Counts the states of the eraseblocks of an image in lines, as [`run_check_from`] does for a source.
 ///
 /// # Errors
 ///

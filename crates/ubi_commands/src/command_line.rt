@@ -33,7 +33,7 @@ Exit status: 0 done; 1 refused, different, a file that fails, or out of memory;
 struct CommandRow {
     /// Its name.
     name: &'static str,
-    /// What the help says of it.
+    /// What the help says about it.
     about: &'static str,
     /// What it takes, in groups that commands share, in the order of the help.
     arguments: &'static [&'static [Argument]],
@@ -68,7 +68,7 @@ static TELLING: [CommandRow; 5] = [
     },
 ];
 
-/// The others, behind them.
+/// The other commands, which follow them.
 static WORKING: [CommandRow; 9] = [
     CommandRow {
         name: "extract",
@@ -132,13 +132,13 @@ static WORKING: [CommandRow; 9] = [
 /// The numbers of a geometry that has to be given.
 const GIVEN: &[Argument] = &[PEB, PAGE, VID, DATA, PEBS];
 
-/// Those of one that the dump's headers tell where it isn't given.
+/// The numbers of a geometry that the dump's headers show if it isn't given.
 const FOUND: &[Argument] = &[FOUND_PEB, FOUND_PAGE, VID, DATA, PEBS];
 
-/// The word that names an image file, and which part of the file is the image.
+/// The word that names an image file, and the options for the part of the file that is the image.
 const IMAGE_PART: &[Argument] = &[IMAGE, START, LENGTH];
 
-/// What lies behind its pages, and which of its eraseblocks are bad.
+/// What follows its pages, and which of its eraseblocks are bad.
 const IMAGE_PAGES: &[Argument] = &[OOB, BAD];
 
 /// The file of a new image, and what isn't said in its description.
@@ -324,7 +324,7 @@ const PAGES: Argument = Argument(
     "File to write the programmed pages to, in the order of the plan",
 );
 
-/// An argument of a command: whether it has to be given, its name, what it takes, and what the help says of it.
+/// An argument of a command: whether it has to be given, its name, what it takes, and what the help says about it.
 struct Argument(Need, &'static str, Takes, &'static str);
 
 /// Whether an argument has to be given.
@@ -339,7 +339,7 @@ enum Need {
 /// What an argument takes, with what the help calls its value.
 #[derive(Clone, Copy)]
 enum Takes {
-    /// A word, told by its place.
+    /// A word, known by its place.
     Word,
     /// A word that the help calls by another name than its own.
     WordFor(&'static str),
@@ -347,13 +347,13 @@ enum Takes {
     Text(&'static str),
     /// An option, and a number of 32 bits.
     Number(&'static str),
-    /// An option, and a place in a file or how many bytes of it: a number of 63 bits.
+    /// An option, and a place in a file or a number of its bytes: a number of 63 bits.
     Long,
     /// An option, and a number of the geometry, of 32 bits. The help lists these below the others.
     Measure,
 }
 
-/// The whole command line. A command line is used up by reading words, so that each call makes a new one.
+/// The whole command line. Reading words uses up a command line, so each call makes a new one.
 pub fn tool_command<'a>(alloc: Global) -> Result<Command<'a>, AllocError>
     ensures names { IfOk result (λ c. subcommand_names c ≡ command_names) }
     ensures app { IfOk result (λ c. app_of c ≡ whole) }
@@ -374,7 +374,7 @@ fn telling_rows() -> &'static [CommandRow]
     &TELLING
 }
 
-/// Those of the others.
+/// The rows of the other commands.
 fn working_rows() -> &'static [CommandRow]
     ensures { with_commands telling_tool result.now ≡ whole }
 {

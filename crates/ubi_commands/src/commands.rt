@@ -13,15 +13,15 @@ use clap::error::ErrorKind;
 use std::alloc::{AllocError, Global};
 use ubi_files::{Disk, Outcome, nothing};
 
-/// Runs the command that the words name, over files. The first word is the program's name. Where somebody watches the
-/// standard error, it is told there how far long work is.
+/// Runs the command that the words name, over files. The first word is the program's name. If standard error is a
+/// terminal, the progress of long work is shown there.
 ///
-/// Wrong words, a call for help among them, are printed to standard error, with nothing else to print and status 2. A
-/// geometry is refused before a file is read, and an image before a file is written.
+/// If the words are wrong or ask for help, the message is printed to standard error, and the answer has no text and
+/// the status 2. A geometry is refused before a file is read, and an image before a file is written.
 ///
 /// # Errors
 ///
-/// Memory ran out. No output file was opened then.
+/// Memory ran out; then no output file was opened.
 pub fn run_words<D: Disk + Eprint>(
     disk: &mut D,
     alloc: Global,
@@ -39,7 +39,7 @@ pub fn run_words<D: Disk + Eprint>(
     run_asked(disk, alloc, request_of(&matches), reason, is_watched)
 }
 
-/// Runs what the words ask for. Where they ask for nothing, the reason is printed to standard error.
+/// Runs what the words ask for. If they ask for nothing, the reason is printed to standard error.
 fn run_asked<D: Disk + Eprint>(
     disk: &mut D,
     alloc: Global,
@@ -64,7 +64,7 @@ fn run_asked<D: Disk + Eprint>(
 ///
 /// # Errors
 ///
-/// Memory ran out while they were read, and not otherwise.
+/// Memory ran out while they were read; there is no other error.
 fn wrong_words<R: Eprint>(rt: &R, alloc: Global, error: &Error) -> Result<Outcome, AllocError>
     ensures answer { IfOk result (λ o. Gives o (says [] 2)) }
     ensures memory { kind_of error.now ≡ ErrorKind.OutOfMemory ↔ IsErr result }

@@ -41,9 +41,9 @@ use ubi_scan::{BlockSource, MemorySource, StreamError};
 /// A command that compares what two images mean.
 #[derive(Clone, Copy)]
 pub enum Comparison {
-    /// `same`: whether it is the same.
+    /// `same`: whether they mean the same.
     Same(Format),
-    /// `diff`: in what it differs.
+    /// `diff`: where they differ.
     Diff(Format),
 }
 
@@ -54,7 +54,7 @@ fn status_of(is_same: bool) -> u8
     if is_same { DONE } else { FAILED }
 }
 
-/// What is told in a format of two images that mean the same, or don't.
+/// What is printed in a format for two images that mean the same, or don't.
 fn same_told(alloc: Global, format: Format, is_same: bool) -> Result<Vec<u8>, AllocError>
     ensures { IfOk result (λ text. text.items ≡ same_told format is_same) }
 {
@@ -68,7 +68,7 @@ fn same_told(alloc: Global, format: Format, is_same: bool) -> Result<Vec<u8>, Al
     }
 }
 
-/// The lines of two images that differ so.
+/// The lines of these differences of two images.
 fn differences_text(alloc: Global, told: &[Difference]) -> Result<Vec<u8>, AllocError>
     ensures { IfOk result (λ text. text.items ≡ differences_text told.now) }
 {
@@ -78,7 +78,7 @@ fn differences_text(alloc: Global, told: &[Difference]) -> Result<Vec<u8>, Alloc
     Ok(text)
 }
 
-/// What is told in a format of two images that differ so.
+/// What is printed in a format for these differences of two images.
 fn differences_told(
     alloc: Global,
     format: Format,
@@ -92,7 +92,7 @@ fn differences_told(
     }
 }
 
-/// What is answered of two images that mean the same or don't.
+/// What is answered for two images that mean the same, or don't.
 fn same_outcome(alloc: Global, format: Format, is_same: bool) -> Result<Outcome, AllocError>
     ensures { IfOk result (λ o. Gives o (says (same_told format is_same) (comparison_status is_same))) }
 {
@@ -100,7 +100,7 @@ fn same_outcome(alloc: Global, format: Format, is_same: bool) -> Result<Outcome,
     Ok(Outcome::saying(text, status_of(is_same)))
 }
 
-/// What is answered of two images that differ so.
+/// What is answered for two images with these differences.
 fn diff_outcome(alloc: Global, format: Format, told: &[Difference]) -> Result<Outcome, AllocError>
     ensures { IfOk result (λ o. Gives o (says (differences_told format told.now) (comparison_status (are_none told.now)))) }
 {
@@ -109,7 +109,7 @@ fn diff_outcome(alloc: Global, format: Format, told: &[Difference]) -> Result<Ou
 }
 
 impl Comparison {
-    /// The format in which it is answered.
+    /// The format of the answer.
     fn format(self) -> Format
         ensures { result ≡ comparison_format self }
     {
@@ -118,7 +118,7 @@ impl Comparison {
         }
     }
 
-    /// What is answered of one of two images that is refused.
+    /// What is answered for one of two images that is refused.
     fn refused(self, alloc: Global, side: Side, cause: Refusal) -> Result<Outcome, AllocError>
         ensures { IfOk result (λ o. Gives o (says (side_told (comparison_format self) side cause) 1)) }
     {
@@ -158,12 +158,12 @@ impl Comparison {
         }
     }
 
-    /// Compares what two sources of one geometry mean: what is told of it, or of the first that is refused. One
-    /// eraseblock of contents of each is held at a time.
+    /// Compares what two sources of one geometry mean, and answers that, or what is printed for the first one
+    /// that is refused. One eraseblock of contents of each is held at a time.
     ///
     /// # Errors
     ///
-    /// The side of which a read failed. Memory where memory ran out.
+    /// The side on which a read failed. `Memory` if memory ran out.
     pub fn answer<L: BlockSource, R: BlockSource>(
         self,
         alloc: Global,
@@ -226,7 +226,7 @@ fn done_over_sides(
     }
 }
 
-/// A dump of which it is known how it is read, and the path of its file.
+/// A dump for which it is known how it is read, and the path of its file.
 #[derive(Drop)]
 struct KnownFile<'a, 'p> {
     /// The dump.
@@ -235,11 +235,11 @@ struct KnownFile<'a, 'p> {
     path: &'p str,
 }
 
-/// Compares what the source over the left file means with what the right dump does, which has the same geometry.
+/// Compares what the source over the left file means with what the right dump means, which has the same geometry.
 ///
 /// # Errors
 ///
-/// The line of a right dump that can't be had, or of the file of which a read failed; or that memory ran out.
+/// The line of a right dump that can't be opened, or of the file of which a read failed; or that memory ran out.
 fn compare_beside<D: Disk, S: BlockSource>(
     disk: &D,
     alloc: Global,
@@ -276,7 +276,7 @@ fn compare_beside<D: Disk, S: BlockSource>(
 ///
 /// # Errors
 ///
-/// The line of a dump that can't be had, or that memory ran out.
+/// The line of a dump that can't be opened, or that memory ran out.
 fn compare_dumps<D: Disk>(
     disk: &D,
     alloc: Global,
@@ -313,7 +313,7 @@ fn are_alike(left: &Dump<'_>, right: &Dump<'_>) -> bool
     left.numbers == right.numbers
 }
 
-/// What is told of two dumps whose own geometries differ: the line of both; or that memory ran out.
+/// What is printed for two dumps whose own geometries differ: the line of both; or that memory ran out.
 fn unlike(alloc: Global, left: &Dump<'_>, right: &Dump<'_>) -> Unread
     ensures { Tells (λ o. Gives o (says (unlike_line (sizes_of left.now.numbers) (sizes_of right.now.numbers)) 1)) result }
 {
@@ -323,13 +323,12 @@ fn unlike(alloc: Global, left: &Dump<'_>, right: &Dump<'_>) -> Unread
     }
 }
 
-/// Compares what two files mean, each of which is read as the words tell, or as its own headers do. Both are opened before the first is
-/// judged.
+/// Compares what two files mean. Each is read as the words say, or as its own headers show. Both are opened before the first is judged.
 ///
 /// # Errors
 ///
-/// The line of a file of which no dump is told, of two dumps whose geometries differ, or of a dump that can't be had; or that memory
-/// ran out.
+/// The line of a file in which no dump is found, of two dumps whose geometries differ, or of a dump that can't be opened; or that
+/// memory ran out.
 fn compare_both<D: Disk>(
     disk: &D,
     alloc: Global,
@@ -357,7 +356,7 @@ fn compare_both<D: Disk>(
     compare_dumps(disk, alloc, how, left, right)
 }
 
-/// What comparing two files tells, each of which is read as the words tell, or as its own headers do, in its format.
+/// What comparing two files answers, in its format. Each file is read as the words say, or as its own headers show.
 pub fn compare_files<D: Disk>(
     disk: &D,
     alloc: Global,

@@ -15,7 +15,7 @@ use ubi_files::{DONE, Disk, FAILED, Numbers, Outcome, refused};
 use ubi_media::Geometry;
 use ubi_volume::{Meaning, MeaningCause};
 
-/// The line of a text's line that something is wrong with, which is counted from 1.
+/// The printed line for a line of a text that has a fault; the lines of a text are counted from 1.
 fn spec_line(alloc: Global, line: u32, cause: SpecCause) -> Result<Vec<u8>, AllocError>
     ensures { IfOk result (λ text. text.items ≡ spec_line line cause) }
 {
@@ -36,7 +36,7 @@ pub fn room_line(alloc: Global) -> Result<Vec<u8>, AllocError>
     refused(alloc, &ComposeError::TooMany)
 }
 
-/// What is answered of a meaning: the number of eraseblocks of its image, and their bytes, or that the device has no room
+/// What is answered for a meaning: the number of eraseblocks of its image and their bytes, or that the device has no room
 /// for them.
 fn compose_meaning(alloc: Global, meaning: &Meaning, spares: u32) -> Result<Outcome, AllocError>
     ensures { IfOk result (ComposesOf meaning.now spares) }
@@ -52,12 +52,12 @@ fn compose_meaning(alloc: Global, meaning: &Meaning, spares: u32) -> Result<Outc
     }
 }
 
-/// Composes the image that a text describes, with so many spare eraseblocks at its end and an image sequence number: the
-/// number of its eraseblocks and their bytes.
+/// Composes the image that a text describes, with an image sequence number, and with `spares` spare eraseblocks at its
+/// end. It answers with the number of its eraseblocks and their bytes.
 ///
-/// Where the text describes none, a line says why, and there is no file: the first line of the text that something is
-/// wrong with; or why its volumes have no meaning together, counted from 0 in the order of their lines; or that the
-/// device has fewer eraseblocks.
+/// If the text describes no image, a line says why, and there is no file. It is the line for the first line of the text
+/// that has a fault; or why its volumes have no meaning together, which are counted from 0 in the order of their lines;
+/// or that the device has fewer eraseblocks.
 ///
 /// # Errors
 ///

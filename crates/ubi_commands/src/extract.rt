@@ -19,7 +19,7 @@ use ubi_media::Geometry;
 use ubi_scan::{BlockSource, MemorySource, StreamError};
 use ubi_volume::{Places, ReadError, attach_places, write_places};
 
-/// What is answered of a volume that isn't read.
+/// What is answered for a volume that isn't read.
 ///
 /// # Errors
 ///
@@ -35,13 +35,13 @@ fn unread(alloc: Global, error: ReadError) -> Result<Outcome, ToolError>
     }
 }
 
-/// Writes what a volume of a source reads, by its places, and answers how many bytes that are; or the line of the refusal
-/// to read it, and nothing is written then.
+/// Writes what a volume of a source reads, by its places, and answers how many bytes that is; or answers with the line of
+/// the refusal to read it, and then nothing is written.
 ///
 /// # Errors
 ///
-/// Read where a read failed, and Write where a write failed: the writer received the first of the bytes then. Memory
-/// where memory ran out, and nothing is written then.
+/// `Read` if a read failed, and `Write` if a write failed: the writer then received the first of the bytes.
+/// `Memory` if memory ran out; then nothing is written.
 fn extract_from_places<S: BlockSource, W: Write>(
     alloc: Global,
     geometry: &Geometry,
@@ -58,7 +58,7 @@ fn extract_from_places<S: BlockSource, W: Write>(
     ensures untouched { WhereNotDone (writer.new ≡ writer.old) result }
     ensures err { IfErr result (IsExtractFault geometry.now (S.known source.old) (S.agrees source.new) key.entry (W.contents writer.old) (W.contents writer.new)) }
 {
-    // Taken before the first byte is written.
+    // Reserved before the first byte is written.
     let mut line = Vec::with_capacity(alloc, LONGEST_COUNT_LINE)?;
     let mut buffer = Vec::from_elem(alloc, 0u8, geometry.peb_size() as usize)?;
     let Some(id) = key.number_in(places.table()) else {
@@ -76,20 +76,20 @@ fn extract_from_places<S: BlockSource, W: Write>(
         }
         Err(StreamError::Read(_, _)) => Err(ToolError::Read),
         Err(StreamError::Write(_)) => Err(ToolError::Write),
-        // Nothing is refused any more, and all memory was taken.
+        // Nothing is refused any more, and all memory has been allocated.
         Err(StreamError::Refused(_) | StreamError::Memory) => unreachable!(),
     }
 }
 
-/// Writes what a volume of a source reads, and answers how many bytes that are. At most an eraseblock of contents is held.
+/// Writes what a volume of a source reads, and answers how many bytes that is. At most one eraseblock of contents is held.
 ///
-/// An image that is refused, or a volume that isn't there or can't be read, is answered with the line of its refusal;
-/// nothing is written then. The room for the answer is taken before the first byte is written.
+/// If the image is refused, or the volume doesn't exist or can't be read, it answers with the line of the refusal, and
+/// then nothing is written. Space for the answer is reserved before the first byte is written.
 ///
 /// # Errors
 ///
-/// Read where a read failed, and Write where a write failed: the writer received the first of the bytes then, or nothing.
-/// Memory where memory ran out, and nothing is written then.
+/// `Read` if a read failed, and `Write` if a write failed: the writer then received the first of the bytes, or none.
+/// `Memory` if memory ran out; then nothing is written.
 pub fn run_extract_from<S: BlockSource, W: Write>(
     alloc: Global,
     geometry: &Geometry,
@@ -115,15 +115,15 @@ pub fn run_extract_from<S: BlockSource, W: Write>(
     }
 }
 
-/// Writes what a volume of an image reads, and answers how many bytes that are.
+/// Writes what a volume of an image reads, and answers how many bytes that is.
 ///
-/// An image that is refused, or a volume that isn't there or can't be read, is answered with the line of its refusal;
-/// nothing is written then.
+/// If the image is refused, or the volume doesn't exist or can't be read, it answers with the line of the refusal,
+/// and then nothing is written.
 ///
 /// # Errors
 ///
-/// Write where a write failed: the writer received the first of the bytes then. Memory where memory ran out, and nothing
-/// is written then.
+/// `Write` if a write failed: the writer then received the first of the bytes. `Memory` if memory ran out; then
+/// nothing is written.
 pub fn run_extract<W: Write>(
     alloc: Global,
     geometry: &Geometry,

@@ -1,4 +1,4 @@
-//! How a dump is read: as the words tell, or, where they give no geometry, as its own headers do.
+//! How a dump is read: as the words say, or if they give no geometry, as its own headers show.
 
 ghost use Rattle.std.specs.Option.{ForSome, IsSomeAnd};
 ghost use Rattle.std.specs.Prelude.{◌≡◌, ◌≢◌, ◌+◌, ◌^◌, ◌≤◌, ◌⊎◌, IfErr, IfOk, IfSome, IsOkAnd, None, [], codes, drop, length, take, true};
@@ -27,17 +27,17 @@ use ubi_files::{
 };
 use ubi_scan::{BlockSource, MemorySource, PlacedFile};
 
-/// A dump of which it is known how it is read.
+/// A dump for which it is known how it is read.
 #[derive(Drop)]
 pub struct KnownDump<'a> {
     /// The dump.
     pub dump: Dump<'a>,
-    /// The bytes of its part of the file, where that can't be read at places and was read whole to find how the dump is read.
+    /// The bytes of its part of the file, if that can't be read at places and was read whole to find how the dump is read.
     pub kept: Option<Vec<u8>>,
 }
 
 impl<'a> KnownDump<'a> {
-    /// A dump that is read as the words tell.
+    /// A dump that is read as the words say.
     pub fn given(dump: Dump<'a>) -> KnownDump<'a>
         ensures dump { result.dump ≡ dump.entry }
         ensures kept { result.kept ≡ None }
@@ -47,7 +47,7 @@ impl<'a> KnownDump<'a> {
 }
 
 impl<'a> Sought<'a> {
-    /// The dump, as its headers tell. None where its place can't be counted.
+    /// The dump, as its headers show it. `None` if its place can't be counted.
     fn told(&self, told: &Detected) -> Option<Dump<'a>>
         ensures dump { IfSome result (λ dump. dump ≡ told_dump self.now told.now) }
         ensures none { result ≡ None → 2 ^ 64 ≤ self.now.part.start + told.now.start }
@@ -68,7 +68,7 @@ impl<'a> Sought<'a> {
     }
 }
 
-/// What is told of a file whose headers tell nothing: the line of the cause, behind a side; or that memory ran out.
+/// What is printed for a file whose headers show nothing: the line of the cause, after a side; or that memory ran out.
 fn undetected(alloc: Global, side: &str, cause: Undetected) -> Unread
     ensures { Tells (λ o. Gives o (says (undetected_side_line side.now cause) 1)) result }
 {
@@ -78,11 +78,11 @@ fn undetected(alloc: Global, side: &str, cause: Undetected) -> Unread
     }
 }
 
-/// What the headers of a source tell first.
+/// What the headers of a source show first.
 ///
 /// # Errors
 ///
-/// The line of the file, where a read failed; that of the cause for which they tell nothing, behind a side; or that memory ran out.
+/// The line of the file, if a read failed; that of the cause for which they show nothing, after a side; or that memory ran out.
 fn first_told<S: BlockSource>(
     alloc: Global,
     source: &mut S,
@@ -102,7 +102,7 @@ fn first_told<S: BlockSource>(
     }
 }
 
-/// The dump of a file, as its headers tell.
+/// The dump of a file, as its headers show it.
 ///
 /// # Errors
 ///
@@ -123,7 +123,7 @@ fn dump_told<'a>(
     }
 }
 
-/// Keeps of bytes a part.
+/// Keeps only a part of bytes.
 fn keep_part(bytes: &mut Vec<u8>, start: u64, length: u64)
     ensures { bytes.new.items ≡ take length (drop start bytes.old.items) }
 {
@@ -135,11 +135,11 @@ fn keep_part(bytes: &mut Vec<u8>, start: u64, length: u64)
     bytes.truncate(count);
 }
 
-/// How a dump is read that is read at places, as the headers of the source tell first.
+/// How a dump that is read at places is read: as the headers of the source show first.
 ///
 /// # Errors
 ///
-/// The line of the file, where a read failed; that of the cause for which they tell nothing, behind a side; or that memory ran out.
+/// The line of the file, if a read failed; that of the cause for which they show nothing, after a side; or that memory ran out.
 fn seek_at_places<'a, S: BlockSource>(
     alloc: Global,
     sought: &Sought<'a>,
@@ -157,7 +157,7 @@ fn seek_at_places<'a, S: BlockSource>(
     Ok(KnownDump::given(dump_told(alloc, sought, &told, path)?))
 }
 
-/// How a dump is read of whose file the part in which its headers are looked for was read whole.
+/// How a dump is read, if the part of its file in which its headers are looked for was read whole.
 ///
 /// # Errors
 ///
@@ -182,12 +182,12 @@ fn seek_whole<'a>(
     })
 }
 
-/// How a dump is read of which the words give no geometry: as its headers tell first.
+/// How a dump without a geometry in the words is read: as its headers show first.
 ///
 /// # Errors
 ///
-/// The line of a file that can't be read, or that hasn't the part in which they are looked for; that of the cause for which they tell
-/// nothing, behind a side; or that memory ran out.
+/// The line of a file that can't be read, or that doesn't have the part in which they are looked for; that of the cause for which
+/// they show nothing, after a side; or that memory ran out.
 fn seek_dump<'a, D: Disk>(
     disk: &D,
     alloc: Global,
@@ -209,12 +209,12 @@ fn seek_dump<'a, D: Disk>(
     }
 }
 
-/// How a dump is read: as the words tell, or, where they give no geometry, as its headers tell first.
+/// How a dump is read: as the words say, or if they give no geometry, as its headers show first.
 ///
 /// # Errors
 ///
-/// Where the words give no geometry: the line of a file that can't be read, or that hasn't the part in which its headers are looked
-/// for; that of the cause for which they tell nothing, behind a side; or that memory ran out.
+/// If the words give no geometry: the line of a file that can't be read, or that doesn't have the part in which its headers are
+/// looked for; that of the cause for which they show nothing, after a side; or that memory ran out.
 pub fn find_dump<'a, D: Disk>(
     disk: &D,
     alloc: Global,

@@ -23,7 +23,7 @@ pub(crate) struct FolderConfig {
     pub path: String,
     /// Its text.
     pub text: Vec<u8>,
-    /// What is answered where it can't be written.
+    /// The answer if it can't be written.
     pub unwritten: Outcome,
 }
 
@@ -102,11 +102,11 @@ pub(crate) fn folder_config(
     })
 }
 
-/// Writes a text into a new file.
+/// Writes a text to a new file.
 ///
 /// # Errors
 ///
-/// Write where the file can't be made, or a write failed.
+/// `Write` if the file can't be made, or if a write failed.
 pub(crate) fn write_new<D: Disk>(disk: &mut D, path: &str, text: &[u8]) -> Result<(), ToolError>
     ensures written { OnOk result (IsWritten text.now path.now (D.files disk.old) (D.files disk.new)) }
     ensures others { OthersStay (D.files disk.old) (D.files disk.new) path.now }

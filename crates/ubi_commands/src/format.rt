@@ -12,7 +12,7 @@ use ubi_files::{Outcome, Unread, refusal_line};
 use ubi_json::error_line;
 use ubi_media::Refusal;
 
-/// How an answer is told.
+/// The format of an answer.
 #[derive(Clone, Copy)]
 pub enum Format {
     /// In lines for people.
@@ -21,7 +21,7 @@ pub enum Format {
     Json,
 }
 
-/// What is told of an image that is refused.
+/// What is printed for an image that is refused.
 pub fn refusal_told(alloc: Global, format: Format, cause: Refusal) -> Result<Vec<u8>, AllocError>
     ensures { IfOk result (λ text. text.items ≡ refusal_told format cause) }
 {
@@ -31,7 +31,7 @@ pub fn refusal_told(alloc: Global, format: Format, cause: Refusal) -> Result<Vec
     }
 }
 
-/// What is told of one of two images that is refused.
+/// What is printed for one of two images that is refused.
 pub fn side_told(
     alloc: Global,
     format: Format,
@@ -46,7 +46,7 @@ pub fn side_told(
     }
 }
 
-/// What is told of a file of which no geometry is told.
+/// What is printed for a file in which no geometry is found.
 pub fn undetected_told(
     alloc: Global,
     format: Format,
@@ -60,7 +60,7 @@ pub fn undetected_told(
     }
 }
 
-/// What is told of a file that can't be had, of which this is printed in plain lines.
+/// The answer in a format for a file that can't be opened; `plain` is what is printed for it in plain lines.
 fn plain_in(alloc: Global, format: Format, plain: Outcome) -> Result<Outcome, AllocError>
     ensures { IfOk result (IsLineIn format plain) }
 {
@@ -73,7 +73,7 @@ fn plain_in(alloc: Global, format: Format, plain: Outcome) -> Result<Outcome, Al
     }
 }
 
-/// What is told of work: its outcome, or what is printed of a file that can't be had.
+/// The answer of work: its outcome, or what is printed for a file that can't be opened.
 pub fn told_in(
     alloc: Global,
     format: Format,

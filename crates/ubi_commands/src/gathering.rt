@@ -1,4 +1,4 @@
-//! What the sections of a config come to: volumes to build, and the files that hold their bytes.
+//! What the sections of a config give: volumes to build, and the files that hold their bytes.
 
 ghost use Rattle.std.specs.Prelude.{◌≡◌, ◌++◌, ◌<◌, ◌^◌, ◌∷◌, [], ℕ, Contains, Err, IfErr, IfOk, List, OnOk, map, option_map, sum_by};
 ghost use Rattle.ubi_media.specs.Geometry.{Sizes};
@@ -18,16 +18,16 @@ use ubi_files::{Disk, FAILED, Outcome, SizedFile, Unread, refused, unread_line};
 use ubi_media::Geometry;
 use ubi_scan::PlacedFile;
 
-/// The paths of a config, and of the image that is built of it.
+/// The paths of a config, and of the image that is built from it.
 #[derive(Clone, Copy)]
 pub struct ConfigPaths<'a> {
-    /// That of the config.
+    /// The path of the config.
     pub config: &'a str,
-    /// That of the file which is written.
+    /// The path of the file that is written.
     pub out: &'a str,
 }
 
-/// The image file of a section, if it names one, and what is answered where it can't be read.
+/// The image file of a section, if it names one, and the answer if that can't be read.
 #[derive(Drop)]
 struct Found<F: PlacedFile> {
     file: Option<SizedFile<F>>,
@@ -39,15 +39,15 @@ struct Found<F: PlacedFile> {
 pub struct Gathered<F: PlacedFile> {
     /// The volumes, in the order of their sections.
     pub parts: Vec<Part>,
-    /// The files, in the same order; none of a volume without bytes.
+    /// The files, in the same order; there is none for a volume without bytes.
     pub files: Vec<SizedFile<F>>,
-    /// How many bytes these have together.
+    /// How many bytes the files have together.
     pub total: u64,
-    /// What is answered where the bytes of a volume can't be read, in the same order, one for each volume.
+    /// The answer if the bytes of a volume can't be read, for each volume in the same order.
     pub unread: Vec<Outcome>,
 }
 
-/// What is answered of a config's line that something is wrong with.
+/// The answer for a line of a config that has a fault.
 pub fn config_line(alloc: Global, line: u32, cause: ConfigCause) -> Result<Outcome, AllocError>
     ensures { IfOk result (λ o. Gives o (says (config_line line cause) 1)) }
 {
@@ -59,7 +59,7 @@ pub fn config_line(alloc: Global, line: u32, cause: ConfigCause) -> Result<Outco
 ///
 /// # Errors
 ///
-/// The line of a file that can't be read, or may be the output; that of a path that isn't text; or that memory ran out.
+/// The line of a file that can't be read, or that may be the output; that of a path that isn't text; or that memory ran out.
 fn find_image<D: Disk>(
     disk: &D,
     alloc: Global,
@@ -89,7 +89,7 @@ fn find_image<D: Disk>(
 }
 
 impl<F: PlacedFile + Drop> Found<F> {
-    /// How many bytes the file has, if there is one.
+    /// The size of the file in bytes, if there is one.
     fn len(&self) -> Option<u64>
         ensures { result ≡ option_map (λ x. x.len) self.now.file }
     {
@@ -118,7 +118,7 @@ impl<F: PlacedFile + Drop> Found<F> {
 }
 
 impl<F: PlacedFile + Drop> Gathered<F> {
-    /// Nothing.
+    /// No volumes yet.
     fn new(alloc: Global) -> Gathered<F>
         ensures parts { result.parts.items ≡ [] }
         ensures files { result.files.items ≡ [] }
@@ -155,8 +155,8 @@ impl<F: PlacedFile + Drop> Gathered<F> {
 ///
 /// # Errors
 ///
-/// The line of the first section that comes to no volume: that of its image file, which can't be read, or may be the output;
-/// or why the section gives no record. Or that memory ran out.
+/// The line of the first section that gives no volume: that of its image file, which can't be read, or may be the output; or
+/// why the section gives no record. Or that memory ran out.
 pub fn gather<D: Disk>(
     disk: &D,
     alloc: Global,

@@ -1,4 +1,4 @@
-//! The command `geometry`: the geometries that a dump's own headers give, and which part of the file the image is.
+//! The command `geometry`: the geometries that a dump's own headers give, and which part of the file is the image.
 
 ghost use Rattle.std.specs.Prelude.{◌≡◌, ◌+◌, ◌++◌, IfErr, IfOk, OnOk, codes, decimal};
 ghost use Rattle.ubi_scan.specs.Source.{Narrows, WhereHeld};
@@ -16,7 +16,7 @@ use ubi_files::{
 use ubi_media::Geometry;
 use ubi_scan::{BlockSource, MemorySource};
 
-/// Adds the options by which the other commands are given the sizes of a device.
+/// Adds the options that give the other commands the sizes of a device.
 fn put_sizes(text: &mut Vec<u8>, geometry: &Geometry) -> Result<(), AllocError>
     ensures { OnOk result (text.new.items ≡ text.old.items ++ sizes_options geometry.now) }
 {
@@ -26,7 +26,7 @@ fn put_sizes(text: &mut Vec<u8>, geometry: &Geometry) -> Result<(), AllocError>
     put_number(text, " --data ", u64::from(geometry.data_offset()))
 }
 
-/// Adds the option by which they are given how many out-of-band bytes lie behind each page, where some do.
+/// Adds the option that gives them how many out-of-band bytes follow each page, if some do.
 fn put_oob(text: &mut Vec<u8>, oob: u32) -> Result<(), AllocError>
     ensures { OnOk result (text.new.items ≡ text.old.items ++ oob_option oob) }
 {
@@ -36,15 +36,14 @@ fn put_oob(text: &mut Vec<u8>, oob: u32) -> Result<(), AllocError>
     put_number(text, " --oob ", u64::from(oob))
 }
 
-/// Whether what is told of a part of `len` bytes is told of the whole file. Where the words say how long the part is, the file may be
-/// longer.
+/// Whether what is found in a part of `len` bytes is the whole file. If the words say how long the part is, the file may be longer.
 fn is_whole_file(part: FilePart, len: u64, told: &Detected) -> bool
     ensures { result ≡ is_whole_file part len told.now }
 {
     part.length.is_none() && part.start == 0 && told.start == 0 && told.length == len
 }
 
-/// Adds the option of the place that lies so many bytes behind a start.
+/// Adds the option of the place that lies `behind` bytes after a start.
 fn put_start(text: &mut Vec<u8>, start: u64, behind: u64) -> Result<(), AllocError>
     ensures { OnOk result (text.new.items ≡ text.old.items ++ (codes " --start " ++ decimal (start + behind))) }
 {
@@ -53,7 +52,7 @@ fn put_start(text: &mut Vec<u8>, start: u64, behind: u64) -> Result<(), AllocErr
     put_word(text, buffer.format(u128::from(start) + u128::from(behind)))
 }
 
-/// Adds the options by which they are given which part of the file the image is, where it isn't the whole file.
+/// Adds the options that give them which part of the file is the image, if that isn't the whole file.
 fn put_part(text: &mut Vec<u8>, part: FilePart, len: u64, told: &Detected) -> Result<(), AllocError>
     ensures { OnOk result (text.new.items ≡ text.old.items ++ part_options part len told.now) }
 {
@@ -64,7 +63,7 @@ fn put_part(text: &mut Vec<u8>, part: FilePart, len: u64, told: &Detected) -> Re
     put_number(text, " --length ", told.length)
 }
 
-/// Adds the options by which they are given what is told of a part of `len` bytes.
+/// Adds the options that give them what is found in a part of `len` bytes.
 fn put_options(
     text: &mut Vec<u8>,
     part: FilePart,
@@ -78,7 +77,7 @@ fn put_options(
     put_part(text, part, len, told)
 }
 
-/// Adds the line of what is told of a part of `len` bytes.
+/// Adds the line of what is found in a part of `len` bytes.
 fn put_options_line(
     text: &mut Vec<u8>,
     part: FilePart,
@@ -91,7 +90,7 @@ fn put_options_line(
     put_word(text, "\n")
 }
 
-/// The lines of all that is told of a part of `len` bytes, in their order.
+/// The lines of all that is found in a part of `len` bytes, in order.
 fn options_lines(
     alloc: Global,
     part: FilePart,
@@ -107,7 +106,7 @@ fn options_lines(
     Ok(text)
 }
 
-/// What is told in a format of all that is told of a part of `len` bytes.
+/// What is printed in a format for all that is found in a part of `len` bytes.
 fn geometry_told(
     alloc: Global,
     format: Format,
@@ -123,12 +122,12 @@ fn geometry_told(
     }
 }
 
-/// Tells the geometries that the headers of a part of a file give, and which part of the file the image is, in lines each as the options
-/// of the other commands; or answers the cause for which none is told. The source is over that part.
+/// Finds the geometries that the headers of a part of a file give, and which part of the file is the image. It answers with a line for
+/// each, of options for the other commands; or with the cause for which none is found. The source is over that part.
 ///
 /// # Errors
 ///
-/// Read where a read failed. Memory where memory ran out.
+/// `Read` if a read failed. `Memory` if memory ran out.
 pub fn run_geometry_from<S: BlockSource>(
     alloc: Global,
     source: &mut S,
@@ -156,7 +155,7 @@ pub fn run_geometry_from<S: BlockSource>(
     }
 }
 
-/// Tells in lines the geometries that the headers of a file give, as [`run_geometry_from`] does of a source.
+/// Finds the geometries that the headers of a file give, in lines, as [`run_geometry_from`] does for a source.
 ///
 /// # Errors
 ///

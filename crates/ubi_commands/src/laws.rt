@@ -7,7 +7,7 @@ ghost use Rattle.ubi_commands.specs.Laws.{ListsComposed, OneComposed};
 ghost use Rattle.ubi_commands.specs.PageLaws.{LeastTold};
 
 /// Of accepted images of one geometry, two mean the same exactly if their normalised images are equal byte for byte;
-/// normalising keeps the meaning and twice is once; an image has one meaning at most; it is refused exactly where a stated
+/// normalising keeps the meaning and twice is once; an image has at most one meaning; it is refused exactly where a stated
 /// fault stands; and an atomic change cut after any whole step means the old or the new.
 pub fn headline()
     ensures { Headline }
@@ -18,33 +18,34 @@ pub fn one_composed()
     ensures { OneComposed }
 {}
 
-/// What is listed of a composed image is the meaning that the text comes to.
+/// `list` of a composed image shows the meaning that the text comes to.
 pub fn lists_composed()
     ensures { ListsComposed }
 {}
 
-/// Of a config that was built with the status 0, over a disk that tells its files: what the output holds is an image that is
-/// accepted, and the volume of each section reads what the file of its `image` key holds, and a dynamic one 0xFF behind that, to
-/// the end of what it reserves.
+/// If a build ended with the status 0, over a disk on which it is known what each file holds, the output holds an image that is
+/// accepted. The volume of each section then reads what the file of its `image` key holds; a dynamic one reads 0xFF after that,
+/// to the end of what it reserves.
 pub fn build_reads()
     ensures { BuildReads }
 {}
 
-/// The config that `unpack` writes of an accepted image has no fault, and its sections are those of the volumes that aren't left
-/// out.
+/// The config that `unpack` writes for an accepted image has no fault, and its sections are those of the volumes that aren't
+/// left out.
 pub fn folder_config_reads()
     ensures { FolderConfigReads }
 {}
 
-/// Of the config that `unpack` writes of an accepted image, where it describes each volume, and of the files with what these read
-/// `build` makes the normal image of the image, byte for byte, where it ends with the status 0 over a disk that tells its files.
+/// From the config that `unpack` writes for an accepted image, if it describes each volume, and from the files with what these
+/// read, `build` makes the normal image of the image, byte for byte. It does if it ends with the status 0 over a disk on which it
+/// is known what each file holds.
 pub fn builds_the_image()
     ensures { BuildsTheImage }
 {}
 
-/// Of what is told of a file, the first has the least page: where pages have no out-of-band bytes, nothing else
-/// differs, and an image that is accepted with another one is accepted with the first, with the same meaning but for
-/// the page, and the same normal image.
+/// Of what is found in a file, the first has the least page. If pages have no out-of-band bytes, nothing else
+/// differs, and an image that is accepted with another one is accepted with the first, with the same meaning except
+/// for the page, and the same normal image.
 pub fn least_told()
     ensures { LeastTold }
 {}

@@ -1,9 +1,8 @@
-//! The commands of `ubi_tool` over files: what the words ask for is read, done and written, and its answer is a text and an
+//! The commands of `ubi_tool` over files. A command does what its words ask for, and answers with a printed text and an
 //! exit status.
 //!
-//! [`run_words`] takes the words and a [`Disk`](ubi_files::Disk), which reaches files by their paths. Below it
-//! each command is a function over a source of an image's bytes, or over bytes in memory. The program prints what is
-//! answered, by [`report`].
+//! [`run_words`] takes the words and a [`Disk`](ubi_files::Disk), which reaches files by their paths. Below it each command
+//! is a function over a source of an image's bytes, or over bytes in memory. The program prints the answer with [`report`].
 #![tactic(auto)]
 
 mod asked;

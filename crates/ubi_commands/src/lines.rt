@@ -12,14 +12,14 @@ use ubi_files::{Numbers, put_number, put_word, refusal_line, refused};
 use ubi_json::side_word;
 use ubi_media::Refusal;
 
-/// The line of a file of which no geometry is told.
+/// The line of a file in which no geometry is found.
 pub fn undetected_line(alloc: Global, why: Undetected) -> Result<Vec<u8>, AllocError>
     ensures { IfOk result (λ text. text.items ≡ undetected_line why) }
 {
     refused(alloc, &why)
 }
 
-/// The same of one of two files, behind the side on which it stands.
+/// The line of one of two files in which no geometry is found, after the side on which it stands.
 pub fn undetected_side_line(
     alloc: Global,
     side: &str,
@@ -32,7 +32,7 @@ pub fn undetected_side_line(
     Ok(text)
 }
 
-/// Adds the numbers that a geometry is made of, but how many eraseblocks there are.
+/// Adds the numbers of a geometry, except how many eraseblocks there are.
 pub fn put_layout(text: &mut Vec<u8>, numbers: Numbers) -> Result<(), AllocError>
     ensures { OnOk result (text.new.items ≡ text.old.items ++ layout_words (sizes_of numbers)) }
 {
@@ -43,7 +43,7 @@ pub fn put_layout(text: &mut Vec<u8>, numbers: Numbers) -> Result<(), AllocError
     put_number(text, " data=", number_or(numbers.data_offset, 2 * page))
 }
 
-/// A number, or what stands for it where it is left out.
+/// A number, or its default if it is left out.
 fn number_or(number: Option<u32>, default: u64) -> u64
     ensures { result ≡ unwrap_or number default }
 {
@@ -65,7 +65,7 @@ pub fn unlike_line(alloc: Global, left: Numbers, right: Numbers) -> Result<Vec<u
     Ok(text)
 }
 
-/// The line of one of two images that is refused, behind the side on which it stands.
+/// The line of one of two images that is refused, after the side on which it stands.
 pub fn side_line(alloc: Global, side: Side, cause: Refusal) -> Result<Vec<u8>, AllocError>
     ensures { IfOk result (λ text. text.items ≡ side_line side cause) }
 {
@@ -89,10 +89,10 @@ pub fn no_block_line(alloc: Global) -> Result<Vec<u8>, AllocError>
     refused(alloc, &"B1 Block")
 }
 
-/// The bytes of the longest line of a count: its word, twenty digits and the line's end.
+/// The length of the longest line of a count in bytes: its word, twenty digits and the line's end.
 pub const LONGEST_COUNT_LINE: usize = 28;
 
-/// Adds a word, a number and the end of a line. Where there is room for the longest number, it takes no memory.
+/// Adds a word, a number and the end of a line. If there is space for the longest number, it allocates no memory.
 fn put_count_line(text: &mut Vec<u8>, word: &[u8], count: u64) -> Result<(), AllocError>
     ensures line { OnOk result (text.new.items ≡ text.old.items ++ (word.now ++ decimal count ++ codes "\n")) }
     ensures room { vec_len text.old + length word.now + 21 ≤ vec_capacity text.old → IsOk result }
@@ -103,7 +103,7 @@ fn put_count_line(text: &mut Vec<u8>, word: &[u8], count: u64) -> Result<(), All
     text.extend_from_slice(b"\n")
 }
 
-/// Adds the line of a number of bytes. Where there is room for the longest one, it takes no memory.
+/// Adds the line of a number of bytes. If there is space for the longest one, it allocates no memory.
 ///
 /// # Errors
 ///
@@ -115,7 +115,7 @@ pub fn put_bytes_line(text: &mut Vec<u8>, count: u64) -> Result<(), AllocError>
     put_count_line(text, b"bytes ", count)
 }
 
-/// Adds the line of a number of eraseblocks. Where there is room for the longest one, it takes no memory.
+/// Adds the line of a number of eraseblocks. If there is space for the longest one, it allocates no memory.
 ///
 /// # Errors
 ///

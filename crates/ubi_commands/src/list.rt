@@ -70,7 +70,7 @@ fn put_sizes(text: &mut Vec<u8>, geometry: &Geometry) -> Result<(), AllocError>
     put_word(text, "\n")
 }
 
-/// Adds what a record says of its volume but the name.
+/// Adds what a record says about its volume, except the name.
 fn put_record(
     alloc: Global,
     text: &mut Vec<u8>,
@@ -110,11 +110,11 @@ fn put_volume(
     put_word(text, "\n")
 }
 
-/// Adds the lines of the volumes of a source, by rising number. The buffer has the size of an eraseblock.
+/// Adds the lines of the volumes of a source, in ascending order. The buffer has the size of an eraseblock.
 ///
 /// # Errors
 ///
-/// Read where a read failed. Memory where memory ran out.
+/// `Read` if a read failed. `Memory` if memory ran out.
 fn put_volumes<S: BlockSource>(
     alloc: Global,
     text: &mut Vec<u8>,
@@ -148,7 +148,7 @@ fn put_volumes<S: BlockSource>(
 ///
 /// # Errors
 ///
-/// Read where a read failed. Memory where memory ran out.
+/// `Read` if a read failed. `Memory` if memory ran out.
 fn list_lines<S: BlockSource>(
     alloc: Global,
     geometry: &Geometry,
@@ -177,11 +177,11 @@ fn list_lines<S: BlockSource>(
     Ok(text)
 }
 
-/// Keeps what is listed of the volumes of a source, by rising number. The buffer has the size of an eraseblock.
+/// Keeps what is listed about the volumes of a source, in ascending order. The buffer has the size of an eraseblock.
 ///
 /// # Errors
 ///
-/// Read where a read failed. Memory where memory ran out.
+/// `Read` if a read failed. `Memory` if memory ran out.
 pub(crate) fn keep_volumes<S: BlockSource>(
     listed: &mut Vec<ListedVolume>,
     geometry: &Geometry,
@@ -216,7 +216,7 @@ pub(crate) fn keep_volumes<S: BlockSource>(
 ///
 /// # Errors
 ///
-/// Read where a read failed. Memory where memory ran out.
+/// `Read` if a read failed. `Memory` if memory ran out.
 fn list_object<S: BlockSource>(
     alloc: Global,
     geometry: &Geometry,
@@ -235,11 +235,11 @@ fn list_object<S: BlockSource>(
     Ok(list_line(alloc, geometry, listed.as_slice())?)
 }
 
-/// What is told of a source in a format: the sizes of its device, and its volumes.
+/// What is printed in a format for a source: the sizes of its device, and its volumes.
 ///
 /// # Errors
 ///
-/// Read where a read failed. Memory where memory ran out.
+/// `Read` if a read failed. `Memory` if memory ran out.
 fn list_told<S: BlockSource>(
     alloc: Global,
     geometry: &Geometry,
@@ -259,11 +259,11 @@ fn list_told<S: BlockSource>(
     }
 }
 
-/// Lists the volumes of a source, or answers the cause of its refusal. One eraseblock of contents is held at a time.
+/// Lists the volumes of a source, or answers with the cause of its refusal. One eraseblock of contents is held at a time.
 ///
 /// # Errors
 ///
-/// Read where a read failed. Memory where memory ran out.
+/// `Read` if a read failed. `Memory` if memory ran out.
 pub fn run_list_from<S: BlockSource>(
     alloc: Global,
     geometry: &Geometry,
@@ -292,7 +292,7 @@ pub fn run_list_from<S: BlockSource>(
     }
 }
 
-/// Lists the volumes of an image in lines, or answers the line of its refusal.
+/// Lists the volumes of an image in lines, or answers with the line of its refusal.
 ///
 /// # Errors
 ///

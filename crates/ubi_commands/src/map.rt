@@ -25,7 +25,7 @@ use ubi_media::{Geometry, Refusal};
 use ubi_scan::{BlockSource, MemorySource, StreamError, block_count};
 use ubi_volume::{Surveyed, attach_places, survey_from};
 
-/// What is answered of an image that is surveyed.
+/// What is answered for an image that is surveyed.
 fn mapped(alloc: Global, surveyed: &Surveyed) -> Result<Outcome, AllocError>
     ensures { IfOk result (λ o. Gives o (says (state_rows surveyed.now) 0)) }
 {
@@ -35,7 +35,7 @@ fn mapped(alloc: Global, surveyed: &Surveyed) -> Result<Outcome, AllocError>
     Ok(Outcome::saying(text, DONE))
 }
 
-/// What is answered of eraseblocks with these letters that are refused for a cause.
+/// What is answered for eraseblocks with these letters that are refused for a cause.
 fn refused_rows(alloc: Global, letters: &str, cause: Refusal) -> Result<Outcome, AllocError>
     ensures { IfOk result (λ o. Gives o (says (rows letters.now ++ refusal_line cause) 1)) }
 {
@@ -50,7 +50,7 @@ fn refused_rows(alloc: Global, letters: &str, cause: Refusal) -> Result<Outcome,
 ///
 /// # Errors
 ///
-/// Read where a read failed. Memory where memory ran out.
+/// `Read` if a read failed. `Memory` if memory ran out.
 fn letters_of<S: BlockSource>(
     alloc: Global,
     geometry: &Geometry,
@@ -72,11 +72,11 @@ fn letters_of<S: BlockSource>(
     }
 }
 
-/// What is answered of a source that is refused for a cause.
+/// What is answered for a source that is refused for a cause.
 ///
 /// # Errors
 ///
-/// Read where a read failed. Memory where memory ran out.
+/// `Read` if a read failed. `Memory` if memory ran out.
 fn refused_map<S: BlockSource>(
     alloc: Global,
     geometry: &Geometry,
@@ -99,12 +99,12 @@ fn refused_map<S: BlockSource>(
     }
 }
 
-/// Tells what lies where in a source: a letter for the state of each eraseblock, in rows. Of one that is refused the letters are told by
-/// the headers alone, and the line of the refusal behind them. One eraseblock is held at a time.
+/// Shows what lies where in a source: a letter for the state of each eraseblock, in rows. If the image is refused, the letters come from
+/// the headers alone, and the line of the refusal follows them. One eraseblock is held at a time.
 ///
 /// # Errors
 ///
-/// Read where a read failed. Memory where memory ran out.
+/// `Read` if a read failed. `Memory` if memory ran out.
 pub fn run_map_from<S: BlockSource>(
     alloc: Global,
     geometry: &Geometry,
@@ -126,7 +126,7 @@ pub fn run_map_from<S: BlockSource>(
     }
 }
 
-/// Tells what lies where in an image, as [`run_map_from`] does of a source.
+/// Shows what lies where in an image, as [`run_map_from`] does for a source.
 ///
 /// # Errors
 ///
@@ -141,7 +141,7 @@ pub fn run_map(alloc: Global, geometry: &Geometry, image: &[u8]) -> Result<Outco
 ///
 /// # Errors
 ///
-/// Read where a read failed. Memory where memory ran out.
+/// `Read` if a read failed. `Memory` if memory ran out.
 fn texts_of<S: BlockSource>(
     alloc: Global,
     geometry: &Geometry,
@@ -167,7 +167,7 @@ fn texts_of<S: BlockSource>(
 ///
 /// # Errors
 ///
-/// Read where a read failed. Memory where memory ran out.
+/// `Read` if a read failed. `Memory` if memory ran out.
 fn surveyed_page_from<S: BlockSource>(
     alloc: Global,
     geometry: &Geometry,
@@ -205,11 +205,11 @@ fn surveyed_page_from<S: BlockSource>(
     }
 }
 
-/// The page of a source: of what it means, or why it is refused. None of one that hasn't the size of an image.
+/// The page of a source, with what it means or why it is refused. `None` if the source doesn't have the size of an image.
 ///
 /// # Errors
 ///
-/// Read where a read failed. Memory where memory ran out.
+/// `Read` if a read failed. `Memory` if memory ran out.
 fn page_from<S: BlockSource>(
     alloc: Global,
     geometry: &Geometry,
@@ -244,12 +244,13 @@ fn page_from<S: BlockSource>(
     }
 }
 
-/// Tells what [`run_map_from`] tells, and makes a page that shows it: the headers of each eraseblock, and what `check` and `list` tell of the
-/// image, or why it is refused. One that hasn't the size of an image has no page. The page is held whole.
+/// Shows what [`run_map_from`] shows, and makes a page of it, with the headers of each eraseblock, and what `check` and `list`
+/// print for the image, or why it is refused. If the source doesn't have the size of an image, there is no page. The page is held
+/// whole.
 ///
 /// # Errors
 ///
-/// Read where a read failed. Memory where memory ran out.
+/// `Read` if a read failed. `Memory` if memory ran out.
 pub fn run_page_from<S: BlockSource>(
     alloc: Global,
     geometry: &Geometry,
@@ -266,8 +267,8 @@ pub fn run_page_from<S: BlockSource>(
     Ok(outcome)
 }
 
-/// Tells what lies where in an image file, which is read as the words tell, or as its own headers do, and writes a page that shows it, where
-/// one is asked for.
+/// Shows what lies where in an image file, and writes a page of it, if one is asked for. The file is read as the words say, or as
+/// its own headers show.
 pub fn map_file<D: Disk>(
     disk: &mut D,
     alloc: Global,

@@ -1,4 +1,4 @@
-//! The command `normalise`: the normal image of what a source holds, into a writer.
+//! The command `normalise`: the normal image of what a source holds, written to a writer.
 
 ghost use Rattle.std.specs.Prelude.{◌≡◌, IfErr, IfOk};
 ghost use Rattle.ubi_scan.specs.Image.{image_of};
@@ -14,15 +14,15 @@ use ubi_files::{DONE, FAILED, Outcome, ToolError, refusal_line};
 use ubi_media::Geometry;
 use ubi_scan::{BlockSource, StreamError};
 
-/// Writes the normal image of what a source holds, and answers how many eraseblocks it has; or the line of its refusal,
-/// and nothing is written then.
+/// Writes the normal image of what a source holds, and answers how many eraseblocks it has; or answers with the line of
+/// its refusal, and then nothing is written.
 ///
-/// The room for the answer is taken before the first byte is written.
+/// Space for the answer is reserved before the first byte is written.
 ///
 /// # Errors
 ///
-/// Read where a read failed, and Write where a write failed: the writer received the first of the bytes then. Memory
-/// where memory ran out, and nothing is written then.
+/// `Read` if a read failed, and `Write` if a write failed: the writer then received the first of the bytes.
+/// `Memory` if memory ran out; then nothing is written.
 pub fn run_normalise<S: BlockSource, W: Write>(
     alloc: Global,
     geometry: &Geometry,

@@ -31,7 +31,7 @@ pub fn keep_file<D: Disk>(disk: &mut D, file: Option<OutputFile<'_, D::Output>>)
     }
 }
 
-/// Writes all of the bytes into a file, which is opened anew, though there be none.
+/// Writes all of the bytes to a file, which is opened anew, even if there are none.
 fn write_late<D: Disk, K: Target>(
     late: &mut LateFile<'_, '_, D, K>,
     bytes: &[u8],
@@ -56,7 +56,7 @@ pub struct Output<'a> {
     pub path: &'a str,
 }
 
-/// Writes bytes into the file of an output, and closes it. Gives the disk back.
+/// Writes bytes to the file of an output, and closes it. Returns the disk.
 fn write_to<'a, D: Disk, K: Target>(
     disk: &'a mut D,
     bytes: &[u8],
@@ -77,7 +77,7 @@ fn write_to<'a, D: Disk, K: Target>(
     (disk, work)
 }
 
-/// Writes bytes into the file of an output, which is opened anew, and closes it.
+/// Writes bytes to the file of an output, which is opened anew, and closes it.
 pub fn write_bytes<D: Disk>(disk: &mut D, bytes: &[u8], output: Output<'_>) -> Result<(), ToolError>
     ensures received { OnOk result (Receives (D.files disk.old) (D.files disk.new) output.entry.path.now (Some bytes.now)) }
     ensures others { OthersStay (D.files disk.old) (D.files disk.new) output.entry.path.now }
@@ -86,8 +86,8 @@ pub fn write_bytes<D: Disk>(disk: &mut D, bytes: &[u8], output: Output<'_>) -> R
     work
 }
 
-/// Writes the file of an outcome, if it has one, and answers the outcome, or the line of a file that can't be written. An
-/// outcome without a file opens none, nor is one opened that may be the file at `read`.
+/// Writes the file of an outcome, if it has one, and answers with the outcome, or with the line of a file that can't be
+/// written. No file is opened for an outcome without one, nor one that may be the file at `read`.
 pub fn write_outcome<D: Disk>(
     disk: &mut D,
     alloc: Global,
@@ -103,7 +103,7 @@ pub fn write_outcome<D: Disk>(
     let Some(bytes) = &outcome.file else {
         return Ok(outcome);
     };
-    // Made before the file is opened, so that no part of it is written where memory runs out.
+    // Made before the file is opened, so that nothing is written if memory runs out.
     let unwritten = unwritten_line(alloc, path)?;
     if disk.may_be_one(read, path) {
         return Ok(unwritten);

@@ -1,4 +1,4 @@
-//! What a command answers that plans steps: their lines, and the image after the first of them, into a writer.
+//! What a command that plans steps answers: their lines, and the image after the first of them, written to a writer.
 
 ghost use Rattle.std.specs.Prelude.{◌≡◌, ◌≢◌, ◌∷◌, ◌++◌, [], IfErr, IfOk, Ok, OnOk, take};
 ghost use Rattle.std.specs.List.{flat_map};
@@ -32,7 +32,7 @@ fn put_step(text: &mut Vec<u8>, step: &Step) -> Result<(), AllocError>
     }
 }
 
-/// Adds the lines of steps, in their order.
+/// Adds the lines of steps, in order.
 fn put_steps(text: &mut Vec<u8>, steps: &[Step]) -> Result<(), AllocError>
     ensures { OnOk result (text.new.items ≡ text.old.items ++ flat_map step_line steps.now) }
 {
@@ -64,7 +64,7 @@ fn put_page(pages: &mut Vec<u8>, step: &Step) -> Result<(), AllocError>
     }
 }
 
-/// Adds the pages that steps program, in their order.
+/// Adds the pages that steps program, in order.
 fn put_pages(pages: &mut Vec<u8>, steps: &[Step]) -> Result<(), AllocError>
     ensures { OnOk result (pages.new.items ≡ pages.old.items ++ programmed steps.now) }
 {
@@ -74,7 +74,7 @@ fn put_pages(pages: &mut Vec<u8>, steps: &[Step]) -> Result<(), AllocError>
     Ok(())
 }
 
-/// How many steps are done: as many as are asked for, or all where there are no more, or where no number is given.
+/// How many steps are done: as many as are asked for, or all if there are no more, or if no number is given.
 fn steps_done(steps: &[Step], stop: Option<u32>) -> usize
     ensures { result ≡ steps_done steps.now stop }
 {
@@ -84,16 +84,16 @@ fn steps_done(steps: &[Step], stop: Option<u32>) -> usize
     }
 }
 
-/// Writes the image of a source after the first `stop` steps of a plan, or after all where there are no more or `stop` is
-/// left out, and answers the lines of all of them. The pages that these steps program are added to `pages`. At most an
+/// Writes the image of a source after the first `stop` steps of a plan (after all, if there are no more or `stop` is left
+/// out), and answers with the lines of all of them. The pages that these steps program are added to `pages`. At most one
 /// eraseblock of contents is held.
 ///
-/// The room for the answer and the pages is taken before the first byte is written.
+/// Space for the answer and the pages is reserved before the first byte is written.
 ///
 /// # Errors
 ///
-/// Read where a read failed, and Write where a write failed: the writer received the first of the bytes then. Memory
-/// where memory ran out, and nothing is written then.
+/// `Read` if a read failed, and `Write` if a write failed: the writer then received the first of the bytes.
+/// `Memory` if memory ran out; then nothing is written.
 pub fn carry_out<S: BlockSource, W: Write>(
     alloc: Global,
     geometry: &Geometry,
@@ -128,12 +128,12 @@ pub fn carry_out<S: BlockSource, W: Write>(
         Ok(_) => Ok(Outcome::saying(text, DONE)),
         Err(StreamError::Read(_, _)) => Err(ToolError::Read),
         Err(StreamError::Write(_)) => Err(ToolError::Write),
-        // Nothing is refused any more, and all memory was taken.
+        // Nothing is refused any more, and all memory has been allocated.
         Err(StreamError::Refused(_) | StreamError::Memory) => unreachable!(),
     }
 }
 
-/// The line of a listed eraseblock that isn't blank, so that nothing is planned.
+/// The line of a listed eraseblock that isn't blank, for which nothing is planned.
 ///
 /// # Errors
 ///
@@ -144,7 +144,7 @@ pub fn not_blank_line(alloc: Global, p: u32) -> Result<Vec<u8>, AllocError>
     refused(alloc, &PlanError::<ChangeRefusal>::NotBlank(p))
 }
 
-/// An outcome with what was written for it as its file, where the work was done.
+/// An outcome with what was written for it as its file, if the work was done.
 ///
 /// # Errors
 ///

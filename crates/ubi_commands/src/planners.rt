@@ -22,14 +22,14 @@ use ubi_files::{
 };
 use ubi_scan::PlacedFile;
 
-/// What is said of a device whose bad eraseblocks nobody lists.
+/// What is printed for a device whose bad eraseblocks aren't listed.
 const NO_LIST: &str =
     "error: '--bad <LIST>' is needed for a device: the numbers of its bad eraseblocks, or '' for none
 
 For more information, try '--help'.
 ";
 
-/// Whether a plan wants a list of bad eraseblocks that it hasn't got, which is printed to standard error then.
+/// Whether a plan needs a list of bad eraseblocks that it doesn't have; if so, that is printed to standard error.
 fn lacks_list<D: Disk + Eprint>(disk: &D, dump: &Dump<'_>, image: &str) -> bool
     ensures bad { result ≡ true → dump.now.bad ≡ None }
     ensures device { result ≡ true → (D.files disk.now).holds image.now ≡ None }
@@ -41,7 +41,7 @@ fn lacks_list<D: Disk + Eprint>(disk: &D, dump: &Dump<'_>, image: &str) -> bool
     lacks
 }
 
-/// Whether the pages may be written to a path: it may be none of the files that a plan has read or written.
+/// Whether the pages may be written to a path: it may not be a file that a plan has read or written.
 fn may_write_pages<D: Disk>(disk: &D, plan: &Plan<'_>, from: Option<&str>, pages: &str) -> bool
     ensures out { result ≡ true → pages.now ≢ plan.now.paths.out.now }
     ensures image { result ≡ true → pages.now ≢ plan.now.paths.image.now }
@@ -55,7 +55,7 @@ fn may_write_pages<D: Disk>(disk: &D, plan: &Plan<'_>, from: Option<&str>, pages
     !is_from && !disk.may_be_one(image, pages) && !disk.may_be_one(out, pages)
 }
 
-/// Whether the output of a plan may be opened: not so where it may be a file that was read for it, beside the image.
+/// Whether the output of a plan may be opened: it may not if it could be a file that was read for the plan, other than the image.
 fn may_open<D: Disk>(disk: &D, plan: &Plan<'_>, from: Option<&str>) -> bool
     ensures { result ≡ true → ForSome from.entry (λ f. f.now ≢ plan.now.paths.out.now) }
 {
@@ -65,8 +65,8 @@ fn may_open<D: Disk>(disk: &D, plan: &Plan<'_>, from: Option<&str>) -> bool
     }
 }
 
-/// Writes the pages of a plan that was carried out to a path, and answers its outcome; or the line of a file that can't be
-/// written, as one that the plan has read or written.
+/// Writes the pages of a plan that was carried out to a path, and answers with its outcome; or with the line of a file
+/// that can't be written, such as one that the plan has read or written.
 fn write_pages<D: Disk>(
     disk: &mut D,
     outcome: Outcome,
@@ -115,7 +115,7 @@ fn write_plan<D: Disk + Eprint>(
     let Some(path) = plan.pages else {
         return write_opened(disk, alloc, opened, &way, command, &mut pages);
     };
-    // Made before a file is opened, so that no part of one is written where memory runs out.
+    // Made before a file is opened, so that nothing is written if memory runs out.
     let unwritten = unwritten_line(alloc, path)?;
     let outcome = write_opened(disk, alloc, opened, &way, command, &mut pages)?;
     if outcome.status != DONE {
@@ -126,7 +126,7 @@ fn write_plan<D: Disk + Eprint>(
     Ok(write_pages(disk, outcome, plan, from, pages, output, unwritten))
 }
 
-/// Changes one file into another, by the bytes of a third, which is read before anything is written.
+/// Changes one file into another, with the bytes of a third, which is read before anything is written.
 pub fn change_file<D: Disk + Eprint>(
     disk: &mut D,
     alloc: Global,
@@ -165,7 +165,7 @@ pub fn change_file<D: Disk + Eprint>(
     write_plan(disk, alloc, opened, &asked.plan, from, &command)
 }
 
-/// Renames a volume of one file, into another.
+/// Renames a volume of one file, and writes the result to another.
 pub fn rename_file<D: Disk + Eprint>(
     disk: &mut D,
     alloc: Global,

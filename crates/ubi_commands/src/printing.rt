@@ -10,14 +10,14 @@ use std::io::Write;
 use ubi_files::{FAILED, Outcome};
 use ubi_volume::write_all;
 
-/// That the text wasn't printed whole.
+/// An error: the text wasn't printed whole.
 #[derive(Clone, Copy, Debug, PartialEq, Eq)]
 struct Unprinted;
 
-/// What is printed where memory ran out.
+/// What is printed if memory ran out.
 const OUT_OF_MEMORY: &[u8] = b"out of memory\n";
 
-/// Prints what a command answered, or that memory ran out, and gives the status to end with.
+/// Prints what a command answered, or that memory ran out, and returns the exit status.
 ///
 /// # Errors
 ///
@@ -38,7 +38,7 @@ fn print<W: Write>(writer: &mut W, answer: &Result<Outcome, AllocError>) -> Resu
     }
 }
 
-/// The status to end with. Where the text wasn't printed whole, one line on the standard error says so.
+/// The exit status. If the text wasn't printed whole, one line on standard error says so.
 fn ended<R: Eprint>(rt: &R, printed: Result<u8, Unprinted>) -> u8
     ensures { result ≡ result_unwrap_or printed 1 }
 {
@@ -51,8 +51,7 @@ fn ended<R: Eprint>(rt: &R, printed: Result<u8, Unprinted>) -> u8
     }
 }
 
-/// Prints what a command answered, and gives the status to end with: that of the answer, or 1 where it couldn't be printed
-/// whole.
+/// Prints what a command answered, and returns the exit status: that of the answer, or 1 if it couldn't be printed whole.
 pub fn report<R: Eprint, W: Write>(
     rt: &R,
     writer: &mut W,

@@ -28,7 +28,7 @@ use ubi_scan::{BlockSource, MemorySource};
 /// A command that reads one image, and writes no file.
 #[derive(Clone, Copy)]
 pub enum Reading {
-    /// `geometry`: the geometries that the headers in a part of the file give, and which part the image is, whatever geometry the
+    /// `geometry`: the geometries that the headers in a part of the file give, and which part is the image, whatever geometry the
     /// words give.
     Geometry(FilePart, Format),
     /// `list`: the volumes.
@@ -44,7 +44,7 @@ pub enum Reading {
 }
 
 impl Reading {
-    /// The format in which it answers.
+    /// The format of the answer.
     fn format(&self) -> Format
         ensures { result ≡ format_of self.now }
     {
@@ -60,7 +60,7 @@ impl Reading {
     ///
     /// # Errors
     ///
-    /// Read where a read failed. Memory where memory ran out.
+    /// `Read` if a read failed. `Memory` if memory ran out.
     pub fn answer<S: BlockSource>(
         &self,
         alloc: Global,
@@ -87,7 +87,7 @@ impl Reading {
 ///
 /// # Errors
 ///
-/// The line of the file, where a read failed; or that memory ran out.
+/// The line of the file, if a read failed; or that memory ran out.
 fn done_over(alloc: Global, work: Result<Outcome, ToolError>, path: &str) -> Result<Outcome, Unread>
     requires { IfErr work IsNoWrite }
     ensures done { IfOk result (λ o. work ≡ Ok o) }
@@ -102,11 +102,11 @@ fn done_over(alloc: Global, work: Result<Outcome, ToolError>, path: &str) -> Res
     }
 }
 
-/// Does the work of a command over a dump of which it is known how it is read.
+/// Does the work of a command over a dump for which it is known how it is read.
 ///
 /// # Errors
 ///
-/// The line of a dump that can't be had, or that memory ran out.
+/// The line of a dump that can't be opened, or that memory ran out.
 fn answer_dump<D: Disk>(
     disk: &D,
     alloc: Global,
@@ -134,11 +134,11 @@ fn answer_dump<D: Disk>(
     }
 }
 
-/// Does the work of a command over an image file, which is read as the words tell, or as its own headers do.
+/// Does the work of a command over an image file, which is read as the words say, or as its own headers show.
 ///
 /// # Errors
 ///
-/// The line of a file of which no dump is told, or whose dump can't be had; or that memory ran out.
+/// The line of a file in which no dump is found, or whose dump can't be opened; or that memory ran out.
 fn answer_file<D: Disk>(
     disk: &D,
     alloc: Global,
@@ -153,7 +153,7 @@ fn answer_file<D: Disk>(
     answer_dump(disk, alloc, known, image, command)
 }
 
-/// What a command answers over a dump of which it is known how it is read, in its format.
+/// What a command answers over a dump for which it is known how it is read, in its format.
 pub fn read_dump<D: Disk>(
     disk: &D,
     alloc: Global,
@@ -168,7 +168,7 @@ pub fn read_dump<D: Disk>(
     told_in(alloc, command.format(), work)
 }
 
-/// What a command answers over an image file, which is read as the words tell, or as its own headers do, in its format.
+/// What a command answers over an image file, in its format. The file is read as the words say, or as its own headers show.
 pub fn read_file<D: Disk>(
     disk: &D,
     alloc: Global,

@@ -30,18 +30,18 @@ fn rename_line(alloc: Global, cause: RenameRefusal) -> Result<Vec<u8>, AllocErro
 }
 
 /// Plans the rename of a volume of a source to the name that a word shows, byte by byte, or as `\x` and two hexadecimal
-/// digits; it touches none of the eraseblocks that are to be avoided. Answers the lines of all steps, writes the image after
-/// the first `stop` of them, or after all where there are no more or `stop` is left out, and adds the pages that these program
-/// to `pages`. At most an eraseblock of contents is held.
+/// digits. The plan touches none of the eraseblocks that are to be avoided. It answers with the lines of all steps, writes the
+/// image after the first `stop` of them (after all, if there are no more or `stop` is left out), and adds the pages that these
+/// program to `pages`. At most one eraseblock of contents is held.
 ///
-/// Where the word shows no name, nothing is read. Where it doesn't, or no rename can be planned, the line of the first cause
-/// is answered, and nothing is written. What is written is accepted as an image whatever `stop` is, and means the old or
-/// the renamed.
+/// If the word shows no name, nothing is read. If it shows none, or no rename can be planned, it answers with the line of the
+/// first cause, and nothing is written. What is written is accepted as an image whatever `stop` is, and means the old or the
+/// renamed.
 ///
 /// # Errors
 ///
-/// Read where a read failed, and Write where a write failed: the writer received the first of the bytes then, or nothing.
-/// Memory where memory ran out, and nothing is written then.
+/// `Read` if a read failed, and `Write` if a write failed: the writer then received the first of the bytes, or none.
+/// `Memory` if memory ran out; then nothing is written.
 pub fn run_rename_from<S: BlockSource, W: Write>(
     alloc: Global,
     geometry: &Geometry,
@@ -82,10 +82,10 @@ pub fn run_rename_from<S: BlockSource, W: Write>(
     }
 }
 
-/// Plans the rename of a volume to the name that a word shows, as [`run_rename_from`] does: the lines of all steps, and as
-/// the file the image after the first `stop` of them, or after all where there are no more or `stop` is left out.
+/// Plans the rename of a volume to the name that a word shows, as [`run_rename_from`] does. It answers with the lines of all
+/// steps, and as the file the image after the first `stop` of them (after all, if there are no more or `stop` is left out).
 ///
-/// Where the word shows no name, or no rename can be planned, the line of the first cause is answered, and no file. The
+/// If the word shows no name, or no rename can be planned, it answers with the line of the first cause, and no file. The
 /// file is accepted as an image whatever `stop` is, and means the old or the renamed.
 ///
 /// # Errors

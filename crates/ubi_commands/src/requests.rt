@@ -62,7 +62,7 @@ pub enum Request<'a> {
         image: &'a str,
         format: Format,
     },
-    /// What a command tells of one file that writes none.
+    /// What a command that writes no file prints for one file.
     Tell {
         dump: Asked<'a>,
         image: &'a str,
@@ -74,52 +74,52 @@ pub enum Request<'a> {
         image: &'a str,
         page: Option<&'a str>,
     },
-    /// What a volume of one file reads, into another.
+    /// What a volume of one file reads, written to another.
     Extract {
         dump: Asked<'a>,
         extract: Extract<'a>,
     },
-    /// What each volume of a file reads, into files of a folder.
+    /// What each volume of a file reads, written to files of a folder.
     Unpack {
         dump: Asked<'a>,
         paths: Paths<'a>,
     },
-    /// The image that a text file describes, into another file.
+    /// The image that a text file describes, written to another file.
     Compose {
         numbers: Numbers,
         new: NewImage<'a>,
     },
-    /// The image that a config and the files that it names give, into another file.
+    /// The image that a config and the files that it names give, written to another file.
     Build {
         numbers: Numbers,
         new: NewImage<'a>,
     },
-    /// The normal image of one file, into another.
+    /// The normal image of one file, written to another.
     Normalise {
         dump: Asked<'a>,
         paths: Paths<'a>,
     },
-    /// What comparing two files tells.
+    /// What comparing two files answers.
     Compare {
         how: Comparison,
         dump: Asked<'a>,
         left: &'a str,
         right: &'a str,
     },
-    /// A change of one file, written into another.
+    /// A change of one file, written to another.
     Change {
         dump: Dump<'a>,
         change: Change<'a>,
     },
-    /// A rename of a volume of one file, written into another.
+    /// A rename of a volume of one file, written to another.
     Rename {
         dump: Dump<'a>,
         rename: Rename<'a>,
     },
 }
 
-/// What is asked for, where the words name a command and have all that it needs. Of words that the command line takes
-/// that is always so.
+/// What is asked for, if the words name a command and have all that it needs. Words that the command line takes
+/// always do.
 pub fn request_of<'a>(matches: &'a ArgMatches<'_>) -> Option<Request<'a>>
     ensures { IsOneOf (IsRequest (subcommand_rows_of matches.now)) result }
 {
@@ -127,7 +127,7 @@ pub fn request_of<'a>(matches: &'a ArgMatches<'_>) -> Option<Request<'a>>
     request_under(name, inner)
 }
 
-/// What is wrong with words that the command line reads, and that ask for nothing.
+/// What is wrong with words that the command line reads, but that ask for nothing.
 pub fn why_unasked(matches: &ArgMatches<'_>) -> &'static str {
     match matches.subcommand() {
         Some((_, words)) if !are_listed(words.get_str("bad")) => BAD_LIST,

@@ -14,11 +14,11 @@ use ubi_map::block_text;
 use ubi_media::Geometry;
 use ubi_scan::{BlockSource, MemorySource, StreamError, block_count};
 
-/// The lines of the headers of an eraseblock of a source. Nothing but these is read.
+/// The lines of the headers of an eraseblock of a source. Only these are read.
 ///
 /// # Errors
 ///
-/// Read where a read failed. Memory where memory ran out.
+/// `Read` if a read failed. `Memory` if memory ran out.
 fn block_lines<S: BlockSource>(
     alloc: Global,
     geometry: &Geometry,
@@ -41,15 +41,15 @@ fn block_lines<S: BlockSource>(
     }
 }
 
-/// Shows the headers of the eraseblock `p` of a source: what each is, and its bytes. The source isn't attached, so that
-/// those of a refused one can be shown.
+/// Shows the headers of the eraseblock `p` of a source: what each is, and its bytes. The source isn't attached, so the
+/// headers of a refused one can be shown.
 ///
-/// One that hasn't the size of an image is answered with the line of its refusal, and an eraseblock that isn't there with
-/// `refused B1 Block`; nothing is read then.
+/// If the source doesn't have the size of an image, it answers with the line of its refusal, and if the eraseblock
+/// doesn't exist, with `refused B1 Block`; then nothing is read.
 ///
 /// # Errors
 ///
-/// Read where a read failed. Memory where memory ran out.
+/// `Read` if a read failed. `Memory` if memory ran out.
 pub fn run_show_from<S: BlockSource>(
     alloc: Global,
     geometry: &Geometry,
@@ -72,7 +72,7 @@ pub fn run_show_from<S: BlockSource>(
     Ok(Outcome::saying(block_lines(alloc, geometry, source, p)?, DONE))
 }
 
-/// Shows the headers of the eraseblock `p` of an image, as [`run_show_from`] does of a source.
+/// Shows the headers of the eraseblock `p` of an image, as [`run_show_from`] does for a source.
 ///
 /// # Errors
 ///

@@ -26,8 +26,8 @@ pub struct SpecFile {
     pub text: Vec<u8>,
 }
 
-/// How many bytes a text may have: four for each byte of the device, so that all of them can be written in hexadecimal
-/// with room to spare, and 65,536 more.
+/// The most bytes that a text may have: four for each byte of the device, so that all of them can be written in
+/// hexadecimal with room to spare, and 65,536 more.
 fn text_limit(geometry: &Geometry) -> u64
     ensures { result ≡ text_limit geometry.now }
 {
@@ -38,7 +38,7 @@ fn text_limit(geometry: &Geometry) -> u64
 ///
 /// # Errors
 ///
-/// Read where a read fails, and where there are more bytes than a text may have. Memory where memory ran out.
+/// `Read` if a read fails, or if there are more bytes than a text may have. `Memory` if memory ran out.
 fn read_text<F: Read>(
     alloc: Global,
     file: &mut WholeFile<F>,
@@ -76,8 +76,8 @@ fn read_spec<D: Disk>(
 ///
 /// # Errors
 ///
-/// The line of the first limit that the numbers break, that of a file that can't be read, one that is too long among
-/// them, or that memory ran out.
+/// The line of the first limit that the numbers break; that of a file that can't be read, or is too long; or that
+/// memory ran out.
 pub fn load_spec<D: Disk>(
     disk: &D,
     alloc: Global,

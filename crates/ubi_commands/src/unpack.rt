@@ -35,7 +35,7 @@ use ubi_media::{Geometry, VolumeRecord};
 use ubi_scan::{BlockSource, FileSource, MemorySource, StreamError};
 use ubi_volume::{Amount, Extent, Places, ReadError, attach_places, write_places};
 
-/// How many bytes the name of a file has at most, on most systems.
+/// The length of the longest name of a file in bytes, on most systems.
 const LONGEST_FILE_NAME: usize = 255;
 
 /// The file of a volume.
@@ -43,7 +43,7 @@ const LONGEST_FILE_NAME: usize = 255;
 struct VolumeFile {
     /// Its path.
     path: String,
-    /// What is answered where it can't be written.
+    /// The answer if it can't be written.
     unwritten: Outcome,
 }
 
@@ -52,7 +52,7 @@ struct VolumeFile {
 struct Folder<'a> {
     /// Its path.
     path: &'a str,
-    /// The file of each volume, by rising number.
+    /// The file of each volume, in ascending order.
     files: Vec<VolumeFile>,
 }
 
@@ -92,7 +92,7 @@ fn number_and_name(alloc: Global, listed: &(u32, VolumeRecord)) -> Result<String
     Ok(file)
 }
 
-/// The name of a volume's file: its number and its name, or the number alone where that is too long for a file.
+/// The name of a volume's file: its number and its name, or the number alone if that would be too long for a file.
 #[tactic(auto, unfolding(crate::specs::Unpack::file_name))]
 pub(crate) fn file_name(alloc: Global, listed: &(u32, VolumeRecord)) -> Result<String, AllocError>
     ensures { IfOk result (λ file. string_bytes file ≡ file_name listed.now) }
@@ -173,7 +173,7 @@ fn put_unpacked(
     put_word(text, "\n")
 }
 
-/// The status once one volume more was looked at: a volume that can't be read has that of a failure.
+/// The status once one more volume was looked at: a volume that can't be read makes it that of a failure.
 fn status_with(status: u8, extent: &Result<Extent, ReadError>) -> u8
     ensures { result ≡ (if is_ok (extent_len extent.now) then status else 1) }
 {
@@ -198,11 +198,11 @@ fn unpacked(alloc: Global, geometry: &Geometry, places: &Places) -> Result<Outco
     Ok(Outcome::saying(text, status))
 }
 
-/// Writes what a volume of a source reads into a new file. Of a volume that can't be read no file is made.
+/// Writes what a volume of a source reads to a new file. If the volume can't be read, no file is made.
 ///
 /// # Errors
 ///
-/// Read where a read failed. Write where the file can't be made, or a write failed.
+/// `Read` if a read failed. `Write` if the file can't be made, or if a write failed.
 fn unpack_volume<D: Disk, S: BlockSource>(
     disk: &mut D,
     geometry: &Geometry,
@@ -234,17 +234,17 @@ fn unpack_volume<D: Disk, S: BlockSource>(
         Ok(_) => Ok(()),
         Err(StreamError::Read(_, _)) => Err(ToolError::Read),
         Err(StreamError::Write(_)) => Err(ToolError::Write),
-        // Nothing is refused any more, and no memory is taken.
+        // Nothing is refused any more, and no memory is allocated.
         Err(StreamError::Refused(_) | StreamError::Memory) => unreachable!(),
     }
 }
 
-/// Unpacks the volumes of a source, each into its file. Gives the place of the first whose file can't be written, and
-/// goes no further then; none where all are unpacked.
+/// Unpacks the volumes of a source, each to its file. It stops at the first whose file can't be written, and returns
+/// its place; `None` if all are unpacked.
 ///
 /// # Errors
 ///
-/// Read where a read failed. The files of the volumes before it are written then.
+/// `Read` if a read failed; then the files of the volumes before it are written.
 fn unpack_volumes<D: Disk, S: BlockSource>(
     disk: &mut D,
     geometry: &Geometry,
@@ -269,18 +269,18 @@ fn unpack_volumes<D: Disk, S: BlockSource>(
             Ok(()) => {}
             Err(ToolError::Read) => return Err(ToolError::Read),
             Err(ToolError::Write) => return Ok(Some(i)),
-            // No memory is taken.
+            // No memory is allocated.
             Err(ToolError::Memory) => unreachable!(),
         }
     }
     Ok(None)
 }
 
-/// Unpacks the volumes of a source into a folder, which is made, or has to be empty. All memory is taken before that.
+/// Unpacks the volumes of a source to a folder, which is made, or has to be empty. All memory is allocated before that.
 ///
 /// # Errors
 ///
-/// Read where a read failed. Memory where memory ran out, and no file is written then.
+/// `Read` if a read failed. `Memory` if memory ran out; then no file is written.
 fn unpack_places<D: Disk, S: BlockSource>(
     disk: &mut D,
     alloc: Global,
@@ -316,15 +316,15 @@ fn unpack_places<D: Disk, S: BlockSource>(
     }
 }
 
-/// Unpacks what the volumes of a source read into files of a folder, or answers the line of its refusal. At most an
+/// Unpacks what the volumes of a source read to files of a folder, or answers with the line of its refusal. At most one
 /// eraseblock of contents is held.
 ///
-/// The folder is made, or has to be empty; it isn't touched where the image is refused. Where it can't be, or the file of a
-/// volume can't be written, the line of that is answered, and nothing more is written.
+/// The folder is made, or has to be empty; it isn't touched if the image is refused. If it isn't empty or can't be made, or
+/// the file of a volume can't be written, it answers with the line of that, and nothing more is written.
 ///
 /// # Errors
 ///
-/// Read where a read failed. Memory where memory ran out, and no file is written then.
+/// `Read` if a read failed. `Memory` if memory ran out; then no file is written.
 pub fn run_unpack_from<D: Disk, S: BlockSource>(
     disk: &mut D,
     alloc: Global,
@@ -352,7 +352,7 @@ pub fn run_unpack_from<D: Disk, S: BlockSource>(
     }
 }
 
-/// What is answered of work over a file: its outcome, or the line of the file, where a read of it failed.
+/// What is answered for work over a file: its outcome, or the line of the file, if a read of it failed.
 ///
 /// # Errors
 ///
@@ -367,13 +367,13 @@ fn told_or(work: Result<Outcome, ToolError>, unread: Outcome) -> Result<Outcome,
         Err(error) => match error {
             ToolError::Read => Ok(unread),
             ToolError::Memory => Err(AllocError),
-            // A file that can't be written is told by the outcome.
+            // If a file can't be written, the outcome says so.
             ToolError::Write => unreachable!(),
         },
     }
 }
 
-/// Unpacks what the volumes of a dump read of which it is known how it is read, into files of a folder.
+/// Unpacks what the volumes of a dump read to files of a folder. It is known how the dump is read.
 fn unpack_dump<D: Disk>(
     disk: &mut D,
     alloc: Global,
@@ -406,7 +406,7 @@ fn unpack_dump<D: Disk>(
     }
 }
 
-/// Unpacks what the volumes of an image file read, which is read as the words tell, or as its own headers do, into files of a folder.
+/// Unpacks what the volumes of an image file read to files of a folder. The file is read as the words say, or as its own headers show.
 pub fn unpack_file<D: Disk>(
     disk: &mut D,
     alloc: Global,

@@ -9,14 +9,14 @@ use ubi_table::Table;
 /// A volume of an image: by its number, or by its name.
 #[derive(Clone, Copy)]
 pub enum VolumeKey<'a> {
-    /// The volume of a number.
+    /// The volume with a number.
     Id(u32),
-    /// The volume of a name, in the form in which names are printed.
+    /// The volume with a name, in the form in which names are printed.
     Name(&'a str),
 }
 
 impl VolumeKey<'_> {
-    /// The number of the volume. None where it is named, and no volume of the table has that name.
+    /// The number of the volume. `None` if it is given by its name, and no volume of the table has that name.
     pub fn number_in(&self, table: &Table) -> Option<u32>
         ensures { result ≡ number_in table.now self.now }
     {

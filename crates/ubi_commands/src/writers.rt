@@ -1,6 +1,6 @@
 //! The commands that read an image, and write a file meanwhile.
 //!
-//! The image is read at places; or whole, where that can't be or where it may be the output too.
+//! The image is read at places; or whole, if it can't be read so or may also be the output.
 
 ghost use Rattle.std.specs.Option.{ForSome};
 ghost use Rattle.std.specs.Prelude.{◌≡◌, ◌≢◌, [], ℕ, Bool, Err, IfOk, List, MatchResult, Ok, OnErr, Option, Result, codes, false, is_some};
@@ -45,18 +45,18 @@ pub enum Writing<'a> {
     Normalise,
     /// `extract`: what this volume reads.
     Extract(VolumeKey<'a>),
-    /// `change`: what is left after the first steps of a change; after all where their number is left out.
+    /// `change`: the image after the first steps of a change; after all, if their number is left out.
     Change(NewBytes<'a>, &'a Avoided<'a>, Option<u32>),
-    /// `rename`: what is left after the first steps of a rename of the volume with this number; the word shows its new name.
+    /// `rename`: the image after the first steps of a rename of the volume with this number; the word shows its new name.
     Rename(u32, &'a [u8], &'a Avoided<'a>, Option<u32>),
 }
 
 impl Writing<'_> {
-    /// Does its work over a source, into a writer, and adds the pages that a plan programs to `pages`.
+    /// Does its work over a source, to a writer, and adds the pages that a plan programs to `pages`.
     ///
     /// # Errors
     ///
-    /// Read where a read failed, and Write where a write failed. Memory where memory ran out.
+    /// `Read` if a read failed, and `Write` if a write failed. `Memory` if memory ran out.
     fn answer<S: BlockSource, W: Write>(
         &self,
         alloc: Global,
@@ -101,7 +101,7 @@ fn failed(error: ToolError, unread: Outcome, unwritten: Outcome) -> Result<Outco
     }
 }
 
-/// What is answered of work that came to an outcome. Where it was done and there was nothing to write, the file is opened
+/// What is answered for work that came to an outcome. If it was done and there was nothing to write, the file is opened
 /// now.
 fn finished<D: Disk, K: Target>(
     outcome: Outcome,
@@ -121,7 +121,7 @@ fn finished<D: Disk, K: Target>(
     }
 }
 
-/// What is answered once the work into a file is over: its outcome; or the line of the file that failed.
+/// What is answered once the work is over: its outcome, or the line of the file that failed.
 ///
 /// # Errors
 ///
@@ -142,29 +142,28 @@ fn ended<D: Disk, K: Target>(
     }
 }
 
-/// What is answered where a file fails, made before the output is opened, so that no part of it is written where memory runs
-/// out.
+/// What is answered if a file fails. It is made before the output is opened, so that nothing is written if memory runs out.
 #[derive(Drop)]
 struct Faults {
-    /// Where the image can't be read.
+    /// The answer if the image can't be read.
     unread: Outcome,
-    /// Where the output can't be written.
+    /// The answer if the output can't be written.
     unwritten: Outcome,
 }
 
-/// From which file the work of a command goes to which.
+/// The file that the work of a command reads, and the one that it writes.
 #[derive(Clone, Copy)]
 pub struct Way<'a> {
-    /// Their paths.
+    /// The paths of both.
     pub paths: Paths<'a>,
-    /// Whether the output may be opened: not so where it may be a file that was read, beside the image.
+    /// Whether the output may be opened: it may not if it could be a file that was read, other than the image.
     pub may_open: bool,
-    /// Whether somebody watches how far the work is.
+    /// Whether progress is shown.
     pub is_watched: bool,
 }
 
-/// Does the work of a command over a source, into a file, which is opened at the first write, or once the work is done. Gives
-/// the disk back. (The outcome isn't in the result: beside memory, a caller learns nothing of a reference.)
+/// Does the work of a command over a source, to a file, which is opened at the first write, or once the work is done. Returns
+/// the disk. (The outcome isn't in the result: beside memory, a caller learns nothing about a reference.)
 fn work_late<'a, D: Disk + Eprint, S: BlockSource, K: Target>(
     disk: &'a mut D,
     alloc: Global,
@@ -202,7 +201,7 @@ fn work_late<'a, D: Disk + Eprint, S: BlockSource, K: Target>(
     disk
 }
 
-/// Does the work of a command over a source, into a file, which is opened at the first write, or once the work is done.
+/// Does the work of a command over a source, to a file, which is opened at the first write, or once the work is done.
 fn work_into<D: Disk + Eprint, S: BlockSource>(
     disk: &mut D,
     alloc: Global,
@@ -238,7 +237,7 @@ fn work_into<D: Disk + Eprint, S: BlockSource>(
     outcome
 }
 
-/// Does the work of a command over an image that was opened, into a file.
+/// Does the work of a command over an image that was opened, to a file.
 pub fn write_opened<D: Disk + Eprint>(
     disk: &mut D,
     alloc: Global,
@@ -274,7 +273,7 @@ pub fn write_opened<D: Disk + Eprint>(
     }
 }
 
-/// Does the work of a command over a dump of which it is known how it is read, into a file. What it gives of pages isn't used.
+/// Does the work of a command over a dump for which it is known how it is read, to a file. The pages that it gives aren't used.
 fn write_dump<D: Disk + Eprint>(
     disk: &mut D,
     alloc: Global,
@@ -305,7 +304,7 @@ fn write_dump<D: Disk + Eprint>(
     }
 }
 
-/// Does the work of a command over one file, which is read as the words tell, or as its own headers do, into another.
+/// Does the work of a command over one file, and writes another. The file is read as the words say, or as its own headers show.
 pub fn write_file<D: Disk + Eprint>(
     disk: &mut D,
     alloc: Global,

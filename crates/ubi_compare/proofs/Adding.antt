@@ -1,4 +1,4 @@
--- What is found tells more and more differences.
+-- What is found shows more and more differences.
 use Rattle.ubi_compare.proofs.Prelude.{◌≡◌, ◌≢◌, Bool, true, false, List, [], ◌∷◌, ◌++◌, append-nil, append_assoc, refl, ap, sym, ◌∙◌, subst, Difference, Found, Adds, Tells}
 use Rattle.ubi_compare.proofs.Apart.{both_none, none_both}
 

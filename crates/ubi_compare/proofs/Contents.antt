@@ -1,4 +1,4 @@
--- Two volumes of which no difference is told.
+-- Two volumes without a difference.
 use Rattle.ubi_compare.proofs.Prelude.{◌≡◌, ◌≢◌, ℕ, zero, suc, ◌+◌, ◌*◌, ◌-◌, ◌%◌, ◌<◌, ◌≤◌, Bool, true, false, not, inl, inr, List, [], ◌++◌, length, map, take, refl, ap, sym, ◌∙◌, subst, arith, ◌==◌, false≢true, cases_lt, lt-ltb, nat_cmp_total, unsigned_Decides, FinMap, nat_cmp-IsAntisymmetric, nat_cmp, IfSome, None, Ok, Err, Option, Result, Some, nat_lt, usable_some, blank, Sizes, leb_size, usable, VolumeRecord, bytes_Decides, kept_alike, outside, pieces_few, share_more, shares_all, Fits, IsVolume, KeepsNoBlank, pieces, share, leb_read, leb_text, Content, Volume, ReadError, condition_of, content_differences, leb_differences, lebs_apart, length_differences, ranges_after, read_apart, record_differences, same_condition, unless, volume_differences, Condition}
 use Rattle.std.specs.FinMap as finite
 use Rattle.ubi_media.specs.declared.vid.VolKind.TheVariants as kind

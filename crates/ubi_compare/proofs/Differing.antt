@@ -1,4 +1,4 @@
--- In what two volumes differ, by their cases.
+-- Where two volumes differ, by their cases.
 use Rattle.ubi_compare.proofs.Prelude.{◌≡◌, ◌≢◌, ℕ, ◌+◌, Bool, true, false, List, [], ◌∷◌, ◌++◌, refl, ap, ap₂, sym, ◌∙◌, subst, arith, append-nil, append_assoc, ◌==◌, unsigned_Decides, flat_map-append, range_with_len, Err, None, Ok, Some, flat_map, if◌then◌else◌, Sizes, slots, usable, VolumeRecord, image_of, same_Ok, entry_of, has_entry, no_volume, places_of, extent_of, Meant, case_of, leb_read, IsSurvey, Seen, Content, Volume, ReadError, Extent, PlaceContent, condition_of, content_differences, differences, leb_differences, lebs_apart, length_differences, ranges_after, read_apart, record_differences, same_condition, unless, volume_differences, Condition, Difference, Found, Adds, told_of, case_condition, case_lengths, first_differences}
 use Rattle.std.specs.FinMap as finite
 use Rattle.ubi_volume.specs.declared.content.Content.TheVariants as content

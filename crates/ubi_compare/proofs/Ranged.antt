@@ -1,4 +1,4 @@
--- Ranges of LEBs that are found one after the other.
+-- Ranges of LEBs that are found in order.
 use Rattle.ubi_compare.proofs.Prelude.{◌≡◌, ℕ, ◌+◌, ◌==◌, Bool, true, false, List, [], ◌∷◌, ◌++◌, append_assoc, append-nil, ap, sym, ◌∙◌, None, Option, Some, ranges_after, Difference, Ranges, AddsLeb, told_of, told_with}
 use Rattle.ubi_compare.proofs.Apart.{both_none, chosen, map_none, not_chosen, range_begun}
 use Rattle.ubi_compare.specs.declared.difference.Difference.TheVariants as difference

@@ -1,4 +1,4 @@
--- Two texts that are read side by side, piece by piece.
+-- The contents of two static volumes, which are read side by side, piece by piece.
 use Rattle.ubi_compare.proofs.Prelude.{◌≡◌, ◌∙◌, ◌↔◌, ◌+◌, ◌<◌, ℕ, Bool, true, false, false≢true, IsTrue, List, [], ap, refl, sym, subst, arith, length, min, None, Some, not, Sizes, rec_fault, usable, VolumeRecord, image_of, entry_of, pieces, case_of, IsSurvey, Seen, Content, Volume, Extent, leb_differences, Ranges, HaveTold, AddsLeb, Tells, told_with, read_apart, leb_read, blocks_of, size_more, size_none, piece_text, PieceIs, Pieces, Texts, ArePieces, AreTexts, AreWhole, IsText, LebsOfBoth}
 use Rattle.std.specs.FinMap as finite
 use Rattle.ubi_volume.specs.declared.content.Content.TheVariants as content

@@ -26,7 +26,7 @@ fn same_records(left: &Table, right: &Table) -> bool
     left.entries() == right.entries()
 }
 
-/// In what two surveyed images differ; in brief, something where they do.
+/// The differences of two surveyed images; in brief, whether there is one.
 ///
 /// # Errors
 ///
@@ -85,14 +85,14 @@ fn same_surveyed<L: BlockSource, R: BlockSource>(
     Ok(found.as_slice().is_empty())
 }
 
-/// Whether two sources of one geometry mean the same, as [`same`] says of images. It holds one eraseblock of contents of
-/// each, reads those of a volume only where the tables agree, and ends with the first that differ; but two static volumes are
+/// Whether two sources of one geometry mean the same, as [`same`] says for images. It holds one eraseblock of contents of
+/// each, reads those of a volume only if the tables agree, and ends with the first that differ. But two static volumes are
 /// read to their ends, since one that isn't whole reads nothing.
 ///
 /// # Errors
 ///
-/// `Left` where the first isn't surveyed ([`survey_from`]) or a read of it failed, and else `Right` of the second; the
-/// first is surveyed first. `Memory` where memory ran out then.
+/// `Left` if the first isn't surveyed ([`survey_from`]) or a read of it failed. Otherwise `Right` for the same of the
+/// second; the first is surveyed first. Otherwise `Memory` if memory ran out.
 pub fn same_from<L: BlockSource, R: BlockSource>(
     alloc: Global,
     geometry: &Geometry,
@@ -119,8 +119,8 @@ pub fn same_from<L: BlockSource, R: BlockSource>(
     same_surveyed(alloc, geometry, left, right, &here, &there)
 }
 
-/// In what two sources of one geometry differ, whose list is empty exactly if they mean the same. It holds one eraseblock of contents
-/// of each, and reads each logical eraseblock once on either side; but two static volumes of which one isn't whole are read twice.
+/// The differences of two sources of one geometry. The list is empty exactly if they mean the same. It holds one eraseblock of contents
+/// of each, and reads each logical eraseblock once on either side. But two static volumes are read twice if one of them isn't whole.
 ///
 /// # Errors
 ///
@@ -150,11 +150,11 @@ pub fn diff_from<L: BlockSource, R: BlockSource>(
     found_in(alloc, geometry, left, right, &here, &there, false)
 }
 
-/// Whether two images of one geometry mean the same; so they do exactly if their normal images are equal byte for byte.
+/// Whether two images of one geometry mean the same. They do exactly if their normal images are equal byte for byte.
 ///
 /// # Errors
 ///
-/// `Left` with the cause for which the first is refused, and else `Right` with that of the second. `Memory` where memory
+/// `Left` with the cause for which the first is refused. Otherwise `Right` with that of the second. `Memory` if memory
 /// ran out.
 pub fn same(
     alloc: Global,

@@ -14,7 +14,7 @@ pub enum Side {
 /// Whether a volume can be read.
 #[derive(Clone, Copy, Debug, PartialEq, Eq)]
 pub enum Condition {
-    /// An update of the volume began that didn't end: it can't be read.
+    /// An update of the volume began and didn't end: it can't be read.
     Updating,
     /// A static volume that isn't whole: it can't be read.
     Damaged,
@@ -22,7 +22,7 @@ pub enum Condition {
     Whole,
 }
 
-/// A difference between what two images mean, `left` and `right`. That of a volume has its number.
+/// A difference between what two images mean, `left` and `right`. If it is one of a volume, it has the volume's number.
 #[derive(Clone, Copy, Debug, PartialEq, Eq)]
 pub enum Difference {
     /// The image sequence numbers differ.
@@ -30,7 +30,7 @@ pub enum Difference {
         left: u32,
         right: u32,
     },
-    /// One side alone has the volume.
+    /// Only one side has the volume.
     Only {
         id: u32,
         side: Side,
@@ -41,7 +41,7 @@ pub enum Difference {
         left: VolKind,
         right: VolKind,
     },
-    /// It reserves another number of eraseblocks.
+    /// The numbers of reserved eraseblocks differ.
     Reserved {
         id: u32,
         left: u32,
@@ -65,13 +65,13 @@ pub enum Difference {
         left: VolName,
         right: VolName,
     },
-    /// One side can be read, and the other not; or neither can, for two causes.
+    /// One side can be read, and the other can't; or neither can, for two causes.
     Condition {
         id: u32,
         left: Condition,
         right: Condition,
     },
-    /// A static volume has another number of bytes.
+    /// The lengths of a static volume differ, in bytes.
     Bytes {
         id: u32,
         left: u64,

@@ -15,7 +15,7 @@ use ubi_scan::StreamError;
 pub enum CompareError {
     /// The first is refused, for this cause.
     Left(Refusal),
-    /// The second alone is refused, for this cause.
+    /// Only the second is refused, for this cause.
     Right(Refusal),
     /// Memory ran out.
     Memory,
@@ -40,7 +40,7 @@ impl Error for CompareError {}
 pub enum CompareFault {
     /// The first is refused, a read of it failed, or memory ran out while it was surveyed.
     Left(StreamError),
-    /// The second alone is refused, a read of it failed, or memory ran out while it was surveyed.
+    /// Only the second is refused, a read of it failed, or memory ran out while it was surveyed.
     Right(StreamError),
     /// Memory ran out after both were surveyed.
     Memory,

@@ -10,14 +10,14 @@ use std::alloc::{AllocError, Global};
 /// The differences that were found so far.
 #[derive(Drop)]
 pub struct Found {
-    /// In the order in which they are told.
+    /// The differences, in the order in which they are printed.
     pub list: Vec<Difference>,
-    /// Whether it is only asked if there is one: then those behind the first may be left out.
+    /// Whether only the existence of a difference is asked: then those after the first may be left out.
     pub is_brief: bool,
 }
 
 impl Found {
-    /// None yet.
+    /// No differences yet.
     pub fn new(alloc: Global, is_brief: bool) -> Found
         ensures none { result.list.items ≡ [] }
         ensures brief { result.is_brief ≡ is_brief }
@@ -28,7 +28,7 @@ impl Found {
         }
     }
 
-    /// Whether nothing is asked any more.
+    /// Whether nothing more is asked.
     pub fn is_settled(&self) -> bool
         ensures brief { IsTrue result → self.now.is_brief ≡ true }
         ensures some { IsTrue result → self.now.list.items ≢ [] }

@@ -2,7 +2,7 @@
 
 ghost use Rattle.ubi_compare.specs.Laws.{NothingDiffers};
 
-/// No difference is told of two meanings of one geometry exactly if they are the same.
+/// There is no difference between two meanings of one geometry exactly if they are the same.
 pub fn nothing_differs()
     ensures { NothingDiffers }
 {}

@@ -31,8 +31,8 @@ fn share_of(survey: &Surveyed, id: u32, lnum: u32, extent: Extent) -> Share
     }
 }
 
-/// Adds the ranges of logical eraseblocks of a volume that can be read on both sides and read differently. In brief it ends
-/// with the first of these.
+/// Adds the ranges of logical eraseblocks of a volume that can be read on both sides and read differently. In brief, it
+/// ends with the first of these.
 ///
 /// # Errors
 ///

@@ -1,7 +1,7 @@
-//! Comparing what two images mean: whether it is the same ([`same_from`]), and in what it differs ([`diff_from`]).
+//! Comparing what two images mean: whether they mean the same ([`same_from`]), and where they differ ([`diff_from`]).
 //!
-//! Both go the same way over two sources, slot by slot, and hold an eraseblock of contents of each. What differs is a list, which is empty
-//! exactly if the images mean the same.
+//! Both go over two sources in the same way, slot by slot, and hold one eraseblock of contents of each. The differences are a list, which
+//! is empty exactly if the images mean the same.
 //!
 //! A caller, proved from the contracts alone (`crates/ubi_uses`):
 //!

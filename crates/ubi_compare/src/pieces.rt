@@ -1,4 +1,4 @@
-//! Two static volumes, and the pieces of their texts in a logical eraseblock.
+//! Two static volumes, and the pieces of their contents in a logical eraseblock.
 
 ghost use Rattle.std.specs.Prelude.{◌≡◌, ◌↔◌, IfErr, IfOk, IfSome, IsTrue, false, length};
 ghost use Rattle.ubi_media.specs.Check.{check};
@@ -15,7 +15,7 @@ use ubi_media::{Geometry, VolKind, VolumeRecord, crc};
 use ubi_scan::BlockSource;
 use ubi_volume::{Surveyed, raw_piece_from, text_lebs_from};
 
-/// A static volume without update marker of one of two images.
+/// A static volume of one of two images, without the update marker.
 #[derive(Clone, Copy)]
 pub struct OneText<'a> {
     /// What is known of its image.
@@ -24,7 +24,7 @@ pub struct OneText<'a> {
     pub entry: &'a VolumeRecord,
 }
 
-/// In how many logical eraseblocks each of two texts lies, if it is whole.
+/// How many logical eraseblocks the contents of each of two static volumes take, if they are whole.
 #[derive(Clone, Copy)]
 pub struct LebsOfBoth {
     /// The left one.
@@ -33,12 +33,12 @@ pub struct LebsOfBoth {
     pub right: u32,
 }
 
-/// The pieces of two texts in a logical eraseblock.
+/// The pieces of two static volumes in a logical eraseblock.
 #[derive(Clone, Copy)]
 pub struct Pieces {
     /// The size of the left one in bytes.
     pub left: u32,
-    /// The size of the right one.
+    /// The size of the right one in bytes.
     pub right: u32,
     /// Whether they are the same.
     pub is_same: bool,
@@ -51,7 +51,7 @@ pub fn is_text(entry: &VolumeRecord) -> bool
     !entry.marker && entry.kind == VolKind::Static
 }
 
-/// In how many logical eraseblocks two texts lie, if they are whole. None where one of them isn't.
+/// How many logical eraseblocks the contents of two static volumes take, if they are whole. `None` if one isn't.
 ///
 /// # Errors
 ///
@@ -92,7 +92,7 @@ pub fn lebs_of_both<L: BlockSource, R: BlockSource>(
     }))
 }
 
-/// Whether two pieces have the checks that their headers say. Equal ones are checked once.
+/// Whether two pieces have the CRCs that their headers name. The CRC of equal ones is computed once.
 fn are_checked(one: &[u8], left: u32, other: &[u8], right: u32, is_same: bool) -> bool
     requires same { IsTrue is_same → one.now ≡ other.now }
     ensures { IsTrue result ↔ ((check one.now ≡ left) × (check other.now ≡ right)) }
@@ -105,7 +105,7 @@ fn are_checked(one: &[u8], left: u32, other: &[u8], right: u32, is_same: bool) -
     }
 }
 
-/// The pieces of two texts in a logical eraseblock. None where one of them isn't there.
+/// The pieces of two static volumes in a logical eraseblock. `None` if one of them isn't there.
 ///
 /// # Errors
 ///

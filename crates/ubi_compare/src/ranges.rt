@@ -6,19 +6,19 @@ ghost use Rattle.ubi_compare.specs.inner.Ranges.{told_with};
 use crate::difference::Difference;
 use std::alloc::{AllocError, Global};
 
-/// The ranges of logical eraseblocks of a volume that were found so far, by rising number.
+/// The ranges of logical eraseblocks of a volume that were found so far, in ascending order.
 #[derive(Drop)]
 pub struct Ranges {
     /// The number of the volume.
     pub id: u32,
-    /// Those that have ended.
+    /// The ranges that have ended.
     pub told: Vec<Difference>,
-    /// The first and the last of one that may go on.
+    /// The first and the last of a range that may go on.
     pub begun: Option<(u32, u32)>,
 }
 
 impl Ranges {
-    /// None yet.
+    /// No ranges yet.
     pub fn new(alloc: Global, id: u32) -> Ranges
         ensures id { result.id ≡ id }
         ensures told { result.told.items ≡ [] }
@@ -31,7 +31,7 @@ impl Ranges {
         }
     }
 
-    /// Whether none was found.
+    /// Whether no range was found.
     pub fn is_empty(&self) -> bool
         ensures { IsTrue result ↔ (told_with self.now [] ≡ []) }
     {
@@ -50,7 +50,7 @@ impl Ranges {
         Ok(())
     }
 
-    /// Adds a logical eraseblock, which stands behind those that were added.
+    /// Adds a logical eraseblock that comes after those that were added.
     ///
     /// # Errors
     ///
@@ -69,7 +69,7 @@ impl Ranges {
         Ok(())
     }
 
-    /// All of them.
+    /// All of the ranges.
     ///
     /// # Errors
     ///
@@ -82,7 +82,7 @@ impl Ranges {
     }
 }
 
-/// Whether a logical eraseblock is the one behind another.
+/// Whether a logical eraseblock comes right after another.
 fn follows(lnum: u32, last: u32) -> bool
     ensures { result ≡ (lnum == last + 1) }
 {

@@ -15,13 +15,13 @@ use ubi_volume::read_place;
 /// What is read of a logical eraseblock.
 #[derive(Clone, Copy)]
 pub struct Share {
-    /// The eraseblock that holds it, if one does; without one it reads 0xFF.
+    /// The eraseblock that holds it, if one does; if none does, it reads 0xFF.
     pub place: Option<u32>,
-    /// How many bytes.
+    /// How many bytes are read.
     pub len: usize,
 }
 
-/// Whether two texts are the same.
+/// Whether two byte strings are the same.
 pub fn are_equal(one: &[u8], other: &[u8]) -> bool
     ensures { IsTrue result ↔ (one.now ≡ other.now) }
 {

@@ -33,14 +33,14 @@ pub fn condition_of(case: PlaceContent) -> Condition
     }
 }
 
-/// Whether two volumes can be read alike.
+/// Whether the conditions of two volumes are the same.
 pub fn is_same_condition(left: Condition, right: Condition) -> bool
     ensures { result ≡ same_condition left right }
 {
     left == right
 }
 
-/// Adds the lengths of two texts, where they differ.
+/// Adds the lengths of two static volumes, if they differ.
 ///
 /// # Errors
 ///

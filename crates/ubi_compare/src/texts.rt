@@ -1,4 +1,4 @@
-//! Texts of static volumes, which are checked and compared in one go.
+//! The contents of static volumes, whose CRCs are checked while they are compared.
 
 ghost use Rattle.std.specs.Prelude.{◌≡◌, ◌*◌, ◌≤◌, IfErr, IfOk, IfSome, IsTrue, OnOk, false, length};
 ghost use Rattle.ubi_media.specs.Record.{usable};
@@ -22,18 +22,18 @@ use ubi_media::Geometry;
 use ubi_scan::{BlockSource, StreamError};
 use ubi_volume::{Surveyed, text_piece_from};
 
-/// Two texts that were read.
+/// The contents of two static volumes that were read.
 #[derive(Drop)]
 pub struct Texts {
     /// The length of the left one in bytes.
     pub left: u64,
-    /// The length of the right one.
+    /// The length of the right one in bytes.
     pub right: u64,
-    /// The logical eraseblocks that read differently; in brief the first of them.
+    /// The logical eraseblocks that read differently; in brief, the first of them.
     pub ranges: Ranges,
 }
 
-/// Adds a logical eraseblock that is read differently; in brief just the first of them.
+/// Adds a logical eraseblock that is read differently; in brief, only the first of them.
 fn add_asked(ranges: &mut Ranges, is_brief: bool, lnum: u32) -> Result<(), AllocError>
     ensures { OnOk result (AddsLeb is_brief lnum ranges.old ranges.new) }
 {
@@ -43,7 +43,7 @@ fn add_asked(ranges: &mut Ranges, is_brief: bool, lnum: u32) -> Result<(), Alloc
     ranges.add(lnum)
 }
 
-/// Reads the first pieces of two texts side by side. None where one of them isn't there.
+/// Reads the first pieces of two static volumes side by side. `None` if one of them isn't there.
 ///
 /// # Errors
 ///
@@ -99,12 +99,12 @@ fn texts_beside<L: BlockSource, R: BlockSource>(
     }))
 }
 
-/// The length in bytes of a text, whose pieces below the logical eraseblock `first` have so many bytes together. The others are read. None
-/// where one of them isn't there.
+/// The length in bytes of a static volume whose pieces below the logical eraseblock `first` have this many bytes together. The others
+/// are read. `None` if one of them isn't there.
 ///
 /// # Errors
 ///
-/// Read where a read failed.
+/// `Read` if a read failed.
 fn length_from<S: BlockSource>(
     geometry: &Geometry,
     source: &mut S,
@@ -135,7 +135,7 @@ fn length_from<S: BlockSource>(
     Ok(Some(bytes))
 }
 
-/// Reads two texts: side by side as far as both go, and then the rest of the longer one. None where one of them isn't whole.
+/// Reads two static volumes: side by side as far as both go, and then the rest of the longer one. `None` if one of them isn't whole.
 ///
 /// # Errors
 ///
@@ -207,7 +207,7 @@ fn whole_texts<L: BlockSource, R: BlockSource>(
     }))
 }
 
-/// Adds in what two texts differ, unless one isn't whole. Whether it did; else nothing was added.
+/// Adds the differences of two static volumes' contents, and says that it did. If one isn't whole, it adds nothing and says so.
 ///
 /// # Errors
 ///

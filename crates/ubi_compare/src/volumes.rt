@@ -1,4 +1,4 @@
-//! In what the volumes of two images differ.
+//! The differences of the volumes of two images.
 
 ghost use Rattle.std.specs.Prelude.{◌≡◌, ◌*◌, IfErr, IsTrue, None, OnOk, Some, false, length};
 ghost use Rattle.std.specs.FinMap as finite;
@@ -24,7 +24,7 @@ use ubi_media::{Geometry, VolumeRecord};
 use ubi_scan::BlockSource;
 use ubi_volume::{Extent, Surveyed, case_from};
 
-/// Adds in what a volume reads differently on the two sides, whose cases are known.
+/// Adds the differences in what a volume reads on the two sides, whose cases are known.
 ///
 /// # Errors
 ///
@@ -81,7 +81,7 @@ fn compare_contents<L: BlockSource, R: BlockSource>(
     )
 }
 
-/// Adds in what a volume reads differently on the two sides. The cases are told first, for which a text is read.
+/// Adds the differences in what a volume reads on the two sides. It finds the cases first, for which it reads a static volume.
 ///
 /// # Errors
 ///
@@ -136,7 +136,7 @@ fn compare_cases<L: BlockSource, R: BlockSource>(
     compare_contents(alloc, geometry, left, right, one, two, id, buffers, found)
 }
 
-/// Whether two volumes are static, without update marker and of one alignment.
+/// Whether two volumes are static, without the update marker and of one alignment.
 fn are_texts(entry: &VolumeRecord, other: &VolumeRecord) -> bool
     ensures entry { IsTrue result → (entry.now.marker ≡ false) × (entry.now.kind ≡ Static) }
     ensures other { IsTrue result → (other.now.marker ≡ false) × (other.now.kind ≡ Static) }
@@ -145,8 +145,8 @@ fn are_texts(entry: &VolumeRecord, other: &VolumeRecord) -> bool
     is_text(entry) && is_text(other) && entry.alignment == other.alignment
 }
 
-/// Adds in what a volume reads differently on the two sides. Two texts are read side by side first, each once; if one isn't whole,
-/// their cases are told after all.
+/// Adds the differences in what a volume reads on the two sides. Two static volumes are first read side by side, each once; if one
+/// isn't whole, their cases are found after all.
 ///
 /// # Errors
 ///
@@ -200,7 +200,7 @@ fn compare_reading<L: BlockSource, R: BlockSource>(
     )
 }
 
-/// Adds in what a volume differs that both sides have.
+/// Adds the differences of a volume that both sides have.
 ///
 /// # Errors
 ///
@@ -242,7 +242,7 @@ fn compare_volume<L: BlockSource, R: BlockSource>(
     )
 }
 
-/// Adds in what the volumes with a number differ, if there are any.
+/// Adds the differences of the volumes with a number, if there are any.
 ///
 /// # Errors
 ///
@@ -282,7 +282,7 @@ fn compare_slot<L: BlockSource, R: BlockSource>(
     Ok(found.add(Difference::Only { id, side })?)
 }
 
-/// Adds in what two surveyed images differ.
+/// Adds the differences of two surveyed images.
 ///
 /// # Errors
 ///

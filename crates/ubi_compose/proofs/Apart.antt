@@ -1,4 +1,4 @@
--- Eraseblocks of LEBs of which no two are the same.
+-- Eraseblocks of different LEBs.
 use Rattle.ubi_compose.proofs.Prelude.{◌≡◌, ◌≢◌, ℕ, zero, suc, List, [], ◌∷◌, ◌++◌, refl, ap, sym, ◌∙◌, Some, slice_get, AllByRecursion, same_Some, leb_of, Laid}
 use Rattle.ubi_compose.proofs.Lists.{all_append, all_at}
 

@@ -1,4 +1,4 @@
--- What a writer received of the pieces of parts is the normal image of what is built of them, and the spares.
+-- What a writer received of the pieces of parts is the normal image of what is built from them, and the spares.
 use Rattle.ubi_compose.proofs.Prelude.{◌≡◌, ℕ, ◌+◌, ◌<◌, ◌≤◌, ◌^◌, List, length, ap, sym, ◌∙◌, subst, Contains, Option, Result, Agreed, HaveMeaning, Parts, Reaches, built, composed, CanBuild, table_of, built_pieces, Device, HasPut, IsReadIn, image_bytes, Part, PutError}
 use Rattle.ubi_compose.proofs.BuiltPieces.{read_part}
 use Rattle.ubi_compose.proofs.BuiltVolumes.{image_is}

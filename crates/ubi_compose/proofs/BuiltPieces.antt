@@ -1,4 +1,4 @@
--- The pieces of parts: each stands at its number, lies in the source, and is told of by its part.
+-- The pieces of parts: each stands at its number, lies in the source, and is named by its part.
 use Rattle.ubi_compose.proofs.Prelude.{◌≡◌, ℕ, ◌+◌, ◌*◌, ◌<◌, ◌≤◌, refl, ap, sym, ◌∙◌, subst, arith, Contains, None, Option, Some, option_map, option_map_or, same_Some, reserved_within, usable, usable_some, Sizes, VolKind, piece_begins, share_len, HaveMeaning, Parts, pieces_of, HasParts, part_at, built_piece, built_pieces, pieces_few, Part, Piece, IsFirstFrom, IsReadIn, IsReadOf, LiesIn, part_header}
 use Rattle.ubi_media.specs.declared.vid.VolKind.TheVariants as kind
 use Rattle.ubi_compose.proofs.ListedParts.{IsReadablePart, part_readable}

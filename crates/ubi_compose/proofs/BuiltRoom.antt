@@ -1,4 +1,4 @@
--- The normal image of what is built has room where the table, all pieces and the spares have, and is accepted then.
+-- The normal image of what is built fits the device if the table, all pieces and the spares do, and is then accepted.
 use Rattle.ubi_compose.proofs.Prelude.{◌≡◌, ℕ, suc, ◌+◌, ◌<◌, ◌≤◌, List, [], ◌∷◌, length, map, refl, ap, sym, ◌∙◌, arith, Some, slice_get, sum_by, AllByRecursion, length-map, length-flat_map, length-map-range_with_len, sum_by-cons, Sizes, data_pad, usable, VolumeRecord, VolKind, image_of, Accepts, item_without_blank, without_blank, pieces, Content, Volume, HaveMeaning, Parts, Reaches, built, content_of, item_of, items_of, most_blocks, pieces_of, text_of, HasRoom, composed, dynamic_block, static_part, volume_blocks, Part}
 use Rattle.std.specs.FinMap as finite
 use Rattle.ubi_media.specs.declared.vid.VolKind.TheVariants as kind

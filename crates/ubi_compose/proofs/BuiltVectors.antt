@@ -1,4 +1,4 @@
--- What is built of parts on literals.
+-- What is built from parts, on literals.
 use Rattle.ubi_compose.proofs.Prelude.{◌≡◌, false, [], ◌∷◌, refl, filled, small, sorted_entries, lebs_of, most_blocks, text_of, text_read, Part}
 use Rattle.std.specs.FinMap as finite
 use Rattle.ubi_media.specs.declared.vid.VolKind.TheVariants as kind

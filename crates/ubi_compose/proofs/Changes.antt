@@ -1,4 +1,4 @@
--- Changing the volumes and the map that tells where they stand.
+-- Changing the volumes and the map that says where they stand.
 use Rattle.ubi_compose.proofs.Prelude.{◌≡◌, ◌<◌, ℕ, ◌+◌, ◌==◌, Bool, true, false, cond, List, [], ◌∷◌, ◌++◌, length, map, get_or, set, refl, sym, ap, ◌∙◌, arith, Option, Some, None, Result, Ok, Err, MatchResult, slice_get, slice_set, BTreeMap, IsOrdered, is_at, position_from, option_or, nat_cmp, result_map_both, nat_tests, length-map, map-append, map-set, set-get_or, Sizes, VolumeRecord, Items, Content, Volume, AreDrafts, IsRefused, changed, place_of, with_line, volume_of, volume_from, LineError, SpecCause, Line}
 use Rattle.std.specs.BTreeMap as tree
 use Rattle.std.specs.FinMap as finite

@@ -1,4 +1,4 @@
--- What a volume reads whose eraseblocks are laid out.
+-- What a volume whose eraseblocks are laid out reads.
 use Rattle.ubi_compose.proofs.Prelude.{◌≡◌, ℕ, zero, suc, ◌+◌, ◌-◌, ◌*◌, ◌^◌, ◌<◌, ◌≤◌, inl, inr, List, [], ◌∷◌, ◌++◌, length, take, refl, sym, ap, ◌∙◌, subst, arith, IfSome, None, Option, Some, slice_get, unwrap_or, FinMap, AllByRecursion, range_with_len, option_map_or, nat_cmp, take-replicate, take_at, check, check_from, remainder, blank, IsGeometry, Sizes, data_pad, usable, VolumeRecord, VidHeader, NoFault, block, leb, Leb, NoMember, member, AreRead, PieceIs, UsedIs, LebReads, VolumeReads, Fits, pieces, share, damaged_piece, piece_checked, piece_unchecked, read_more, read_none, static_reads, Laid, damaged_block, dynamic_block, static_part, volume_blocks, pieces_few, share_more, share_none, shares_all}
 use Rattle.std.specs.FinMap as finite
 use Rattle.ubi_volume.specs.declared.content.Content.TheVariants as content

@@ -1,4 +1,4 @@
--- The entries of a map by rising number, and those of a map that is made of a list.
+-- The entries of a map in ascending order, and those of a map that is made from a list.
 use Rattle.ubi_compose.proofs.Prelude.{◌≡◌, ℕ, zero, suc, ◌+◌, ◌<◌, ◌≤◌, ◌==◌, Bool, true, false, cond, List, [], ◌∷◌, ◌++◌, map, refl, ap, sym, ◌∙◌, arith, zero-add, subst, Some, find, flat_map, option_map, FinMap, AllByRecursion, range_with_len, option_map_or, nat_cmp, nat_tests, flat_map-append, first_entry, same_range}
 use Rattle.std.specs.FinMap as finite
 use Rattle.ubi_compose.proofs.ByNumber.{Rises, by_number}

@@ -1,4 +1,4 @@
--- What a volume reads has room in its LEBs.
+-- What a volume reads fits its LEBs.
 use Rattle.ubi_compose.proofs.Prelude.{◌≡◌, ℕ, ◌*◌, ◌<◌, ◌≤◌, List, length, subst, arith, IfSome, Option, FinMap, AllByRecursion, nat_cmp, mul-le, Sizes, leb_size, usable, Fits, IsVolume, Volume, reserved_within}
 use Rattle.std.specs.FinMap as finite
 use Rattle.ubi_volume.specs.declared.content.Content.TheVariants as content

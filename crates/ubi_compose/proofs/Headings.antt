@@ -1,4 +1,4 @@
--- The record that the lines above give of a volume, and the lines of one volume.
+-- The record that the lines above give for a volume, and the lines of one volume.
 use Rattle.ubi_compose.proofs.Prelude.{append-nil, ◌≡◌, ℕ, ◌==◌, Bool, true, false, cond, List, [], ◌∷◌, ◌++◌, map, refl, sym, ap, ◌∙◌, Option, Some, None, filter_map, find, option_map, filter-append, filter_map-append, VolumeRecord, volume_of, first_some, heading, of_volume, record_in, Line}
 use Rattle.ubi_compose.specs.Spec.{record_of}
 use Rattle.ubi_compose.specs.declared.line.Line.TheVariants as line

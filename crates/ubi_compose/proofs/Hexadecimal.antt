@@ -1,4 +1,4 @@
--- Words of hexadecimal digits: how many bytes they write.
+-- Words of hexadecimal digits: how many bytes they stand for.
 use Rattle.ubi_compose.proofs.Prelude.{◌≡◌, ◌≤◌, ℕ, ◌+◌, ◌*◌, Bool, true, false, cond, ◌==◌, List, [], ◌∷◌, length, refl, arith, Option, Some, None, Ok, Err, Result, slice_index, option_and_then, option_map, result_ok, nat_tests, decode_of-ok, ◌>>=◌, decode_of, decode_pairs, digit_or_error, hex_digit_value, FromHexError, flags_of, hex_of, only_byte, shown_byte}
 use Rattle.std.specs.Prelude.{not}
 

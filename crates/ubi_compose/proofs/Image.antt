@@ -1,4 +1,4 @@
--- Eraseblocks that are laid out, one of each LEB, with spare ones behind them.
+-- Eraseblocks that are laid out, one for each LEB, followed by spare ones.
 use Rattle.ubi_compose.proofs.Prelude.{◌≡◌, ℕ, ◌+◌, ◌-◌, ◌*◌, ◌/◌, ◌%◌, ◌^◌, ◌<◌, ◌≤◌, ◌⊎◌, inl, inr, List, [], ◌∷◌, ◌++◌, length, map, replicate, get_or, refl, ap, sym, ◌∙◌, subst, arith, length-append, Some, flat_map, option_map, slice_get, AllByRecursion, concat, first_chunks, mul-add-mod_self_right, get_or-append_right, get_or-replicate, length-map, length-replicate, concat_is, div-mul-add, mul-le, get_or_from_slice_get, slice_get-map, slice_get_cases, slice_get_within, same_Some, IsGeometry, Sizes, IsSound, NoFault, IsWhole, block, eraseblocks, IsMember, Leb, NoMember, Wins, good_in, leb_of, named_in, sqnum_at, sqnum_in, image_seq, seq_of, first_chunks-concat, length-concat, none_from_clean, seq_is, spare, Laid, laid_bytes, new_ec}
 use Rattle.std.proofs.lemmas.List.{append_assoc}
 use Rattle.ubi_compose.proofs.Apart.{AreApart, one_place}

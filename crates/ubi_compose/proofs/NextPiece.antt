@@ -1,4 +1,4 @@
--- The pieces of a volume, one after the other: those between two that follow each other are none.
+-- The pieces of a volume, in order: between two consecutive ones there is none.
 use Rattle.ubi_compose.proofs.Prelude.{leb_written, ◌≡◌, ℕ, zero, suc, ◌+◌, ◌-◌, ◌<◌, ◌≤◌, List, [], ◌++◌, refl, ap, sym, ◌∙◌, arith, zero-add, append-nil, Option, None, Result, Err, flat_map, range_with_len, option_map_or, Agreed, All, Wrote, front_of, those, PutError, Device, Piece, HasPut, IsFirstFrom, IsNext, IsReadIn, IsReadOf, Pieces, first_lebs, piece_bytes, volume_bytes}
 use Rattle.ubi_compose.proofs.Received.{both_put, first_of, front_put, next, put_narrowed, rest}
 

@@ -1,4 +1,4 @@
--- What is known of a text as far as its lines were read.
+-- What is known of a text as far as its lines have been read.
 use Rattle.ubi_compose.proofs.Prelude.{◌≡◌, ◌<◌, ℕ, ◌+◌, Bool, true, false, cond, List, [], ◌∷◌, ◌++◌, length, map, drop, get_or, refl, sym, ap, ◌∙◌, arith, Option, Some, None, Ok, Err, min, option_map, AllByRecursion, list_any, option_or, drop_all, drop_more, length_push, All-from_recursion, Sizes, breaks, fields_from, first_fault, rec_fault, VolumeRecord, Items, Content, Volume, AreFaultless, IsRefused, error_at, read, IsSpecError, cause_of, first_cause, is_damaged, is_dynamic, is_updating, line_number, lines, numbered_volume, of_volume, sayings, volume_from, volumes_in, volumes_of, LineError, SpecCause, Line}
 use Rattle.ubi_volume.specs.declared.content.Content.TheVariants as content
 use Rattle.ubi_compose.specs.declared.errors.LineError.TheVariants as line_error

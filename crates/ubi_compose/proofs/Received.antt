@@ -1,4 +1,4 @@
--- What a writer received of bytes that a function gives of the source's, in order.
+-- What a writer received of bytes that a function gives for the source's, in order.
 use Rattle.ubi_compose.proofs.Prelude.{◌≡◌, ℕ, ◌+◌, ◌-◌, ◌<◌, List, [], ◌++◌, refl, ap, sym, ◌∙◌, arith, zero-add, Option, Result, Ok, Err, flat_map, range_with_len, Appends-nil, Sizes, Agreed, Narrows, Source, blocks_in, sound, anything, pieces_more, Wrote, All, front_of, wrote_where, wrote_text, Splits, error_behind, error_front, wrote_more, those, PutError, HasPut, NoRead, known_put}
 use Rattle.ubi_scan.specs.declared.errors.StreamError.TheVariants as stream
 use Rattle.ubi_compose.specs.declared.errors.PutError.TheVariants as put

@@ -1,4 +1,4 @@
--- Volumes are judged by what stands in for their bytes as they are by the bytes.
+-- Volumes are judged by what stands in for their bytes as they would be by the bytes.
 use Rattle.ubi_compose.proofs.Prelude.{◌≡◌, ℕ, ◌+◌, ◌*◌, ◌<◌, ◌≤◌, ◌&&◌, Bool, true, false, cond, List, [], ◌∷◌, length, map, refl, ap, sym, ◌∙◌, subst, arith, inl, inr, None, Option, Some, fold, is_none, nat_lt, slice_get, IfSome, nat_cmp, nat_tests, Sizes, rec_fault, usable, RecFault, VolumeRecord, VolKind, usable_some, IsBefore, IsFirst, IsItem, NoCause, Stands, rank, Fits, Content, Volume, MeaningCause, Reaches, content_of, items_of, text_of, empty_of, is_long, stand_in, stand_in_item, Part, not}
 use Rattle.std.specs.FinMap as finite
 use Rattle.ubi_media.specs.declared.vid.VolKind.TheVariants as kind

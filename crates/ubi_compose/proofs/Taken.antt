@@ -1,4 +1,4 @@
--- Taking a line into the volumes that the lines above it give: the volumes of one line more, or its cause.
+-- Taking a line into the volumes that the lines above it give: the volumes with one more line, or its cause.
 use Rattle.ubi_compose.proofs.Prelude.{◌≡◌, ℕ, ◌==◌, Bool, true, false, List, [], ◌∷◌, ◌++◌, map, refl, sym, ap, ◌∙◌, Option, Some, None, Result, Ok, Err, is_some, option_map, slice_set, list_all, position_from, option_map_or, result_map_both, map-append, map-map, Sizes, rec_fault, RecFault, VolumeRecord, Items, Volume, changed, changed_at, opened, place_of, taken, with_line, volume_of, content_cause, heading, later_cause, numbered_volume, of_volume, volume_from, volumes_in, SpecCause, Line}
 use Rattle.ubi_compose.specs.Spec.{record_of}
 use Rattle.std.specs.Prelude.{cond}

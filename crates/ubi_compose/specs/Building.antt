@@ -1,4 +1,4 @@
--- What building answers, and what the writer received then.
+-- What building answers, and what the writer then received.
 use Rattle.std.specs.Prelude.{◌≡◌, ℕ, ◌+◌, ◌<◌, ◌≤◌, List, Contains, Option, Result, Ok, Err}
 use Rattle.ubi_scan.specs.Source.{Agreed, Source, failed}
 use Rattle.ubi_volume.specs.Wrote.{First, NotAll, Wanted, Wrote}
@@ -8,11 +8,11 @@ use Rattle.ubi_compose.specs.declared.recipe.Part.{Part}
 use Rattle.ubi_compose.specs.declared.errors.BuildError.{BuildError}
 use Rattle.ubi_compose.specs.declared.errors.BuildError.TheVariants as build
 
--- the bytes wanted are those that a function gives of the source's
+-- the bytes wanted are those that a function gives for the source's
 abbrev pub those : (List ℕ → List ℕ) → Wanted
 those f bytes text = text ≡ f bytes
 
--- the normal image of what is built, and behind it a number of spare eraseblocks
+-- the normal image of what is built, followed by a number of spare eraseblocks
 abbrev pub image_built : Parts → ℕ → Wanted
 image_built ps spares = those (λ bytes. composed (built ps bytes) spares)
 
@@ -20,20 +20,20 @@ image_built ps spares = those (λ bytes. composed (built ps bytes) spares)
 abbrev pub IsPartOf : Parts → ℕ → Part → Type 0
 IsPartOf ps id p = Contains ps.of p × (p.id ≡ id)
 
--- the device has room for all pieces and the spares, and a source of a size has the bytes of each part
+-- the device has room for all pieces and the spares, and a source of this size has the bytes of each part
 pub record CanBuild (ps : Parts) (spares size : ℕ) : Type 0 where
   pub room : most_blocks ps + spares ≤ ps.sizes.pebs
   pub reaches : Reaches size ps.of
 
--- why it can't be: the device has no room for them, or it has and the bytes of a part lie beyond the source's end
+-- why an image can't be built: the device has no room for it, or it has and the bytes of a part lie beyond the source's end
 abbrev pub IsRefused : Parts → ℕ → ℕ → BuildError → Type 0
 IsRefused ps spares size build.TooMany = ps.sizes.pebs < most_blocks ps + spares
 IsRefused ps spares size (build.Beyond id) =
     (most_blocks ps + spares ≤ ps.sizes.pebs) × ((p : Part) × IsPartOf ps id p × (size < p.start + p.len))
 IsRefused ps spares size _ = ⊥
 
--- why nothing is built, or only the first bytes are: it can't be; or it can, and memory ran out, or a read for a volume
--- failed, or a write
+-- why nothing is built, or only the first bytes are: it can't be built; or it can, and memory ran out, or a read for a
+-- volume failed, or a write failed
 abbrev pub IsBuildError : Parts → ℕ → Source → Agreed → Option (List ℕ) → Option (List ℕ) → BuildError → Type 0
 IsBuildError ps spares k agrees old new build.Memory = CanBuild ps spares k.size
 IsBuildError ps spares k agrees old new (build.Read id n) =
@@ -42,28 +42,28 @@ IsBuildError ps spares k agrees old new (build.Write n) =
     CanBuild ps spares k.size × Wrote agrees old new (image_built ps spares) NotAll 0 n
 IsBuildError ps spares k agrees old new e = IsRefused ps spares k.size e
 
--- a read that failed began in the bytes of the part whose volume is told
+-- a failed read began in the bytes of the part whose volume is named
 abbrev pub NamesPart : Part → ℕ → BuildError → Type 0
 NamesPart p at (build.Read id n) = (id ≡ p.id) × (p.start ≤ at) × (at < p.start + p.len)
 NamesPart p at _ = Unit {0}
 
--- which is one of the parts
+-- the volume that is named is that of one of the parts
 abbrev pub NamesVolume : Parts → ℕ → BuildError → Type 0
 NamesVolume ps at (build.Read id n) = (p : Part) × Contains ps.of p × NamesPart p at (build.Read id n)
 NamesVolume ps at _ = Unit {0}
 
--- a fact that holds where nothing was written
+-- a fact that holds if nothing was written
 abbrev pub WhereNotBegun : Type 0 → BuildError → Type 0
 WhereNotBegun fact (build.Read _ _) = Unit {0}
 WhereNotBegun fact (build.Write _) = Unit {0}
 WhereNotBegun fact _ = fact
 
--- what is known of a source after a call that failed: one read failed where the answer is Read
+-- what is known of a source after a call that failed: one read failed if the answer is Read
 abbrev pub known_then : Source → BuildError → Source
 known_then k (build.Read _ _) = failed k
 known_then k _ = k
 
--- and after any call
+-- what is known of a source after any call
 abbrev pub known_after : {A : Type 0} → Source → Result A BuildError → Source
 known_after k (Ok _) = k
 known_after k (Err e) = known_then k e

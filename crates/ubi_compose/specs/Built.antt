@@ -27,18 +27,18 @@ pub record Parts : Type 0 where
 abbrev pub text_of : List ℕ → Part → List ℕ
 text_of bytes p = take p.len (drop p.start bytes)
 
--- the LEBs of a text that is cut into pieces of a size: each holds its piece, and 0xFF behind it
+-- the LEBs of bytes that are cut into pieces of a size: each holds its piece, and 0xFF after it
 abbrev pub lebs_of : ℕ → List ℕ → FinMap nat_cmp (List ℕ)
 lebs_of size text =
     from_entries (map (λ lnum. (lnum, filled size (share size text lnum)))
     (range_with_len 0 (pieces size (length text))))
 
--- what a volume holds that a text was written to: a static one the text, a dynamic one its LEBs
+-- what a volume holds after bytes were written to it: a static one these bytes, a dynamic one their LEBs
 abbrev pub content_of : VolKind → ℕ → List ℕ → Content
 content_of kind.Static size text = content.Static text
 content_of kind.Dynamic size text = content.Dynamic (lebs_of size text)
 
--- the volume of a part, behind its number
+-- the volume of a part, after its number
 abbrev pub item_of : Sizes → List ℕ → Part → ℕ × Volume
 item_of s bytes p =
     (p.id, record { entry = p.entry; content = content_of p.entry.kind (usable s p.entry) (text_of bytes p) })
@@ -47,19 +47,19 @@ item_of s bytes p =
 abbrev pub items_of : Sizes → List ℕ → List Part → Items
 items_of s bytes parts = map (item_of s bytes) parts
 
--- their meaning: the LEBs that are 0xFF throughout are left out
+-- the meaning of the volumes of parts: LEBs that are 0xFF throughout are left out
 abbrev pub built : Parts → List ℕ → Meant
 built ps bytes = meaning_of ps.sizes ps.image_seq (items_of ps.sizes bytes ps.of)
 
--- a source of a size has the bytes of each part
+-- a source of this size has the bytes of each part
 abbrev pub Reaches : ℕ → List Part → Type 0
 Reaches size parts = All (λ p. p.start + p.len ≤ size) parts
 
--- how many pieces the bytes of a part are
+-- how many pieces the bytes of a part have
 abbrev pub pieces_of : Sizes → Part → ℕ
 pieces_of s p = pieces (usable s p.entry) p.len
 
--- two eraseblocks for the table, and one for each piece: a piece that is 0xFF throughout counts too
+-- how many eraseblocks an image has at most: two for the table, and one for each piece, even if that is 0xFF throughout
 abbrev pub most_blocks : Parts → ℕ
 most_blocks ps = 2 + sum_by (pieces_of ps.sizes) ps.of
 
@@ -69,7 +69,7 @@ pub record HaveMeaning (ps : Parts) : Type 0 where
   pub image_seq : ps.image_seq < 2 ^ 32
   pub none : (bytes : List ℕ) → Reaches (length bytes) ps.of → NoCause ps.sizes (items_of ps.sizes bytes ps.of)
 
--- why they haven't: whatever the bytes are, the first cause that stands; or memory ran out
+-- why they have none: whatever the bytes are, the first cause that applies; or memory ran out
 abbrev pub IsRecipeError : Sizes → List Part → RecipeError → Type 0
 IsRecipeError s parts (recipe.Refused c) =
     (bytes : List ℕ) → Reaches (length bytes) parts → IsFirst s (items_of s bytes parts) c

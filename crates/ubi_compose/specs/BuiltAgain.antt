@@ -1,4 +1,4 @@
--- What is built of the records and the contents of an image.
+-- What is built from the records and the contents of an image.
 use Rattle.std.specs.Prelude.{◌≡◌, ◌≤◌, ℕ, List, Contains, Ok, Some, length, map}
 use Rattle.std.specs.FinMap.{entries, get}
 use Rattle.ubi_media.specs.Geometry.{IsGeometry}
@@ -10,7 +10,7 @@ use Rattle.ubi_volume.specs.declared.content.Volume.{Volume}
 use Rattle.ubi_compose.specs.Built.{HaveMeaning, Parts, Reaches, built, most_blocks, text_of}
 use Rattle.ubi_compose.specs.declared.recipe.Part.{Part}
 
--- parts are the volumes of a meaning: each volume has one, and each has the record of a volume and the bytes that this reads
+-- parts are the volumes of a meaning: each volume has a part, and each part has the record of a volume and the bytes that it reads
 pub record AreVolumesOf (m : Meant) (ps : Parts) (bytes : List ℕ) : Type 0 where
   pub sizes : ps.sizes ≡ m.sizes
   pub image_seq : ps.image_seq ≡ m.image_seq
@@ -18,13 +18,13 @@ pub record AreVolumesOf (m : Meant) (ps : Parts) (bytes : List ℕ) : Type 0 whe
   pub read : (p : Part) → Contains ps.of p
       → (v : Volume) × (get m.volumes p.id ≡ Some v) × (p.entry ≡ v.entry) × (read_volume m p.id ≡ Ok (text_of bytes p))
 
--- what is built of the records of an accepted image, all volumes of which can be read, and of what these read, is its meaning
+-- if all volumes of an accepted image can be read, what is built from their records and from what they read is its meaning
 abbrev pub BuiltAgain : Type 0
 BuiltAgain =
     (image : Image) (m : Meant) (ps : Parts) (bytes : List ℕ) → Accepts image m → HaveMeaning ps
     → Reaches (length bytes) ps.of → AreVolumesOf m ps bytes → built ps bytes ≡ m
 
--- parts are those of the volumes of a meaning, by rising number, each with the record and the bytes that its volume reads
+-- parts are those of the volumes of a meaning, in ascending order, each with the record and the bytes that its volume reads
 pub record AreItsParts (m : Meant) (ps : Parts) (bytes : List ℕ) : Type 0 where
   pub sizes : ps.sizes ≡ m.sizes
   pub image_seq : ps.image_seq ≡ m.image_seq

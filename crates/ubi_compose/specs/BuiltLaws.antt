@@ -11,7 +11,7 @@ use Rattle.ubi_compose.specs.Built.{HaveMeaning, Parts, Reaches, built, most_blo
 use Rattle.ubi_compose.specs.Composed.{composed}
 use Rattle.ubi_compose.specs.declared.recipe.Part.{Part}
 
--- what a volume of some bytes reads that a text was written to: a static one the text, and a dynamic one 0xFF behind it
+-- what a volume of a number of bytes reads after some were written to it: a static one these, and a dynamic one these and 0xFF after them
 abbrev pub text_read : VolKind → ℕ → List ℕ → List ℕ
 text_read kind.Static size text = text
 text_read kind.Dynamic size text = filled size text
@@ -23,7 +23,7 @@ BuiltReads =
     → read_volume (built ps bytes) p.id
     ≡ Ok (text_read p.entry.kind (p.entry.reserved * usable ps.sizes p.entry) (text_of bytes p))
 
--- the normal image of what is built is accepted with it, whatever spare eraseblocks follow it, if there is room
+-- the normal image of what is built is accepted with its meaning, whatever spare eraseblocks follow it, if there is room
 abbrev pub BuiltAccepted : Type 0
 BuiltAccepted =
     (ps : Parts) (bytes : List ℕ) (spares : ℕ) → HaveMeaning ps → Reaches (length bytes) ps.of

@@ -1,4 +1,4 @@
--- What is printed of an image that isn't composed or built, and a text that isn't read.
+-- The texts that are printed for an image that isn't composed or built, and for a text that isn't read.
 use Rattle.std.specs.Prelude.{ℕ, List, ◌++◌, codes, decimal}
 use Rattle.ubi_media.specs.ErrorTexts.{rec_fault_name}
 use Rattle.ubi_volume.specs.ErrorTexts.{meaning_cause_text}
@@ -13,17 +13,17 @@ use Rattle.ubi_compose.specs.declared.errors.SpecCause.TheVariants as cause
 use Rattle.ubi_compose.specs.declared.errors.SpecError.{SpecError}
 use Rattle.ubi_compose.specs.declared.errors.SpecError.TheVariants as spec
 
--- the text of why an image isn't composed
+-- the text that says why an image isn't composed
 abbrev pub compose_error_text : ComposeError → List ℕ
 compose_error_text compose.TooMany = codes "C1 TooMany"
 compose_error_text compose.Memory = codes "out of memory"
 
--- the text of why volumes to build are refused
+-- the text that says why volumes to build are refused
 abbrev pub recipe_error_text : RecipeError → List ℕ
 recipe_error_text (recipe.Refused c) = meaning_cause_text c
 recipe_error_text recipe.Memory = codes "out of memory"
 
--- the text of why an image isn't built: the number of the volume, and how many bytes were written
+-- the text that says why an image isn't built: the number of the volume, and how many bytes were written
 abbrev pub build_error_text : BuildError → List ℕ
 build_error_text build.TooMany = codes "C1 TooMany"
 build_error_text (build.Beyond id) = codes "C2 Beyond volume=" ++ decimal id
@@ -42,12 +42,12 @@ spec_cause_name (cause.Record _) = codes "P6 Record"
 spec_cause_name cause.Twice = codes "P7 Twice"
 spec_cause_name cause.Long = codes "P8 Long"
 
--- the text of it, with the fault of a record
+-- the text of what is wrong with a line, with the fault of a record
 abbrev pub spec_cause_text : SpecCause → List ℕ
 spec_cause_text (cause.Record f) = codes "P6 Record " ++ rec_fault_name f
 spec_cause_text c = spec_cause_name c
 
--- the text of why a text isn't read: what is wrong, on which line, and the fault of a record
+-- the text that says why a text isn't read: what is wrong, on which line, and the fault of a record
 abbrev pub spec_error_text : SpecError → List ℕ
 spec_error_text (spec.Refused line (cause.Record f)) = codes "P6 Record line=" ++ decimal line ++ codes " " ++ rec_fault_name f
 spec_error_text (spec.Refused line c) = spec_cause_name c ++ codes " line=" ++ decimal line

@@ -6,7 +6,7 @@ use Rattle.ubi_volume.specs.Accepts.{Accepts}
 use Rattle.ubi_volume.specs.Meant.{Meant}
 use Rattle.ubi_compose.specs.Normal.{IsNormalised}
 
--- normalising what was normalised gives it again
+-- normalising a normalised image gives it again
 abbrev pub TwiceIsOnce : Type 0
 TwiceIsOnce =
     (image : Image) (out : List ℕ) → IsGeometry image.sizes → IsNormalised image out → IsNormalised (record image { bytes = out }) out

@@ -26,7 +26,7 @@ pub record Laid : Type 0 where
   pub header : VidHeader
   pub text : List ℕ
 
--- a copy of the volume table, 0 or 1: a LEB of the layout volume, to be rejected where that isn't known
+-- a copy of the volume table, 0 or 1: a LEB of the layout volume, with the compatibility of being rejected
 abbrev pub layout_block : Meant → ℕ → Laid
 layout_block m copy = record { header = plain kind.Dynamic 5 0 layout copy; text = table_bytes (records_of m) }
 
@@ -34,31 +34,31 @@ layout_block m copy = record { header = plain kind.Dynamic 5 0 layout copy; text
 abbrev pub dynamic_block : ℕ → ℕ → ℕ × List ℕ → Laid
 dynamic_block pad vol leb = record { header = plain kind.Dynamic 0 pad vol leb.0; text = leb.1 }
 
--- the header of a LEB of a static volume that uses a number of them, by the size of its data and their check
+-- the header of a LEB of a static volume that uses a number of them, by the size of its data and their CRC
 abbrev pub piece_header : ℕ → ℕ → ℕ → ℕ → ℕ → ℕ → VidHeader
 piece_header pad vol used lnum size crc =
     record (plain kind.Static 0 pad vol lnum) { data_size = size; used_ebs = used; data_crc = crc }
 
--- such a LEB
+-- a LEB of a static volume, with its header and data
 abbrev pub static_block : ℕ → ℕ → ℕ → ℕ → List ℕ → Laid
 static_block pad vol used lnum text = record {
   header = piece_header pad vol used lnum (length text) (check text);
   text = text;
 }
 
--- the one eraseblock of a damaged volume: its check isn't that of its one byte
+-- the one eraseblock of a damaged volume: the CRC isn't that of its one byte
 abbrev pub damaged_block : ℕ → ℕ → Laid
 damaged_block pad vol = record { header = record (plain kind.Static 0 pad vol 0) { data_size = 1; used_ebs = 1 }; text = [] }
 
--- a LEB of a static text, which is cut into pieces of a size
+-- a LEB of a static volume's contents, which are cut into pieces of a size
 abbrev pub static_part : ℕ → ℕ → ℕ → List ℕ → ℕ → Laid
 static_part pad size vol text lnum = static_block pad vol (pieces size (length text)) lnum (share size text lnum)
 
--- the eraseblocks of a static text, by rising LEB
+-- the eraseblocks of a static volume's contents, in ascending order of LEBs
 abbrev pub static_blocks : ℕ → ℕ → ℕ → List ℕ → List Laid
 static_blocks pad size vol text = map (static_part pad size vol text) (range_with_len 0 (pieces size (length text)))
 
--- the eraseblocks of a volume: none of one whose update didn't end
+-- the eraseblocks of a volume; there are none if its update didn't end
 abbrev pub volume_blocks : Sizes → ℕ → VolumeRecord → Content → List Laid
 volume_blocks s vol r content.Updating = []
 volume_blocks s vol r content.Damaged = damaged_block (data_pad s r) vol ∷ []
@@ -69,7 +69,7 @@ volume_blocks s vol r (content.Dynamic lebs) = map (dynamic_block (data_pad s r)
 abbrev pub blocks_of : Sizes → List (ℕ × Volume) → List Laid
 blocks_of s volumes = flat_map (λ v. volume_blocks s v.0 v.1.entry v.1.content) volumes
 
--- the eraseblocks of a meaning: two copies of its table, and then its volumes by rising number
+-- the eraseblocks of a meaning: two copies of its table, and then its volumes in ascending order
 abbrev pub normal_blocks : Meant → List Laid
 normal_blocks m = layout_block m 0 ∷ layout_block m 1 ∷ blocks_of m.sizes (entries m.volumes)
 
@@ -77,7 +77,7 @@ normal_blocks m = layout_block m 0 ∷ layout_block m 1 ∷ blocks_of m.sizes (e
 abbrev pub new_ec : ℕ → EcHeader
 new_ec seq = record { counter = 0; image_seq = seq }
 
--- the bytes of an eraseblock: each header and the text at its place, and 0xFF elsewhere
+-- the bytes of an eraseblock: each header and the data at their places, and 0xFF elsewhere
 abbrev pub laid_bytes : Sizes → EcHeader → Laid → List ℕ
 laid_bytes s ec b =
     filled s.peb_size (filled s.data_offset (filled s.vid_offset (ec_bytes s ec) ++ vid_bytes b.header) ++ b.text)

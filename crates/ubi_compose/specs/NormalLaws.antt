@@ -12,7 +12,7 @@ abbrev pub NormalAccepted : Type 0
 NormalAccepted =
     (m : Meant) (spares : ℕ) → IsGeometry m.sizes → IsMeaning m → HasRoom m spares → Accepts (image_of m.sizes (composed m spares)) m
 
--- it fits the device
+-- the normal image of a meaning fits the device
 abbrev pub NormalFits : Type 0
 NormalFits = (m : Meant) → IsMeaning m → HasRoom m 0
 

@@ -10,14 +10,14 @@ use Rattle.ubi_volume.specs.Meant.{Meant}
 use Rattle.ubi_volume.specs.PageLaws.{image_with_page, meaning_with_page}
 use Rattle.ubi_compose.specs.Normal.{IsNormalised, normal_bytes}
 
--- the normal image of a meaning is the same bytes with each page; so what an image is normalised to, it is with each
+-- the normal image of a meaning is the same bytes with each page; so an image is normalised to the same bytes with each
 -- page of which its own is a multiple
 pub record NormalWithLesserPage : Type 0 where
   pub same : (m : Meant) (page : ℕ) → normal_bytes (meaning_with_page m page) ≡ normal_bytes m
   pub kept : (image : Image) (out : List ℕ) (page : ℕ) → page ∣ image.sizes.page → IsNormalised image out
       → IsNormalised (image_with_page image page) out
 
--- a page can accept what a multiple of it refuses: so it is with an image, under two geometries
+-- a page can accept what a multiple of it refuses: there is such an image, under two geometries
 abbrev pub LesserAcceptsMore : Type 0
 LesserAcceptsMore =
     (image : Image) × (m : Meant) × (page : ℕ) × (page ∣ image.sizes.page)

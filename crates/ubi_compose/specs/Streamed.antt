@@ -18,31 +18,31 @@ pub record IsStreamed (image : Image) (old new : Option (List ℕ)) (n : ℕ) : 
   pub count : n ≡ length (normal_bytes meaning)
   pub written : Appends old new (normal_bytes meaning)
 
--- it received the first n bytes of it: perhaps all, where what is read last turns out to be left out
+-- the writer received the first n bytes of the normal image: perhaps all, if what is read last turns out to be left out
 pub record IsPart (image : Image) (old new : Option (List ℕ)) (n : ℕ) : Type 0 where
   pub meaning : Meant
   pub accepted : Accepts image meaning
   pub within : n ≤ length (normal_bytes meaning)
   pub written : Appends old new (take n (normal_bytes meaning))
 
--- and not all
+-- the writer received the first n bytes of the normal image, but not all
 pub record IsCut (image : Image) (old new : Option (List ℕ)) (n : ℕ) : Type 0 where
   pub meaning : Meant
   pub accepted : Accepts image meaning
   pub short : n < length (normal_bytes meaning)
   pub written : Appends old new (take n (normal_bytes meaning))
 
--- it received n bytes, whatever the source holds
+-- the writer received n bytes, whatever the source holds
 abbrev pub HasGot : Option (List ℕ) → Option (List ℕ) → ℕ → Type 0
 HasGot old new n = (bytes : List ℕ) × (length bytes ≡ n) × Appends old new bytes
 
--- what a normalising of a source answers
+-- what normalising a source answers
 pub record IsNormalisedTo (s : Sizes) (agrees : Agreed) (old new : Option (List ℕ)) (n : ℕ) : Type 0 where
   pub got : HasGot old new n
   pub held : WhereHeld agrees (λ bytes. IsStreamed (image_of s bytes) old new n)
 
--- why it answers nothing: the image is refused, or memory ran out, and nothing was written; a read of a source of the
--- size of an image failed, while attaching, or after n bytes were written; or a write failed after so many
+-- why normalising a source fails: the image is refused, or memory ran out, and nothing was written; a read of a source
+-- of the size of an image failed, while attaching or after n bytes were written; or a write failed after n bytes
 abbrev pub IsNormaliseToError : Sizes → Source → Agreed → Option (List ℕ) → Option (List ℕ) → StreamError → Type 0
 IsNormaliseToError s k agrees old new (stream.Refused c) = Keeps old new × ArePlacesError s k agrees (stream.Refused c)
 IsNormaliseToError s k agrees old new stream.Memory = Keeps old new
@@ -52,7 +52,7 @@ IsNormaliseToError s k agrees old new (stream.Read p n) =
 IsNormaliseToError s k agrees old new (stream.Write n) =
     HasGot old new n × WhereHeld agrees (λ bytes. IsCut (image_of s bytes) old new n)
 
--- a fact that holds where nothing was written: where the image is refused, or memory ran out
+-- a fact that holds if nothing was written: if the image is refused, or memory ran out
 abbrev pub WhereUnwritten : Type 0 → StreamError → Type 0
 WhereUnwritten fact (stream.Refused c) = fact
 WhereUnwritten fact stream.Memory = fact

@@ -1,4 +1,4 @@
--- What a text comes to, and the law that the text alone tells it.
+-- What a text comes to, and the law that only the text decides it.
 use Rattle.std.specs.Prelude.{◌≡◌, ℕ, List, None, Result, Ok, Err}
 use Rattle.ubi_media.specs.Geometry.{Sizes}
 use Rattle.ubi_volume.specs.Made.{IsFirst, NoCause, meaning_of}
@@ -13,7 +13,7 @@ ComesTo s seq text (Ok m) =
     (first_cause s text ≡ None) × NoCause s (volumes_of s text) × (m ≡ meaning_of s seq (volumes_of s text))
 ComesTo s seq text (Err c) = (first_cause s text ≡ None) × IsFirst s (volumes_of s text) c
 
--- that is told by the text and the number alone
+-- the text and the number alone decide what it comes to
 abbrev pub OneAnswer : Type 0
 OneAnswer = (s : Sizes) (seq : ℕ) (text : List ℕ) (a b : Result Meant MeaningCause) → ComesTo s seq text a
     → ComesTo s seq text b → a ≡ b

@@ -17,7 +17,7 @@ is_between low high b = nat_le low b && nat_le b high
 unfoldable pub hex_of : List ℕ → Option (List ℕ)
 hex_of word = if length word == 0 then None else result_ok (decode_of word)
 
--- the one byte of just one pair
+-- the byte of exactly one pair of digits
 abbrev pub only_byte : List ℕ → Option ℕ
 only_byte bytes = then_some (length bytes == 1) (slice_index bytes 0)
 
@@ -35,11 +35,11 @@ kind_of word =
 abbrev pub is_plain : ℕ → Bool
 is_plain b = is_between 0x21 0x7E b && not (b == 92)
 
--- the byte that two hexadecimal digits write
+-- the byte that two hexadecimal digits stand for
 abbrev pub shown_byte : ℕ → ℕ → Option ℕ
 shown_byte high low = option_and_then (λ h. option_map (λ l. h * 16 + l) (hex_digit_value low)) (hex_digit_value high)
 
--- the byte of what follows a backslash
+-- the byte that stands after a backslash, as an x and two digits
 abbrev pub escape_byte : List ℕ → Option ℕ
 escape_byte part = shown_byte (slice_index part 1) (slice_index part 2)
 
@@ -49,11 +49,11 @@ is_escape part =
     nat_le 3 (length part) && (slice_index part 0 == 120) && list_all is_plain (drop 3 part)
     && is_some (escape_byte part)
 
--- the byte that the two digits write, and the bytes that follow them
+-- the byte that the two digits stand for, and the bytes that follow them
 abbrev pub escaped : List ℕ → List ℕ
 escaped part = unwrap_or (escape_byte part) 0 ∷ drop 3 part
 
--- the bytes that the parts of a word show, which is cut at its backslashes
+-- the bytes that the parts of a word show, where the word is cut at its backslashes
 abbrev pub joined_parts : List (List ℕ) → Option (List ℕ)
 joined_parts [] = None
 joined_parts (first ∷ parts) =

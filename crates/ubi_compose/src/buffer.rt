@@ -1,4 +1,4 @@
-//! An eraseblock of the normal image, laid out in a buffer that holds its text already.
+//! An eraseblock of the normal image, laid out in a buffer that already holds its data.
 
 ghost use Rattle.std.specs.Prelude.{◌≡◌, ◌++◌, ◌-◌, ◌≤◌, drop, length, take};
 ghost use Rattle.ubi_media.specs.Fields.{blank};
@@ -9,7 +9,7 @@ ghost use Rattle.ubi_compose.specs.Normal.{laid_bytes, new_ec};
 use crate::laying::{HEADER_SIZE, new_ec};
 use ubi_media::{Geometry, VidHeader, write_ec, write_vid};
 
-/// Makes all bytes 0xFF but the first `len`.
+/// Makes all bytes 0xFF except the first `len`.
 pub fn blank_behind(part: &mut [u8], len: usize)
     requires { len ≤ length part.old }
     ensures { part.new ≡ take len part.old ++ blank (length part.old - len) }
@@ -27,8 +27,8 @@ fn put_front(part: &mut [u8], header: &[u8])
     rest.fill(0xFF);
 }
 
-/// Lays out an eraseblock with an image sequence number in a buffer of its size, in which the first `len` bytes of the logical eraseblock stand
-/// already.
+/// Lays out an eraseblock with an image sequence number in a buffer of its size, which already holds the first `len` bytes of the
+/// logical eraseblock.
 pub fn lay(buffer: &mut [u8], geometry: &Geometry, image_seq: u32, header: &VidHeader, len: usize)
     requires room { length buffer.old ≡ geometry.now.peb_size }
     requires text { len ≤ leb_size geometry.now }

@@ -1,4 +1,4 @@
-//! The normal image of volumes whose bytes lie in a source, into a writer.
+//! The normal image of volumes whose bytes lie in a source, written to a writer.
 
 ghost use Rattle.std.specs.Prelude.{◌≡◌, ◌≢◌, ◌+◌, ◌<◌, ◌≤◌, Err, IfErr, IfOk, MatchOption, OnOk};
 ghost use Rattle.ubi_media.specs.Geometry.{leb_size};
@@ -21,7 +21,7 @@ use std::alloc::Global;
 use std::io::Write;
 use ubi_scan::BlockSource;
 
-/// How many eraseblocks the normal image has at most: as many as it has where no piece is 0xFF throughout.
+/// How many eraseblocks the normal image has at most: as many as if no piece is 0xFF throughout.
 fn most_blocks(recipe: &Recipe) -> u64
     ensures value { result ≡ most_blocks recipe.now }
     ensures few { result ≤ recipe.now.sizes.pebs }
@@ -34,7 +34,7 @@ fn most_blocks(recipe: &Recipe) -> u64
     count
 }
 
-/// A part whose bytes a source of a size hasn't all, if there is one.
+/// A part that has bytes beyond the end of a source of this size, if there is one.
 fn part_beyond(recipe: &Recipe, size: u64) -> Option<&Part>
     ensures { MatchOption result (Reaches size recipe.now.of) (λ p. IsPartOf recipe.now p.now.id p.now × (size < p.now.start + p.now.len)) }
 {
@@ -44,11 +44,11 @@ fn part_beyond(recipe: &Recipe, size: u64) -> Option<&Part>
         .find(|part| part.start > size || part.len > size - part.start)
 }
 
-/// Judges whether an image can be built of a source of a size, with so many spare eraseblocks.
+/// Judges whether an image can be built from a source of this size, with `spares` spare eraseblocks.
 ///
 /// # Errors
 ///
-/// TooMany, or else Beyond.
+/// `TooMany`, or else `Beyond`.
 fn judge(recipe: &Recipe, spares: u32, size: u64) -> Result<(), BuildError>
     ensures ok { OnOk result (CanBuild recipe.now spares size) }
     ensures refused { IfErr result (IsRefused recipe.now spares size) }
@@ -64,16 +64,16 @@ fn judge(recipe: &Recipe, spares: u32, size: u64) -> Result<(), BuildError>
     }
 }
 
-/// Writes the normal image of the meaning that the parts of a recipe have over the bytes of a source, and behind it so many
-/// spare eraseblocks; answers how many bytes that are. It holds one eraseblock at a time, and takes all memory before it
-/// writes. Each byte of a part is read at most once.
+/// Writes the normal image of the meaning that the parts of a recipe have over the bytes of a source, followed by `spares`
+/// spare eraseblocks, and returns how many bytes that is. It holds one eraseblock at a time, and allocates all memory
+/// before it writes. Each byte of a part is read at most once.
 ///
 /// # Errors
 ///
-/// The first of these: `TooMany` where the table, the pieces of all volumes and the spares are more eraseblocks than the
-/// device has, where a piece counts that is 0xFF throughout; never without spares. `Beyond` where the source hasn't all
-/// bytes of a part, `Memory` where memory ran out: then nothing is written. `Read` where a read failed, and `Write` where
-/// a write failed, after so many bytes of the image.
+/// The first of these: `TooMany` if the table, the pieces of all volumes and the spares are more eraseblocks than the
+/// device has, where a piece also counts if it is 0xFF throughout; never without spares. `Beyond` if the source doesn't
+/// have all bytes of a part, `Memory` if memory ran out: then nothing is written. `Read` if a read failed, and `Write` if
+/// a write failed, with how many bytes of the image were written before.
 pub fn build_to<S: BlockSource, W: Write>(
     alloc: Global,
     recipe: &Recipe,

@@ -54,7 +54,7 @@ fn put_volumes(image: &mut Vec<u8>, meaning: &Meaning) -> Result<(), AllocError>
     Ok(())
 }
 
-/// Adds an eraseblock that is ready to be programmed: an erase-counter header, and 0xFF behind it.
+/// Adds an eraseblock that is ready to be programmed: an erase-counter header, and 0xFF after it.
 fn put_spare(image: &mut Vec<u8>, geometry: &Geometry, image_seq: u32) -> Result<(), AllocError>
     ensures { OnOk result (image.new.items ≡ image.old.items ++ spare geometry.now image_seq) }
 {
@@ -62,7 +62,7 @@ fn put_spare(image: &mut Vec<u8>, geometry: &Geometry, image_seq: u32) -> Result
     put_blank(image, geometry.peb_size() - HEADER_SIZE)
 }
 
-/// Adds so many of them.
+/// Adds `count` spare eraseblocks.
 fn put_spares(
     image: &mut Vec<u8>,
     geometry: &Geometry,
@@ -77,12 +77,12 @@ fn put_spares(
     Ok(())
 }
 
-/// The normal image of a meaning, and behind it so many spare eraseblocks: each has an erase-counter header with counter
-/// 0 and the image sequence number, and is else 0xFF. It is accepted, with this meaning.
+/// The normal image of a meaning, followed by `spares` spare eraseblocks: each has an erase-counter header with counter
+/// 0 and the image sequence number, and is 0xFF elsewhere. It is accepted, with this meaning.
 ///
 /// # Errors
 ///
-/// `TooMany` where the device hasn't so many eraseblocks; never without spares. `Memory` where memory ran out.
+/// `TooMany` if the device has too few eraseblocks; never without spares. `Memory` if memory ran out.
 pub fn compose(alloc: Global, meaning: &Meaning, spares: u32) -> Result<Vec<u8>, ComposeError>
     ensures room { IfOk result (λ _. HasRoom meaning.now spares) }
     ensures bytes { IfOk result (λ out. out.items ≡ composed meaning.now spares) }
@@ -106,7 +106,7 @@ pub fn compose(alloc: Global, meaning: &Meaning, spares: u32) -> Result<Vec<u8>,
 ///
 /// # Errors
 ///
-/// Those of [`attach`], and Memory where memory ran out for the normal image.
+/// Those of [`attach`], and `Memory` if memory ran out for the normal image.
 pub fn normalise(alloc: Global, geometry: &Geometry, image: &[u8]) -> Result<Vec<u8>, AttachError>
     ensures normal { IfOk result (λ out. IsNormalised (image_of geometry.now image.now) out.items) }
     ensures again { IfOk result (λ out. IsNormalised (image_of geometry.now out.items) out.items) }

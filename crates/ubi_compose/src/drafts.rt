@@ -1,4 +1,4 @@
-//! The volumes of a text, as far as its lines were read.
+//! The volumes of a text, as far as its lines have been read.
 
 ghost use Rattle.std.specs.Prelude.{◌≡◌, ◌++◌, ◌∷◌, [], MatchResult, None, Ok, OnOk};
 ghost use Rattle.ubi_compose.specs.inner.Drafts.{AreFaultless, IsRefused, changed, opened, place_of, read, taken};
@@ -32,7 +32,7 @@ fn is_skipped(text: &[u8]) -> bool
     text.is_empty() || text[0] == b'#'
 }
 
-/// The volumes so far, each with its number, in the order of their `volume` lines. Seen as the list of them.
+/// The volumes so far, each with its number, in the order of their `volume` lines. The model is the list of them.
 #[derive(Drop)]
 pub(crate) struct Drafts {
     volumes: Vec<(u32, Volume)>,
@@ -54,7 +54,7 @@ impl Model for Drafts {
 }
 
 impl Drafts {
-    /// None yet.
+    /// No volumes yet.
     pub(crate) fn new(alloc: Global) -> Drafts
         ensures { result ≡ [] }
     {

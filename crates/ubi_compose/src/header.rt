@@ -16,7 +16,7 @@ pub fn copy_header(copy: u32) -> VidHeader
     VidHeader::plain(VolKind::Dynamic, REJECT, 0, LAYOUT_VOLUME, copy)
 }
 
-/// The header of a logical eraseblock of a static volume of `used_ebs` of them, by the size of its data and their check.
+/// The header of a logical eraseblock of a static volume of `used_ebs` of them, by the size of its data and their CRC.
 pub fn piece_header(
     data_pad: u32,
     vol_id: u32,
@@ -35,7 +35,7 @@ pub fn piece_header(
     }
 }
 
-/// The header of a logical eraseblock of a static volume of `used_ebs` of them, which holds a text.
+/// The header of a logical eraseblock of a static volume of `used_ebs` of them, which holds the bytes `text`.
 pub fn static_header(data_pad: u32, vol_id: u32, used_ebs: u32, lnum: u32, text: &[u8]) -> VidHeader
     requires { length text.now < 2 ^ 32 }
     ensures { result ≡ (static_block data_pad vol_id used_ebs lnum text.now).header }
@@ -44,7 +44,7 @@ pub fn static_header(data_pad: u32, vol_id: u32, used_ebs: u32, lnum: u32, text:
     piece_header(data_pad, vol_id, used_ebs, lnum, size, crc(text))
 }
 
-/// The header of the one eraseblock of a damaged volume: its check isn't that of its one byte.
+/// The header of the one eraseblock of a damaged volume: the CRC isn't that of its one byte.
 pub fn damaged_header(data_pad: u32, vol_id: u32) -> VidHeader
     ensures { result ≡ (damaged_block data_pad vol_id).header }
 {

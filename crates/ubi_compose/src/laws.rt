@@ -7,8 +7,8 @@ ghost use Rattle.ubi_compose.specs.NormalLaws.{NormalAccepted, NormalFits, Norma
 ghost use Rattle.ubi_compose.specs.PageLaws.{LesserAcceptsMore, NormalWithLesserPage};
 ghost use Rattle.ubi_compose.specs.TextLaws.{OneAnswer};
 
-/// The normal image of a meaning is accepted with that meaning, and so it is with any number of spare eraseblocks behind
-/// it, as far as the device has room.
+/// The normal image of a meaning is accepted with that meaning, followed by any number of spare eraseblocks, as far as
+/// the device has room.
 pub fn normal_accepted()
     ensures { NormalAccepted }
 {}
@@ -23,7 +23,7 @@ pub fn normal_form()
     ensures { NormalForm }
 {}
 
-/// Normalising what was normalised gives it again.
+/// Normalising a normalised image gives it again.
 pub fn twice_is_once()
     ensures { TwiceIsOnce }
 {}
@@ -39,32 +39,32 @@ pub fn one_answer()
     ensures { OneAnswer }
 {}
 
-/// Each volume that is built reads the bytes of its part; a dynamic one reads 0xFF behind them, up to the end of what it
+/// Each volume that is built reads the bytes of its part; a dynamic one reads 0xFF after them, up to the end of what it
 /// reserves.
 pub fn built_reads()
     ensures { BuiltReads }
 {}
 
-/// What is built is a meaning: its normal image is accepted with it, and so it is with any number of spare eraseblocks
-/// behind it, as far as the device has room for them and for all pieces.
+/// What is built is a meaning: its normal image is accepted with it, followed by any number of spare eraseblocks, as
+/// far as the device has room for them and for all pieces.
 pub fn built_accepted()
     ensures { BuiltAccepted }
 {}
 
-/// What is built of the records of an accepted image, all volumes of which can be read, and of what these read, is the meaning
-/// of the image: so its normal image is that of the image.
+/// If all volumes of an accepted image can be read, what is built from their records and from what they read is the meaning of
+/// the image. So its normal image is that of the image.
 pub fn built_again()
     ensures { BuiltAgain }
 {}
 
-/// The volumes of an accepted image, all of which can be read, have a meaning together, and the device has room for all pieces of what they
-/// read: so they can be built again.
+/// If all volumes of an accepted image can be read, they have a meaning together, and the device has room for all pieces of what they read.
+/// So they can be built again.
 pub fn parts_build_again()
     ensures { PartsBuildAgain }
 {}
 
-/// The normal image of a meaning is the same bytes with each page; so what an image is normalised to, it is with each
-/// page of which its own is a multiple.
+/// The normal image of a meaning is the same bytes with each page. So an image is normalised to the same bytes with
+/// each page of which its own is a multiple.
 pub fn normal_with_lesser_page()
     ensures { NormalWithLesserPage }
 {}

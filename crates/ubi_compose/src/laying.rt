@@ -8,7 +8,7 @@ ghost use Rattle.ubi_compose.specs.Normal.{laid_bytes, new_ec};
 use std::alloc::AllocError;
 use ubi_media::{EcHeader, Geometry, VidHeader, write_ec, write_vid};
 
-/// The bytes of a header.
+/// The size of a header in bytes.
 pub const HEADER_SIZE: u32 = 64;
 
 /// The erase-counter header of an eraseblock that was never erased, with the image sequence number.
@@ -21,7 +21,7 @@ pub fn new_ec(image_seq: u32) -> EcHeader
     }
 }
 
-/// Adds so many bytes 0xFF.
+/// Adds `count` bytes 0xFF.
 pub fn put_blank(image: &mut Vec<u8>, count: u32) -> Result<(), AllocError>
     ensures { OnOk result (image.new.items ≡ image.old.items ++ blank count) }
 {

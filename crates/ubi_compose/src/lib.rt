@@ -1,5 +1,5 @@
-//! The normal image of a meaning: the one byte string by which it is known. And the composer's text, a plain way to
-//! write the volumes of a meaning down.
+//! The normal image of a meaning, which is the one byte string that identifies it; and the composer's text, a plain
+//! way to write down the volumes of a meaning.
 //!
 //! A caller, proved from the contracts alone (`crates/ubi_uses`):
 //!

@@ -24,7 +24,7 @@ pub(crate) enum Form {
     Updating,
 }
 
-/// The words of the form that has the most.
+/// How many words the form with the most words has.
 const MOST_WORDS: usize = 7;
 
 /// The forms.
@@ -37,7 +37,7 @@ const FORMS: [Form; 5] = [
 ];
 
 impl Form {
-    /// The first word of such a line.
+    /// The first word of a line of this form.
     fn first_word(self) -> &'static [u8]
         ensures { result.now ≡ first_word self }
     {
@@ -50,7 +50,7 @@ impl Form {
         }
     }
 
-    /// How many words it has, at most [`MOST_WORDS`].
+    /// How many words a line of this form has, at most [`MOST_WORDS`].
     fn word_count(self) -> usize
         ensures { result ≡ word_count self }
     {
@@ -63,18 +63,18 @@ impl Form {
     }
 }
 
-/// What a line says of the volume whose number it begins with.
+/// What a line says about a volume; it begins with the volume's number.
 #[derive(Drop)]
 pub(crate) enum Line {
     /// Its record.
     Volume(u32, VolumeRecord),
     /// The first bytes of a logical eraseblock.
     Leb(u32, u32, Bytes),
-    /// More bytes of its text.
+    /// More bytes of its contents.
     Text(u32, Bytes),
     /// It isn't whole.
     Damaged(u32),
-    /// An update of it began that didn't end.
+    /// An update of it began and didn't end.
     Updating(u32),
 }
 
@@ -142,7 +142,7 @@ fn leb_line(alloc: Global, id: &[u8], lnum: &[u8], bytes: &[u8]) -> Result<Line,
     Ok(Line::Leb(id, lnum, bytes))
 }
 
-/// What a line with more bytes of a text says.
+/// What a line with more bytes of a static volume says.
 #[tactic(auto, unfolding(crate::specs::Lines::text_line))]
 fn text_line(alloc: Global, id: &[u8], bytes: &[u8]) -> Result<Line, LineError>
     ensures { let said = text_line id.now bytes.now in MatchResult result (λ l. said ≡ Ok l) (IsLineError said) }
@@ -152,7 +152,7 @@ fn text_line(alloc: Global, id: &[u8], bytes: &[u8]) -> Result<Line, LineError>
     Ok(Line::Text(id, bytes))
 }
 
-/// What a line of a form says, whose number of words is the form's.
+/// What a line of a form says. The number of words is the form's.
 #[tactic(auto, unfolding(crate::specs::Lines::damaged_line, crate::specs::Lines::updating_line))]
 fn said(alloc: Global, words: &[&[u8]], form: Form) -> Result<Line, LineError>
     requires { length words.now ≡ word_count form }
@@ -169,7 +169,7 @@ fn said(alloc: Global, words: &[&[u8]], form: Form) -> Result<Line, LineError>
     }
 }
 
-/// The words of a line, or the first of them alone where they are more than any form has: there may be very many.
+/// The words of a line, or only the first ones if there are more than any form has: there may be very many.
 fn words_of(alloc: Global, text: &[u8]) -> Result<Vec<&[u8]>, AllocError>
     ensures { IfOk result (λ found. map (λ w. w.now) found.items ≡ take 8 (words text.now)) }
 {

@@ -14,7 +14,7 @@ use ubi_volume::Volume;
 /// # Errors
 ///
 /// The first line with a cause, counted from 1, and its first cause in the order of [`SpecCause`](crate::SpecCause).
-/// Memory where memory ran out.
+/// `Memory` if memory ran out.
 pub fn parse_spec(
     alloc: Global,
     geometry: &Geometry,

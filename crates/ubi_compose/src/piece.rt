@@ -1,4 +1,4 @@
-//! Logical eraseblocks of the normal image, each by where its bytes lie in a source.
+//! Logical eraseblocks of the normal image, each given by where its bytes lie in a source.
 
 ghost use Rattle.std.specs.Prelude.{◌≡◌, ◌≤◌, None, Option};
 ghost use Rattle.ubi_compose.specs.inner.Pieces.{number_of};
@@ -17,9 +17,9 @@ pub struct Device {
 /// Where the bytes of a piece are read.
 #[derive(Clone, Copy)]
 pub enum Origin {
-    /// It has none.
+    /// It has no bytes.
     Nowhere,
-    /// In an eraseblock of the source, whose header gives their check.
+    /// In an eraseblock of the source, whose header gives their CRC.
     Block(u32),
     /// At this place of the source.
     Bytes(u64),
@@ -28,16 +28,16 @@ pub enum Origin {
 /// A logical eraseblock of the normal image.
 #[derive(Clone, Copy)]
 pub struct Piece {
-    /// Its header, with 0 for the check of its bytes.
+    /// Its header, with 0 for the CRC of its bytes.
     pub header: VidHeader,
     /// Where its bytes are read.
     pub origin: Origin,
-    /// How many these are.
+    /// How many bytes these are.
     pub len: u32,
 }
 
 impl Piece {
-    /// What is told where it can't be read: its eraseblock of the source, or its volume.
+    /// The number that is given if it can't be read: of its eraseblock of the source, or of its volume.
     pub fn number(&self) -> u32
         ensures { result ≡ number_of self.now.origin self.now.header }
     {

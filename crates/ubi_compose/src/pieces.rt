@@ -12,7 +12,7 @@ use crate::sourced::Contents;
 use ubi_media::{Geometry, VidHeader, VolKind};
 use ubi_volume::Extent;
 
-/// How many pieces the bytes of a part are.
+/// How many pieces the bytes of a part have.
 pub fn piece_count(geometry: &Geometry, part: &Part) -> u32
     requires sound { rec_fault geometry.now part.now.entry ≡ None }
     requires fits { part.now.len ≤ part.now.entry.reserved * usable geometry.now part.now.entry }

@@ -1,7 +1,7 @@
 //! The one writer of normal images: each eraseblock is laid out in a buffer, and written.
 //!
-//! Each buffer has the size of an eraseblock. `done` is how many bytes were written before, and what is given how many are
-//! written then. A call fails where a write fails, and one with a source where a read does.
+//! Each buffer has the size of an eraseblock. `done` is how many bytes were written before, and each call returns how many
+//! are written after it. A call fails if a write fails, and one with a source also if a read does.
 
 ghost use Rattle.std.specs.Prelude.{◌≡◌, ℕ, ◌+◌, ◌<◌, ◌≤◌, ◌^◌, IfOk, drop, length, take};
 ghost use Rattle.ubi_media.specs.Geometry.{leb_size, slots};
@@ -21,7 +21,7 @@ use ubi_media::VidHeader;
 use ubi_scan::BlockSource;
 use ubi_volume::write_all;
 
-/// Writes an eraseblock with a header. Its text is the first `len` bytes of the logical eraseblock in the buffer.
+/// Writes an eraseblock with a header. Its data are the first `len` bytes of the logical eraseblock in the buffer.
 fn put_laid<W: Write>(
     device: &Device,
     header: &VidHeader,
@@ -116,7 +116,7 @@ fn put_volume<C: Contents, S: BlockSource, W: Write>(
     Ok(total)
 }
 
-/// Writes the eraseblocks of the volumes, by rising number.
+/// Writes the eraseblocks of the volumes, in ascending order.
 fn put_volumes<C: Contents, S: BlockSource, W: Write>(
     device: &Device,
     contents: &C,
@@ -168,7 +168,7 @@ fn put_table<W: Write>(
     )
 }
 
-/// Writes both copies.
+/// Writes both copies of the volume table.
 fn put_tables<W: Write>(
     device: &Device,
     table: &[u8],
@@ -185,7 +185,7 @@ fn put_tables<W: Write>(
     put_table(device, 1, table, buffer, writer, first)
 }
 
-/// Writes so many spare eraseblocks.
+/// Writes `count` spare eraseblocks.
 fn put_spares<W: Write>(
     device: &Device,
     count: u32,
@@ -209,7 +209,7 @@ fn put_spares<W: Write>(
     Ok(total)
 }
 
-/// Writes a normal image: two copies of the table, whose bytes are given, the volumes, and behind them so many spare eraseblocks.
+/// Writes a normal image: two copies of the table, whose bytes are given, then the volumes, and then `spares` spare eraseblocks.
 pub(crate) fn put_image<C: Contents, S: BlockSource, W: Write>(
     device: &Device,
     table: &[u8],

@@ -1,5 +1,5 @@
-//! Reading a piece of a normal image into a buffer of the size of an eraseblock, and what stands there then. A call that reads fails
-//! where the read does.
+//! Reading a piece of a normal image into a buffer of the size of an eraseblock, and what the buffer then holds. A call that reads
+//! fails if the read does.
 
 ghost use Rattle.std.specs.Prelude.{◌≡◌, ℕ, ◌+◌, ◌*◌, ◌/◌, ◌<◌, ◌≤◌, List, OnErr, OnOk, drop, length, slice_range, take};
 ghost use Rattle.ubi_media.specs.Geometry.{leb_size};
@@ -48,7 +48,7 @@ fn fetch_bytes<S: BlockSource>(
     source.read(start, &mut buffer[data..data + len])
 }
 
-/// Reads a piece to where the data of an eraseblock begin; one that stands in an eraseblock with all of this.
+/// Reads a piece to where the data of an eraseblock begin. A piece that stands in an eraseblock is read with all of that.
 pub fn fetch<S: BlockSource>(
     geometry: &Geometry,
     piece: &Piece,
@@ -101,7 +101,7 @@ fn vid_in(geometry: &Geometry, bytes: &[u8]) -> VidRead
     read_vid(geometry, bytes[start..].first_chunk::<64>().unwrap())
 }
 
-/// The check that the volume-identifier header of an eraseblock gives for its data. 0 where that isn't Valid.
+/// The CRC that the volume-identifier header of an eraseblock gives for its data. 0 if the header isn't Valid.
 fn given_check(geometry: &Geometry, bytes: &[u8]) -> u32
     requires { length bytes.now ≡ geometry.now.peb_size }
     ensures { result ≡ given_check (vid geometry.now bytes.now) }
@@ -112,7 +112,7 @@ fn given_check(geometry: &Geometry, bytes: &[u8]) -> u32
     }
 }
 
-/// The check of a piece of a static volume.
+/// The CRC of a piece of a static volume.
 fn check_of(geometry: &Geometry, piece: &Piece, buffer: &[u8]) -> u32
     requires room { length buffer.now ≡ geometry.now.peb_size }
     requires fits { piece.now.len ≤ leb_size geometry.now }
@@ -125,7 +125,7 @@ fn check_of(geometry: &Geometry, piece: &Piece, buffer: &[u8]) -> u32
     }
 }
 
-/// The header of a piece, with its check.
+/// The header of a piece, with its CRC.
 pub fn header_of(geometry: &Geometry, piece: &Piece, buffer: &[u8]) -> VidHeader
     requires room { length buffer.now ≡ geometry.now.peb_size }
     requires fits { piece.now.len ≤ leb_size geometry.now }

@@ -56,7 +56,7 @@ fn empty_content(alloc: Global, kind: VolKind) -> Content
     }
 }
 
-/// Whether a part has more bytes than its volume holds. Of a record that breaks a rule nothing is said.
+/// Whether a part has more bytes than its volume holds. If its record breaks a rule, nothing is said.
 fn is_long(geometry: &Geometry, part: &Part) -> bool
     ensures { result ≡ is_long geometry.now part.now }
 {
@@ -67,8 +67,8 @@ fn is_long(geometry: &Geometry, part: &Part) -> bool
     part.len > most
 }
 
-/// The volume of a part, behind its number. In place of its bytes it has none, but where it can't have these, what it can't have
-/// either.
+/// The volume of a part, after its number. It has no bytes in place of the part's; but if it can't have those, it has a content
+/// that it can't have either.
 fn stand_in(alloc: Global, geometry: &Geometry, part: &Part) -> (u32, Volume)
     ensures { result ≡ stand_in_item geometry.now part.now }
 {
@@ -81,7 +81,7 @@ fn stand_in(alloc: Global, geometry: &Geometry, part: &Part) -> (u32, Volume)
     (part.id, Volume { entry, content })
 }
 
-/// These volumes of all parts.
+/// Such volumes of all parts.
 fn stand_ins(
     alloc: Global,
     geometry: &Geometry,
@@ -108,9 +108,9 @@ impl Recipe {
     ///
     /// # Errors
     ///
-    /// `Refused` for the first cause for which the volumes have no meaning together, in the order of
-    /// [`MeaningCause`](ubi_volume::MeaningCause): its items are the parts, and `ContentRange` comes where a part has more
-    /// bytes than its volume's eraseblocks hold, or its record has the update marker. `Memory` where memory ran out.
+    /// `Refused` with the first cause for which the volumes have no meaning together, in the order of
+    /// [`MeaningCause`](ubi_volume::MeaningCause). Its items are the parts. `ContentRange` comes if a part has more bytes
+    /// than its volume's eraseblocks hold, or if its record has the update marker. `Memory` if memory ran out.
     pub fn new(
         alloc: Global,
         geometry: &Geometry,
@@ -169,7 +169,7 @@ impl Recipe {
         self.parts.as_slice()
     }
 
-    /// The volume with a number, None where there is none.
+    /// The volume with a number, `None` if there is none.
     pub(crate) fn part(&self, id: u32) -> Option<&Part>
         ensures value { option_copied result ≡ part_at self.now id }
         ensures sound { ForSome (option_copied result) (λ p. rec_fault self.now.sizes p.entry ≡ None) }

@@ -13,7 +13,7 @@ use std::alloc::{AllocError, Global};
 use ubi_media::{RECORD_SIZE, VolumeRecord, write_rec};
 use ubi_volume::Meaning;
 
-/// The record of a volume, None where there is none.
+/// The record of a volume, `None` if there is none.
 fn entry_of(meaning: &Meaning, id: u32) -> Option<&VolumeRecord>
     ensures entry { option_copied result ≡ finite.get (records_of meaning.now).of id }
     ensures sound { ForSome (option_copied result) (λ r. rec_fault meaning.now.sizes r ≡ None) }
@@ -33,7 +33,7 @@ pub fn table_text(alloc: Global, meaning: &Meaning) -> Result<Vec<u8>, AllocErro
     Ok(text)
 }
 
-/// The record of a volume to build, None where there is none.
+/// The record of a volume to build, `None` if there is none.
 fn built_entry(recipe: &Recipe, id: u32) -> Option<&VolumeRecord>
     ensures entry { option_copied result ≡ option_map (λ p. p.entry) (part_at recipe.now id) }
     ensures sound { ForSome (option_copied result) (λ r. rec_fault recipe.now.sizes r ≡ None) }

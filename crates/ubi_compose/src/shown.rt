@@ -18,8 +18,8 @@ fn are_plain(bytes: &[u8]) -> bool
         .all(|byte| *byte >= 0x21 && *byte <= 0x7E && *byte != b'\\')
 }
 
-/// Adds the bytes that are shown from a backslash up to the next, of which this is what follows it. False where it
-/// isn't a shown form, or where with them there are more bytes than a name has.
+/// Adds the bytes that are shown from a backslash up to the next; `part` is what follows it. False if it isn't a
+/// shown form, or if there are now more bytes than a name has.
 fn put_escape(name: &mut ArrayVec<u8, LONGEST_NAME>, part: &[u8]) -> bool
     ensures fits { result ≡ (is_escape part.now && nat_le (length (name.old.items ++ escaped part.now)) 127) }
     ensures added { result ≡ true → name.new.items ≡ name.old.items ++ escaped part.now }
@@ -35,7 +35,7 @@ fn put_escape(name: &mut ArrayVec<u8, LONGEST_NAME>, part: &[u8]) -> bool
     }
 }
 
-/// The bytes that a word shows. None where it isn't a shown form, or shows more bytes than a name has.
+/// The bytes that a word shows. `None` if it isn't a shown form, or shows more bytes than a name has.
 #[tactic(auto, unfolding(crate::specs::Words::shown_name, crate::specs::Words::shown_bytes))]
 fn shown_bytes(word: &[u8]) -> Option<ArrayVec<u8, LONGEST_NAME>>
     ensures { shown_name word.now ≡ option_and_then (λ bytes. some_name bytes.items) result }
@@ -55,11 +55,11 @@ fn shown_bytes(word: &[u8]) -> Option<ArrayVec<u8, LONGEST_NAME>>
     Some(name)
 }
 
-/// The name that a word shows. None where the word isn't the shown form of 1 to 127 bytes without zero. It takes no
-/// memory.
+/// The name that a word shows. `None` if the word isn't the shown form of 1 to 127 bytes without zero. It
+/// allocates no memory.
 ///
-/// Bytes 0x21 to 0x7E but the backslash are shown as they are, and any byte as `\x` and two hexadecimal digits of
-/// either case.
+/// Bytes 0x21 to 0x7E except the backslash are shown as they are, and any byte as `\x` and two hexadecimal digits
+/// of either case.
 pub fn shown_name(word: &[u8]) -> Option<VolName>
     ensures { result ≡ shown_name word.now }
 {

@@ -1,4 +1,4 @@
-//! What a normal image is written of.
+//! What a normal image is written from.
 
 ghost use Rattle.std.specs.Prelude.{◌≡◌, ℕ, ◌≤◌, Option, IfSome};
 ghost use Rattle.ubi_media.specs.Geometry.{Sizes};
@@ -15,7 +15,7 @@ pub trait Contents {
     // The pieces of each volume.
     ghost pieces: { Self → Pieces };
 
-    // Their bytes lie in a source of a size.
+    // The bytes of the pieces lie in a source of this size.
     ghost LieIn: { Self → ℕ → Type 0 };
 
     /// The next piece of a volume, from a logical eraseblock on.

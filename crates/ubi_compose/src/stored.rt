@@ -25,8 +25,8 @@ fn damaged_piece(geometry: &Geometry, id: u32, entry: &VolumeRecord) -> Piece
     }
 }
 
-/// The piece at `lnum` of a static text of so many logical eraseblocks and bytes. The header in its place gives the check: it was
-/// compared with the piece when the size of the text was found.
+/// The piece at `lnum` of a static volume's contents of `lebs` logical eraseblocks and `bytes` bytes. The header in its place
+/// gives the CRC: it was compared with the piece when the size of the contents was found.
 fn static_piece(
     geometry: &Geometry,
     id: u32,

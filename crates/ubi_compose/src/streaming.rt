@@ -1,4 +1,4 @@
-//! The normal image of a source, into a writer.
+//! The normal image of a source, written to a writer.
 
 ghost use Rattle.std.specs.Prelude.{◌≡◌, IfErr, IfOk};
 ghost use Rattle.ubi_scan.specs.Image.{IsWholeSize};
@@ -15,13 +15,13 @@ use ubi_media::Geometry;
 use ubi_scan::{BlockSource, StreamError};
 use ubi_volume::attach_places;
 
-/// Writes the normal image of what a source holds, and answers how many bytes that are. It holds one eraseblock of
-/// contents at a time, and takes all memory before it writes.
+/// Writes the normal image of what a source holds, and returns how many bytes that is. It holds one eraseblock of
+/// contents at a time, and allocates all memory before it writes.
 ///
 /// # Errors
 ///
-/// Refused as [`crate::normalise`], and Memory where memory ran out: then nothing is written. Read where a read failed,
-/// and Write where a write failed, after so many bytes of the normal image.
+/// `Refused` as by [`crate::normalise`], and `Memory` if memory ran out: then nothing is written. `Read` if a read
+/// failed, and `Write` if a write failed, with how many bytes of the normal image were written before.
 pub fn normalise_to<S: BlockSource, W: Write>(
     alloc: Global,
     geometry: &Geometry,

@@ -1,5 +1,5 @@
-//! Taking a content line into its volume. What a volume holds tells which lines may still come: one that is updating or
-//! damaged takes none, and one is empty exactly where it has no content line yet.
+//! Taking a content line into its volume. What a volume holds decides which lines may still come: one that is updating
+//! or damaged takes none, and one is empty exactly if it has no content line yet.
 
 ghost use Rattle.std.specs.Prelude.{◌≡◌, MatchResult, None, Ok};
 ghost use Rattle.ubi_media.specs.Record.{rec_fault, usable};
@@ -30,7 +30,7 @@ fn put_leb(lebs: &mut Lebs, size: u32, lnum: u32, bytes: Bytes) -> Result<(), Li
     Ok(())
 }
 
-/// Whether nothing was given of a volume yet.
+/// Whether nothing of a volume was given yet.
 fn is_empty(content: &Content) -> bool
     ensures { result ≡ is_empty content.now }
 {
@@ -58,7 +58,7 @@ fn take_leb(
     }
 }
 
-/// Takes a line with more bytes of a text.
+/// Takes a line with more bytes of a static volume.
 fn take_text(volume: &mut Volume, bytes: &Bytes) -> Result<(), LineError>
     ensures { let made = with_text volume.old.entry bytes.now volume.old.content in MatchResult result (λ _. made ≡ Ok volume.new) (IsRefused made) }
 {

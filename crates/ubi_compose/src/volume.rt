@@ -13,7 +13,7 @@ use std::alloc::AllocError;
 use ubi_media::{Geometry, VidHeader, VolKind};
 use ubi_volume::{Content, Lebs, Volume};
 
-/// In how many pieces of so many bytes a text lies, the last perhaps short.
+/// How many pieces of `size` bytes a static volume's contents have; the last may be shorter.
 fn pieces(text: &[u8], size: u32) -> u32
     requires some { 1 ≤ size }
     requires few { length text.now ≤ 2 ^ 31 * size }
@@ -22,7 +22,7 @@ fn pieces(text: &[u8], size: u32) -> u32
     text.len().div_ceil(size as usize) as u32
 }
 
-/// The share of a text that stands in a logical eraseblock.
+/// The share of a static volume's contents that stands in a logical eraseblock.
 fn share_of(text: &[u8], size: u32, lnum: u32) -> &[u8]
     requires inside { lnum < pieces size (length text.now) }
     requires some { 1 ≤ size }
@@ -32,7 +32,7 @@ fn share_of(text: &[u8], size: u32, lnum: u32) -> &[u8]
     &rest[..rest.len().min(size as usize)]
 }
 
-/// Adds the eraseblocks of a static text.
+/// Adds the eraseblocks of a static volume's contents.
 fn put_static(
     image: &mut Vec<u8>,
     geometry: &Geometry,
@@ -56,7 +56,7 @@ fn put_static(
     Ok(())
 }
 
-/// Adds the eraseblocks of what is kept of a dynamic volume.
+/// Adds the eraseblocks that are kept of a dynamic volume.
 fn put_dynamic(
     image: &mut Vec<u8>,
     geometry: &Geometry,

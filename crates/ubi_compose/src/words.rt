@@ -8,7 +8,7 @@ use std::alloc::{AllocError, Global};
 use ubi_media::VolKind;
 use ubi_volume::Bytes;
 
-/// The bytes that a word writes in pairs of hexadecimal digits of either case. None where it doesn't, or has none.
+/// The bytes that a word gives as pairs of hexadecimal digits of either case. `None` if it doesn't, or has none.
 #[tactic(auto, unfolding(crate::specs::Words::hex_of))]
 pub fn hex_of(alloc: Global, word: &[u8]) -> Result<Option<Bytes>, AllocError>
     ensures { IfOk result (λ found. found ≡ hex_of word.now) }
@@ -23,7 +23,7 @@ pub fn hex_of(alloc: Global, word: &[u8]) -> Result<Option<Bytes>, AllocError>
     }
 }
 
-/// The byte that two hexadecimal digits write.
+/// The byte that two hexadecimal digits stand for.
 pub fn byte_of(high: u8, low: u8) -> Option<u8>
     ensures { result ≡ shown_byte high low }
 {
@@ -34,7 +34,7 @@ pub fn byte_of(high: u8, low: u8) -> Option<u8>
     }
 }
 
-/// The byte that a word of just two hexadecimal digits writes.
+/// The byte that a word of exactly two hexadecimal digits stands for.
 pub fn flags_of(word: &[u8]) -> Option<u8>
     ensures { result ≡ flags_of word.now }
 {

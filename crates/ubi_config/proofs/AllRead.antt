@@ -1,4 +1,4 @@
--- The lines of all volumes are read, one after the other.
+-- The lines of all volumes are read, in order.
 use Rattle.ubi_config.proofs.Prelude.{◌≡◌, ◌<◌, ◌≤◌, ◌+◌, ◌^◌, ℕ, Bool, true, false, not, List, [], ◌∷◌, ◌++◌, append-nil, arith, length, refl, subst, ◌∙◌, ◌==◌, codes, cond, count_by, AllByRecursion, IsDistinct, Option, Some, None, flat_map, list_any, list_any-append, map, rec_fault, same_bytes, gives_id, gives_name, is_autoresize, is_heading, is_titled, line_number, Line, Sizes, ◌&&◌, if◌then◌else◌, decimal, IsGeometry, bytes_reserved, is_growing, left_out, left_out_words, lines_by, path_of, title, volume_lines, ConfigVolume, LeftOut}
 use Rattle.ubi_config.proofs.AreRead.{AreRead, read-append, read_under, skip_line}
 use Rattle.ubi_config.proofs.CanSay.{IsSaid, is_said}

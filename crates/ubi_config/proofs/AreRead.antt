@@ -1,4 +1,4 @@
--- What lines say that are read without a fault, behind what the lines above them said.
+-- What lines that are read without a fault say, after what the lines above them said.
 use Rattle.ubi_config.proofs.Prelude.{◌≡◌, ◌+◌, ℕ, List, [], ◌∷◌, ◌++◌, append-nil, append_assoc, arith, length, refl, subst, sym, ap, ◌∙◌, Option, Some, None, Result, Ok, option_map, option_to_list, option_or, result_unwrap_or, length_push, later_cause, Fault, cause_after, line_at, line_fault, line_number, line_of, lines, saying, sayings, Line, ConfigCause, option_and_then}
 use Rattle.ubi_config.proofs.LinesLeft.{first_from_start, first_left, next_cause}
 use Rattle.ubi_config.proofs.ReadSoFar.{nothing_yet, saying_is, sayings-push}

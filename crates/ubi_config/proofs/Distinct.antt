@@ -1,4 +1,4 @@
--- Keys that are distinct, and what no key of two lists has in common.
+-- Keys that are distinct, and lists of keys that have none in common.
 use Rattle.ubi_config.proofs.Prelude.{◌≡◌, Bool, true, false, ◌||◌, List, [], ◌∷◌, ◌++◌, refl, Option, Some, None, AllByRecursion, IsDistinct, cons_option, list_any}
 
 pub or_false : (a b : Bool) → (a || b) ≡ false → (a ≡ false) × (b ≡ false)

@@ -1,4 +1,4 @@
--- What a section has of its lines: the number and the name of its volume.
+-- What a section has from its lines: the number and the name of its volume.
 use Rattle.ubi_config.proofs.Prelude.{◌≡◌, ℕ, Bool, true, false, List, [], ◌∷◌, ap, sym, ◌∙◌, refl, ◌==◌, Option, Some, None, Result, Ok, Err, filter_map, fold, then_some, list_any, ok_or, VolKind, is_autoresize, ◌>>=◌, draft_of, finished, no_draft, with_line, Draft, ConfigCause, Line, Section}
 use Rattle.ubi_config.specs.declared.line.Line.TheVariants as line
 use Rattle.ubi_config.proofs.Distinct.{or_false}

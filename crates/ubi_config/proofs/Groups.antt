@@ -1,4 +1,4 @@
--- The sections of lines, one after the other.
+-- The sections of lines, in order.
 use Rattle.ubi_config.proofs.Prelude.{◌≡◌, ◌<◌, ◌≤◌, ◌+◌, ◌-◌, ℕ, List, [], ◌∷◌, ◌++◌, append-nil, append_assoc, drop, get_or, length, length-drop, take, refl, ap, ◌∙◌, sym, take-length, drop_all, drop_more, Option, Some, None, Result, Ok, map, option_map, option_to_list, cons_option, option_or, result_err, result_ok, filter_map-append, first_some, Fault, Group, IsFault, group_of, groups, lack_of, section_fault, section_of, sections_in, IsRefused, error_at, ConfigCause, ConfigError, LineError, Line, Section}
 use Rattle.ubi_config.specs.declared.errors.ConfigError.TheVariants as error
 use Rattle.ubi_config.specs.declared.errors.LineError.TheVariants as line_error

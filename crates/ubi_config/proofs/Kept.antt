@@ -1,4 +1,4 @@
--- What each line without a fault keeps, holds of the lines of a text without a line at fault.
+-- What each line without a fault keeps holds for the lines of a text without a line at fault.
 use Rattle.ubi_config.proofs.Prelude.{◌≡◌, ℕ, List, [], ◌∷◌, ◌++◌, append-nil, append_assoc, length, subst, refl, sym, ap, ◌∙◌, Option, Some, None, Result, Ok, Err, option_map, option_to_list, option_or, result_unwrap_or, later_cause, Fault, cause_after, line_at, line_fault, lines, sayings, ConfigCause, Line}
 use Rattle.ubi_config.proofs.LinesLeft.{first_from_start, first_left, next_cause}
 use Rattle.ubi_config.proofs.ReadSoFar.{nothing_yet, saying_is, sayings-push}

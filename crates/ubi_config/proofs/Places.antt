@@ -1,4 +1,4 @@
--- The place of the first element that passes a test, or that behind the last.
+-- The place of the first element that passes a test, or the one after the last.
 use Rattle.ubi_config.proofs.Prelude.{◌≡◌, Bool, List, length, arith, position, unwrap_or, position_or_len, nat_tests, prefix_len-le-length}
 
 -- the place that was found, or the length

@@ -1,4 +1,4 @@
--- What is known of a text as far as its lines were read.
+-- What is known of a text as far as its lines have been read.
 use Rattle.ubi_config.proofs.Prelude.{◌≡◌, ◌<◌, ℕ, ◌+◌, suc, List, [], ◌∷◌, ◌++◌, length, drop, get_or, refl, sym, ap, ◌∙◌, arith, Option, Some, None, min, option_map, option_to_list, cons_option, enumerate_from, option_or, result_unwrap_or, drop_all, drop_more, length_push, filter_map-append, IsFault, cause_after, line_at, line_fault, line_number, lines, saying, sayings, line_of, IsCause, error_at, ConfigCause, LineError, Line}
 use Rattle.std.specs.List.{filter_map}
 use Rattle.ubi_config.specs.declared.errors.LineError.TheVariants as line_error

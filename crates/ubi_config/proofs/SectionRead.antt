@@ -1,4 +1,4 @@
--- The lines of a volume that is described are read, where no line above them says the same of another.
+-- The lines of a volume that is described are read, if no line above them says the same of another.
 use Rattle.ubi_config.proofs.Prelude.{◌≡◌, ◌<◌, ◌+◌, ◌^◌, ℕ, Bool, true, false, List, [], ◌∷◌, ◌++◌, append-nil, arith, refl, ap, ◌∙◌, ◌==◌, codes, Some, None, Ok, line_of, count_by, list_any, list_any-append, nat_le, nat_tests, rec_fault, Sizes, gives_id, gives_name, heading_cause, is_autoresize, is_heading, is_titled, later_cause, sets, setting_cause, shared_cause, line_number, Key, Line, ◌||◌, if◌then◌else◌, reverse-append, decimal, reverse, take_while, IsGeometry, is_setting, bytes_reserved, flag_lines, is_growing, kind_word, path_of, quoted, section_lines, title, ConfigVolume}
 use Rattle.ubi_config.proofs.AreRead.{AreRead, skip_line, take_line}
 use Rattle.ubi_config.proofs.CanSay.{IsSaid, alignment_fits, bytes_fit, bytes_some, named}

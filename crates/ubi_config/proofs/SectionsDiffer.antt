@@ -1,4 +1,4 @@
--- The sections of a config that is read are not too many, and differ.
+-- There are not too many sections in a config that is read, and they differ.
 use Rattle.ubi_config.proofs.Prelude.{◌≡◌, ◌≤◌, ◌<◌, ◌+◌, ◌∙◌, ℕ, Bool, true, false, List, [], ◌∷◌, ◌++◌, ap, arith, length, refl, sym, Option, Some, None, ◌==◌, count_by, filter_map, nat_le, not, then_some, IsDistinct, before_first, cons_option, list_any, option_map_or, option_or, result_ok, nat_tests, same_bytes, gives_id, gives_name, heading_cause, is_autoresize, is_heading, is_titled, later_cause, own, sets, setting_cause, shared_cause, Group, first_fault, groups, line_fault, lines, section_of, sayings, sections_in, SectionsDiffer, ConfigCause, Line, Section, Key}
 use Rattle.std.specs.Prelude.{◌||◌}
 use Rattle.ubi_config.specs.declared.errors.ConfigCause.TheVariants as cause

@@ -1,4 +1,4 @@
--- The text of lines, one after the other.
+-- The text of lines, in order.
 use Rattle.ubi_config.proofs.Prelude.{◌≡◌, ℕ, List, [], ◌∷◌, ◌++◌, ap, append_assoc, refl, sym, ◌∙◌, ended, text_of}
 
 -- the text of lines, and of more that follow

@@ -1,4 +1,4 @@
--- Volumes of other numbers have sections of other names.
+-- Volumes with different numbers have sections with different names.
 use Rattle.ubi_config.proofs.Prelude.{◌≡◌, ◌<◌, ◌^◌, ℕ, Bool, true, false, List, [], ◌∷◌, ◌++◌, arith, refl, sym, ap, ◌∙◌, ◌==◌, codes, drop, nat_tests, ◌&&◌, decimal_injective, digits_decimal, is_ascii_digit, to_ascii_lowercase, same_text, list_all, decimal, str_eq_ignore_ascii_case, str_to_ascii_lowercase, title}
 use Rattle.ubi_config.proofs.Digits.{own}
 

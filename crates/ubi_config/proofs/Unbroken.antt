@@ -1,4 +1,4 @@
--- A text of lines that hold no line's end is cut into them.
+-- A text is cut into its lines, if none of them holds a line's end.
 use Rattle.ubi_config.proofs.Prelude.{◌≡◌, ◌<◌, ◌^◌, ℕ, Bool, true, false, List, [], ◌∷◌, ◌++◌, append_assoc, arith, refl, ap, ◌∙◌, ◌==◌, codes, AllByRecursion, Option, Some, None, lines, list_any, rec_fault, Sizes, VolKind, if◌then◌else◌, slice_split-cons_no, slice_split-cons_yes, onto_first, decimal, IsGeometry, bytes_reserved, kind_word, lines_by, path_of, quoted, section_lines, text_of, title, ConfigVolume, LeftOut}
 use Rattle.ubi_media.specs.declared.vid.VolKind.TheVariants as kind
 use Rattle.ubi_config.proofs.CanSay.{IsSaid, alignment_fits, bytes_fit}

@@ -12,7 +12,7 @@ use Rattle.ubi_config.specs.declared.key.Key.TheVariants as key
 use Rattle.ubi_config.specs.declared.line.Line.{Line}
 use Rattle.ubi_config.specs.declared.line.Line.TheVariants as line
 
--- the first of several that is there
+-- the first of several options that has a value
 abbrev pub first_some : {X : Type 0} → List (Option X) → Option X
 first_some [] = None
 first_some (o ∷ os) = option_or o (first_some os)
@@ -73,11 +73,11 @@ abbrev pub is_autoresize : Line → Bool
 is_autoresize line.Autoresize = true
 is_autoresize _ = false
 
--- of the lines above a line, those of its section that set a key, the nearest first
+-- those of the lines above a line that set a key in its section, the nearest first
 abbrev pub own : List Line → List Line
 own above = take_while is_setting (reverse above)
 
--- the most sections
+-- how many sections a config has at most
 abbrev pub most_sections : ℕ
 most_sections = 128
 

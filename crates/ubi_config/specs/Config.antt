@@ -16,7 +16,7 @@ use Rattle.ubi_config.specs.declared.section.Section.{Section}
 abbrev pub lines : List ℕ → List (List ℕ)
 lines text = slice_split (λ b. b == 10) text
 
--- lines are counted from 1, and no further than 4294967295
+-- lines are counted from 1, up to 4294967295
 abbrev pub line_number : ℕ → ℕ
 line_number place = min (place + 1) 0xFFFF_FFFF
 
@@ -24,7 +24,7 @@ line_number place = min (place + 1) 0xFFFF_FFFF
 abbrev pub line_at : ℕ × List ℕ → Result (Option Line) ConfigCause
 line_at e = line_of (line_number e.0) e.1
 
--- what the line at a place says, where it isn't skipped and nothing is wrong with it by itself
+-- what the line at a place says, if it isn't skipped and has no fault by itself
 unfoldable pub saying : ℕ × List ℕ → Option Line
 saying e = result_unwrap_or (line_at e) None
 
@@ -32,7 +32,7 @@ saying e = result_unwrap_or (line_at e) None
 unfoldable pub sayings : List (List ℕ) → List Line
 sayings ls = filter_map saying (enumerate_from 0 ls)
 
--- what is wrong with a line that was read so: by itself, or else by those above it
+-- what is wrong with a line, by how it was read: by itself, or else by those above it
 abbrev pub cause_after : List Line → Result (Option Line) ConfigCause → Option ConfigCause
 cause_after above (Err c) = Some c
 cause_after above (Ok said) = option_and_then (later_cause above) said
@@ -91,7 +91,7 @@ sections_of text = sections_in (groups_of text)
 unfoldable pub first_fault : List ℕ → Option Fault
 first_fault text = first_some (line_fault text ∷ section_fault (groups_of text) ∷ [])
 
--- the error tells the first fault, or that memory ran out
+-- the error is the first fault, or that memory ran out
 abbrev pub IsFault : Option Fault → ConfigError → Type 0
 IsFault first (error.Refused number what) = first ≡ Some (number, what)
 IsFault first error.Memory = Unit {0}

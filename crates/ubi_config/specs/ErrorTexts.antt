@@ -1,4 +1,4 @@
--- What is printed of a config that isn't read.
+-- The texts that are printed for a config that isn't read.
 use Rattle.std.specs.Prelude.{ℕ, List, ◌++◌, codes, decimal}
 use Rattle.ubi_media.specs.ErrorTexts.{rec_fault_name}
 use Rattle.ubi_config.specs.Values.{key_name}
@@ -28,13 +28,13 @@ config_cause_name (cause.Record _) = codes "I15 Record"
 config_cause_name cause.TooLarge = codes "I16 TooLarge"
 config_cause_name cause.IdRange = codes "I17 IdRange"
 
--- the text of it
+-- the text of what is wrong
 abbrev pub config_cause_text : ConfigCause → List ℕ
 config_cause_text (cause.Missing k) = codes "I12 Missing " ++ key_name k
 config_cause_text (cause.Record f) = codes "I15 Record " ++ rec_fault_name f
 config_cause_text c = config_cause_name c
 
--- the text of why a config isn't read: what is wrong, on which line, and the key or the fault of a record
+-- the text that says why a config isn't read: what is wrong, on which line, and the key or the fault of a record
 abbrev pub config_error_text : ConfigError → List ℕ
 config_error_text (error.Refused number (cause.Missing k)) =
     codes "I12 Missing line=" ++ decimal number ++ codes " " ++ key_name k

@@ -1,4 +1,4 @@
--- What holds of the sections of every config that is read.
+-- What holds for the sections of every config that is read.
 use Rattle.std.specs.Prelude.{◌≡◌, ℕ, ◌≤◌, ◌==◌, List, None, count_by, length, map}
 use Rattle.std.specs.List.{IsDistinct}
 use Rattle.ubi_media.specs.Fields.{same_bytes}
@@ -6,7 +6,7 @@ use Rattle.ubi_config.specs.Above.{most_sections}
 use Rattle.ubi_config.specs.Config.{first_fault, sections_of}
 use Rattle.ubi_config.specs.declared.section.Section.{Section}
 
--- there are not too many; no two have one number of a volume, or one name; and one volume at most grows
+-- there are not too many sections; no two have one volume number, or one name; and at most one volume grows
 pub record AreApart (sections : List Section) : Type 0 where
   pub few : length sections ≤ most_sections
   pub ids : IsDistinct (λ a b. a == b) (map (λ s. s.id) sections)

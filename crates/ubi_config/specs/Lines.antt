@@ -29,13 +29,13 @@ kind_of value =
     if same_bytes value (codes "dynamic") then Some kind.Dynamic
     else (if same_bytes value (codes "static") then Some kind.Static else None)
 
--- what a value of `vol_flags` says of its volume
+-- what a value of `vol_flags` says about its volume
 unfoldable pub flag_of : List ℕ → Option Line
 flag_of value =
     if same_bytes value (codes "autoresize") then Some line.Autoresize
     else (if same_bytes value (codes "skip-check") then Some line.SkipCheck else None)
 
--- what a key with a value says, where the key takes it
+-- what a key with a value says, if the key takes it
 unfoldable pub setting : Key → List ℕ → Option Line
 setting key.Mode value = then_some (same_bytes value (codes "ubi")) line.Mode
 setting key.Image value = Some (line.Image value)
@@ -46,26 +46,26 @@ setting key.Name value = then_some (is_name value) (line.Name value)
 setting key.Flags value = flag_of value
 setting key.Alignment value = option_map line.Alignment (number_within most_number value)
 
--- what a line says whose `=` stands at a place
+-- what a line whose `=` stands at a place says
 unfoldable pub setting_at : List ℕ → ℕ → Result Line ConfigCause
 setting_at text place = do
   k ← ok_or (key_of (trimmed (take place text))) cause.Key
   value ← ok_or (value_of (trimmed (drop (place + 1) text))) cause.Value
   ok_or (setting k value) cause.Unfit
 
--- what a line says that isn't a heading
+-- what a line that isn't a heading says
 unfoldable pub setting_line : List ℕ → Result Line ConfigCause
 setting_line text = option_map_or (setting_at text) (position (λ b. b == 61) text) (Err cause.Form)
 
--- the bytes that ubinize takes for more in a section's name: `]` and `:`
+-- the bytes that mean more to ubinize in a section's name: `]` and `:`
 abbrev pub is_special : ℕ → Bool
 is_special b = (b == 93) || (b == 58)
 
--- the bytes of the longest name of a section
+-- the length of the longest name of a section in bytes
 abbrev pub longest_title : ℕ
 longest_title = 128
 
--- a section's name: some bytes and not too many, none of them special
+-- a section's name: some bytes, but not too many, and none of them special
 abbrev pub is_title : List ℕ → Bool
 is_title name =
     nat_le 1 (length name) && nat_le (length name) longest_title && not (list_any is_special name)
@@ -76,26 +76,26 @@ title_of text =
     let name = trimmed (slice_range text 1 (length text - 1)) in
     then_some (nat_le 2 (length text) && ends_with_byte 93 text && is_title name) name
 
--- what a line says that begins with `[`
+-- what a line that begins with `[` says
 unfoldable pub heading_line : ℕ → List ℕ → Result Line ConfigCause
 heading_line number text = ok_or (option_map (line.Heading number) (title_of text)) cause.Form
 
--- what a line says that is trimmed and isn't skipped
+-- what a line that is trimmed and isn't skipped says
 unfoldable pub line_said : ℕ → List ℕ → Result Line ConfigCause
 line_said number text =
     if slice_index text 0 == 91 then heading_line number text else setting_line text
 
--- the bytes of the longest line that ubinize doesn't cut in two
+-- the length of the longest line that ubinize doesn't cut in two, in bytes
 abbrev pub longest_line : ℕ
 longest_line = 1022
 
--- a line that no reader takes for more than one, or for less: not too long, no byte zero, and no backslash at its end
+-- a line that is one line to every reader: it isn't too long, has no zero byte, and no backslash at its end
 unfoldable pub is_one_line : List ℕ → Bool
 is_one_line text =
     nat_le (length text) longest_line && not (list_any (λ b. b == 0) text)
     && not (ends_with_byte 92 (trimmed text))
 
--- what the line of a number says by itself: nothing where it's skipped
+-- what the line with a number says by itself: nothing if it's skipped
 unfoldable pub line_of : ℕ → List ℕ → Result (Option Line) ConfigCause
 line_of number text =
     if not (is_one_line text) then Err cause.Line

@@ -14,7 +14,7 @@ use Rattle.ubi_config.specs.declared.section.Section.{Section}
 abbrev pub bytes_of : Section → Option ℕ → ℕ
 bytes_of section image_len = unwrap_or section.size (unwrap_or image_len 0)
 
--- the record of a volume that reserves so many eraseblocks
+-- the record of a volume that reserves this many eraseblocks
 abbrev pub reserving : Section → ℕ → VolumeRecord
 reserving section n = record {
   reserved = n;
@@ -25,15 +25,15 @@ reserving section n = record {
   flags = section.flags;
 }
 
--- how many parts of a size have so many bytes together: the last may be short
+-- how many parts of a size this many bytes have: the last may be short
 abbrev pub parts_of : ℕ → ℕ → ℕ
 parts_of bytes part = div_ceil bytes part
 
--- how many eraseblocks have so many bytes, each without what its alignment leaves free: one at least, also for no byte
+-- how many eraseblocks this many bytes take, each without what the alignment leaves free: at least one, even for no byte
 abbrev pub blocks_of : Sizes → Section → ℕ → ℕ
 blocks_of s section bytes = max 1 (parts_of bytes (usable s (reserving section 1)))
 
--- the record that reserves so many eraseblocks, where a record can, and there is a slot for it
+-- the record that reserves this many eraseblocks, if a record can, and there is a slot for it
 abbrev pub fitting : Sizes → Section → ℕ → Result VolumeRecord ConfigCause
 fitting s section n =
     if nat_lt n (2 ^ 31) then (if nat_lt section.id (slots s) then Ok (reserving section n) else Err cause.IdRange)
@@ -45,12 +45,12 @@ sized s section bytes =
     option_map_or (λ fault. Err (cause.Record fault)) (rec_fault s (reserving section 1))
     (fitting s section (blocks_of s section bytes))
 
--- whether a volume has no byte that should have some: one without an image file, or a dynamic one with an empty file
+-- whether a volume that should have bytes has none: one without an image file, or a dynamic one with an empty file
 abbrev pub is_empty : Section → Option ℕ → Bool
 is_empty section None = unwrap_or section.size 0 == 0
 is_empty section (Some image_len) = (image_len == 0) && not (is_static section.kind)
 
--- the record of a section's volume, where its image file has so many bytes
+-- the record of a section's volume, if its image file has this many bytes
 unfoldable pub record_in : Sizes → Section → Option ℕ → Result VolumeRecord ConfigCause
 record_in s section image_len =
     if is_empty section image_len then Err cause.Empty

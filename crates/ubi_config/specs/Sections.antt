@@ -13,7 +13,7 @@ use Rattle.ubi_config.specs.declared.line.Line.TheVariants as line
 use Rattle.ubi_config.specs.declared.drafts.Draft.{Draft}
 use Rattle.ubi_config.specs.declared.section.Section.{Section}
 
--- a section of which nothing is said: dynamic, of alignment 1, without flags
+-- a section about which nothing is said: dynamic, of alignment 1, without flags
 abbrev pub no_draft : Draft
 no_draft = record {
   mode = false;
@@ -43,15 +43,15 @@ with_line d (line.Alignment alignment) = record d { alignment = alignment }
 unfoldable pub draft_of : List Line → Draft
 draft_of ls = fold with_line no_draft ls
 
--- a section has to name an image where it's static, or without a size
+-- a section has to name an image if it's static, or without a size
 abbrev pub needs_image : Draft → Bool
 needs_image d = is_static d.kind || not (is_some d.size)
 
--- a section may skip the check of its bytes where it's static: a dynamic volume has none
+-- a section may skip the CRC of its contents if it's static: a dynamic volume has none
 abbrev pub may_skip : Draft → Bool
 may_skip d = is_static d.kind || not (d.flags == 2)
 
--- the section, or the first key that it lacks, or that it can't skip a check
+-- the section, or the first key that it lacks, or that it can't skip a CRC
 unfoldable pub finished : ℕ → Draft → Result Section ConfigCause
 finished number d = do
   mode ← ok_or (then_some d.mode true) (cause.Missing key.Mode)

@@ -43,16 +43,16 @@ some_bytes bytes = then_some (nat_le 1 (length bytes)) bytes
 unfoldable pub plain_value : List ℕ → Option (List ℕ)
 plain_value text = some_bytes (trimmed (before_first is_mark text))
 
--- what may stand in quotes: some bytes, the last of which is no blank
+-- what may stand in quotes: some bytes, the last of which isn't a blank
 abbrev pub is_quotable : List ℕ → Bool
 is_quotable bytes = nat_le 1 (length bytes) && not (is_blank (slice_index bytes (length bytes - 1)))
 
--- a value that a quote at a place ends, with nothing but a remark behind it
+-- a value that a quote at a place ends, with nothing but a remark after it
 abbrev pub value_before : List ℕ → ℕ → Option (List ℕ)
 value_before text place =
     then_some (is_quotable (take place text) && is_remark (trimmed (drop (place + 1) text))) (take place text)
 
--- a value in quotes, from behind the first of them on
+-- a value in quotes, from after the first of them on
 unfoldable pub quoted_value : ℕ → List ℕ → Option (List ℕ)
 quoted_value quote text = option_and_then (value_before text) (position (λ b. b == quote) text)
 
@@ -60,7 +60,7 @@ quoted_value quote text = option_and_then (value_before text) (position (λ b. b
 abbrev pub is_quote : ℕ → Bool
 is_quote b = (b == 34) || (b == 39)
 
--- the value that stands behind `=`
+-- the value after `=`
 unfoldable pub value_of : List ℕ → Option (List ℕ)
 value_of text =
     if nat_le 1 (length text) && is_quote (slice_index text 0) then quoted_value (slice_index text 0) (drop 1 text)

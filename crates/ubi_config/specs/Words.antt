@@ -18,7 +18,7 @@ is_visible b = not (is_blank b)
 abbrev pub trimmed_start : List ℕ → List ℕ
 trimmed_start bytes = drop (position_or_len is_visible bytes) bytes
 
--- bytes without the blanks behind them
+-- bytes without the blanks after them
 abbrev pub trimmed_end : List ℕ → List ℕ
 trimmed_end bytes = take (length bytes - suffix_len is_blank bytes) bytes
 
@@ -30,7 +30,7 @@ trimmed bytes = trimmed_end (trimmed_start bytes)
 abbrev pub ends_with_byte : ℕ → List ℕ → Bool
 ends_with_byte b bytes = nat_le 1 (length bytes) && (slice_index bytes (length bytes - 1) == b)
 
--- the most bytes that a volume may have
+-- how many bytes a volume may have at most
 abbrev pub most_bytes : ℕ
 most_bytes = 0x7FFF_FFFF_FFFF_FFFF
 
@@ -42,14 +42,14 @@ is_no_gap b = not ((b == 32) || (b == 9))
 abbrev pub is_no_digit : ℕ → Bool
 is_no_digit b = not (is_ascii_digit b)
 
--- the bytes of a unit
+-- how many bytes a unit is
 unfoldable pub unit_named : List ℕ → Option ℕ
 unit_named name =
     if same_bytes name (codes "KiB") then Some 1024
     else (if same_bytes name (codes "MiB") then Some 1048576
     else (if same_bytes name (codes "GiB") then Some 1073741824 else None))
 
--- the bytes that are counted by what follows a number: one by one where nothing does
+-- how many bytes the unit after a number is: one, if there is no unit
 unfoldable pub unit_of : List ℕ → Option ℕ
 unit_of rest = if length rest == 0 then Some 1 else unit_named (drop (position_or_len is_no_gap rest) rest)
 
@@ -57,7 +57,7 @@ unit_of rest = if length rest == 0 then Some 1 else unit_named (drop (position_o
 abbrev pub size_in : ℕ → ℕ → Option ℕ
 size_in unit n = then_some (nat_le 1 (n * unit) && nat_le (n * unit) most_bytes) (n * unit)
 
--- the bytes that a number and its unit write
+-- how many bytes a number and its unit stand for
 unfoldable pub size_of : List ℕ → Option ℕ
 size_of word =
     let digits = position_or_len is_no_digit word in

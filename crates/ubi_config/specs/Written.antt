@@ -1,4 +1,4 @@
--- The config that is written of volumes whose contents lie in files.
+-- The config that is written for volumes whose contents lie in files.
 use Rattle.std.specs.Prelude.{ℕ, ◌*◌, ◌==◌, ◌&&◌, ◌||◌, Bool, not, nat_le, if◌then◌else◌, List, [], ◌∷◌, ◌++◌, codes, count_by, decimal, length, Option, Some, None, is_some, unwrap_or}
 use Rattle.std.specs.Bool.{then_some}
 use Rattle.std.specs.List.{flat_map, list_any}
@@ -18,15 +18,15 @@ use Rattle.ubi_config.specs.declared.volume.LeftOut.TheVariants as why
 abbrev pub is_no_value : ℕ → Bool
 is_no_value b = (b == 0) || (b == 10)
 
--- the quote in which a value is written: `"`, or `'` where it has that
+-- the quote in which a value is written: `"`, or `'` if the value has a `"`
 abbrev pub quote_of : List ℕ → ℕ
 quote_of value = if list_any (λ b. b == 34) value then 39 else 34
 
--- the bytes of the longest value that is written: a line of `vol_name` has 1,022 with it
+-- the length of the longest value that is written: a line of `vol_name` has 1,022 bytes with it
 abbrev pub longest_value : ℕ
 longest_value = 1011
 
--- whether a value can be written: the quote doesn't stand in it, nor a byte that no value has; it isn't empty, ends with no
+-- whether a value can be written: it has no such quote, and no byte that no value has; it isn't empty, doesn't end with a
 -- blank, and isn't too long
 abbrev pub is_writable : List ℕ → Bool
 is_writable value =
@@ -41,11 +41,11 @@ quoted value = quote_of value ∷ value ++ quote_of value ∷ []
 abbrev pub is_growing : ConfigVolume → Bool
 is_growing v = v.entry.flags == 1
 
--- whether volumes are few enough that grow: one at most
+-- whether few enough volumes grow: at most one
 abbrev pub may_grow : List ConfigVolume → Bool
 may_grow vs = nat_le (count_by is_growing vs) 1
 
--- whether a config can give a volume of a kind its flags: none, 01, or 02 where it's static
+-- whether a config can give a volume of a kind its flags: none, 01, or 02 if it's static
 abbrev pub has_words : VolKind → ℕ → Bool
 has_words k flags = nat_le flags 1 || ((flags == 2) && is_static k)
 
@@ -53,7 +53,7 @@ has_words k flags = nat_le flags 1 || ((flags == 2) && is_static k)
 abbrev pub path_of : ConfigVolume → List ℕ
 path_of v = unwrap_or v.image []
 
--- why a volume is left out; none where it's described
+-- why a volume is left out; `None` if it's described
 unfoldable pub left_out : Bool → ConfigVolume → Option LeftOut
 left_out may_grow v =
     first_some (then_some v.entry.marker why.Updating
@@ -63,7 +63,7 @@ left_out may_grow v =
     ∷ then_some (not (has_words v.entry.kind v.entry.flags)) why.Flags
     ∷ then_some (is_growing v && not may_grow) why.Growing ∷ [])
 
--- the words of that
+-- the words for why a volume is left out
 abbrev pub left_out_words : LeftOut → List ℕ
 left_out_words why.Updating = codes "its update didn't end"
 left_out_words why.Damaged = codes "it is damaged"
@@ -81,17 +81,17 @@ abbrev pub kind_word : VolKind → List ℕ
 kind_word kind.Dynamic = codes "dynamic"
 kind_word kind.Static = codes "static"
 
--- the bytes that a volume reserves
+-- how many bytes a volume reserves
 abbrev pub bytes_reserved : Sizes → VolumeRecord → ℕ
 bytes_reserved s r = r.reserved * usable s r
 
--- the line of flags, where there are some
+-- the line of flags, if there are some
 abbrev pub flag_lines : ℕ → List (List ℕ)
 flag_lines flags =
     if flags == 1 then codes "vol_flags=autoresize" ∷ []
     else (if flags == 2 then codes "vol_flags=skip-check" ∷ [] else [])
 
--- the section of a volume, behind an empty line
+-- the section of a volume, after an empty line
 abbrev pub section_lines : Sizes → ConfigVolume → List (List ℕ)
 section_lines s v =
     [] ∷ (codes "[" ++ title v.id ++ codes "]")
@@ -103,7 +103,7 @@ section_lines s v =
     ∷ (codes "vol_alignment=" ++ decimal v.entry.alignment)
     ∷ (codes "image=" ++ quoted (path_of v)) ∷ flag_lines v.entry.flags
 
--- the remark that says why a volume has no section, behind an empty line
+-- the remark that says why a volume has no section, after an empty line
 abbrev pub remark_lines : ConfigVolume → LeftOut → List (List ℕ)
 remark_lines v c =
     [] ∷ (codes "# volume " ++ decimal v.id ++ codes " is left out: " ++ left_out_words c) ∷ []
@@ -113,7 +113,7 @@ abbrev pub lines_by : Sizes → ConfigVolume → Option LeftOut → List (List �
 lines_by s v None = section_lines s v
 lines_by s v (Some c) = remark_lines v c
 
--- the lines of a volume, by whether one may grow
+-- the lines of a volume, by whether volumes may grow
 abbrev pub volume_lines : Sizes → Bool → ConfigVolume → List (List ℕ)
 volume_lines s grow v = lines_by s v (left_out grow v)
 
@@ -124,7 +124,7 @@ head s seq =
     ++ (codes " --vid " ++ decimal s.vid_offset) ++ (codes " --data " ++ decimal s.data_offset)
     ++ (codes " --pebs " ++ decimal s.pebs) ++ (codes " --seq " ++ decimal seq)
 
--- the lines of a config: a remark with these words, and those of the volumes, in their order
+-- the lines of a config: a remark with these words, and those of the volumes, in order
 abbrev pub config_lines : Sizes → ℕ → List ConfigVolume → List (List ℕ)
 config_lines s seq vs = head s seq ∷ flat_map (volume_lines s (may_grow vs)) vs
 

@@ -1,4 +1,4 @@
--- What the config that is written is read as.
+-- How the config that is written is read.
 use Rattle.std.specs.Prelude.{◌≡◌, ℕ, ◌+◌, ◌<◌, ◌≤◌, ◌==◌, ◌^◌, All, Bool, List, [], ◌∷◌, ◌++◌, None, Ok, Option, Some, false, length, map}
 use Rattle.std.specs.List.{IsDistinct}
 use Rattle.ubi_media.specs.Fields.{same_bytes}
@@ -13,7 +13,7 @@ use Rattle.ubi_config.specs.declared.section.Section.{Section}
 use Rattle.ubi_config.specs.declared.volume.ConfigVolume.{ConfigVolume}
 use Rattle.ubi_config.specs.declared.volume.LeftOut.{LeftOut}
 
--- volumes of a device: they aren't too many, their records break no rule, and no two have one number, or one name
+-- volumes of a device: there are not too many, their records break no rule, and no two have one number, or one name
 pub record AreVolumes (s : Sizes) (vs : List ConfigVolume) : Type 0 where
   pub geometry : IsGeometry s
   pub few : length vs ≤ most_sections
@@ -35,7 +35,7 @@ section_for s number v = record {
   image = v.image;
 }
 
--- the section of a volume whose lines begin at a place; none where it's left out
+-- the section of a volume whose lines begin at a place; there is none if it's left out
 abbrev pub section_at : Sizes → ℕ → ConfigVolume → Option LeftOut → List Section
 section_at s place v None = section_for s (line_number (place + 1)) v ∷ []
 section_at s place v (Some _) = []
@@ -46,7 +46,7 @@ sections_at s grow place [] = []
 sections_at s grow place (v ∷ vs) =
     section_at s place v (left_out grow v) ++ sections_at s grow (place + length (volume_lines s grow v)) vs
 
--- the sections of a config: the lines of its volumes begin behind its first
+-- the sections of a config: the lines of its volumes begin after its first
 abbrev pub sections_written : Sizes → List ConfigVolume → List Section
 sections_written s vs = sections_at s (may_grow vs) 1 vs
 

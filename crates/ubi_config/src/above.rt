@@ -9,7 +9,7 @@ use crate::errors::ConfigCause;
 use crate::key::Key;
 use crate::line::Line;
 
-/// The most sections.
+/// How many sections a config has at most.
 const MOST_SECTIONS: usize = 128;
 
 /// Whether a line above in the same section sets the key.
@@ -65,7 +65,7 @@ fn has_autoresize(above: &[Line]) -> bool
     above.iter().any(|line| line.is_autoresize())
 }
 
-/// A cause, where it holds.
+/// A cause, if it holds.
 fn cause_if(holds: bool, cause: ConfigCause) -> Option<ConfigCause>
     ensures { result ≡ then_some holds cause }
 {

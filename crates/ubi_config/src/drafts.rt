@@ -18,7 +18,7 @@ use ubi_media::{VolKind, VolName};
 /// The flag of a volume that grows to the size of the device (`UBI_VTBL_AUTORESIZE_FLG`).
 const AUTORESIZE: u8 = 0x01;
 
-/// The flag of a static volume whose bytes aren't checked where it's opened (`UBI_VTBL_SKIP_CRC_CHECK_FLG`).
+/// The flag of a static volume whose CRCs aren't checked when it's opened (`UBI_VTBL_SKIP_CRC_CHECK_FLG`).
 const SKIP_CHECK: u8 = 0x02;
 
 /// What the lines of a section say together.
@@ -35,7 +35,7 @@ pub(crate) struct Draft {
 }
 
 impl Draft {
-    /// A section of which nothing is said.
+    /// A section about which nothing is said.
     fn new() -> Draft
         ensures { result ≡ no_draft }
     {
@@ -77,7 +77,7 @@ impl Draft {
         self.kind == VolKind::Static || self.size.is_none()
     }
 
-    /// Whether the section may skip the check of its bytes, or doesn't: a dynamic volume has none.
+    /// Whether the section may skip its CRCs, or doesn't: a dynamic volume has none.
     fn may_skip(&self) -> bool
         ensures { result ≡ may_skip self.now }
     {
@@ -140,7 +140,7 @@ fn settings(lines: &[Line]) -> &[Line]
     &lines[..heading_place(lines).unwrap_or(lines.len())]
 }
 
-/// The section that begins at a line, with what the lines below say of it.
+/// The section that begins at a line, with what the lines below say about it.
 pub(crate) fn section_of(alloc: Global, line: u32, below: &[Line]) -> Result<Section, LineError>
     ensures { let made = finished line (draft_of (before_first is_heading below.now)) in MatchResult result (λ s. made ≡ Ok s) (IsRefused made) }
 {

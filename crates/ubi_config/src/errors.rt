@@ -21,16 +21,16 @@ pub enum ConfigCause {
     Form,
     /// There is no such key.
     Key,
-    /// The value is empty, its quote isn't closed, a blank stands before the closing quote, or more than a remark behind
-    /// it.
+    /// The value is empty, its quote isn't closed, a blank stands before the closing quote, or more than a remark stands
+    /// after it.
     Value,
     /// The key doesn't take the value.
     Unfit,
     /// No section stands above the line, or none in the whole config.
     NoSection,
-    /// The section's name, or the key in this section, stands above already.
+    /// The section's name, or the key in this section, already stands above.
     Again,
-    /// There are 128 sections above already.
+    /// There are already 128 sections above.
     TooMany,
     /// A section above has this `vol_id`.
     SameId,
@@ -42,11 +42,11 @@ pub enum ConfigCause {
     Missing(Key),
     /// The section is dynamic, and `skip-check` is for static volumes.
     SkipCheck,
-    /// The image file of a dynamic volume has no byte.
+    /// The image file of a dynamic volume is empty, or a volume without an image file has no byte.
     Empty,
     /// The image file has more bytes than `vol_size`.
     LongImage,
-    /// The record of the volume breaks a rule, and the first that it breaks.
+    /// The record of the volume breaks a rule, and this is the first that it breaks.
     Record(RecFault),
     /// The volume would reserve 2^31 eraseblocks or more.
     TooLarge,

@@ -14,13 +14,13 @@ pub enum Key {
     Image,
     /// The number of the volume.
     Id,
-    /// How many bytes are kept for the volume.
+    /// How many bytes are reserved for the volume.
     Size,
     /// Whether the volume is static or dynamic.
     Kind,
     /// The name of the volume.
     Name,
-    /// Whether the volume is to grow to the size of the device, or isn't to be checked.
+    /// Whether the volume grows to the size of the device, or its CRCs aren't checked.
     Flags,
     /// The alignment of the volume.
     Alignment,

@@ -1,5 +1,5 @@
-//! The config of ubinize, an ini file: for each volume a section that says what the volume is and which file holds its
-//! contents. What is read here means to ubinize what it means here; the rest is refused, with its line.
+//! The config of ubinize, an ini file. It has a section for each volume, which says what the volume is and which file
+//! holds its contents. What is read here means the same to ubinize; the rest is refused, with its line.
 //!
 //! [`parse_config`] gives the sections of a text, and [`Section::record`] the record of a section's volume.
 //!

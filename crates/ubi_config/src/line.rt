@@ -18,7 +18,7 @@ use ubi_words::number_of;
 /// What a line says.
 #[derive(Drop)]
 pub(crate) enum Line {
-    /// A section of this name begins. The line's number is kept.
+    /// A section of this name begins. It comes with the line's number.
     Heading(u32, Text),
     /// The section is a volume.
     Mode,
@@ -26,7 +26,7 @@ pub(crate) enum Line {
     Image(Text),
     /// Its number.
     Id(u32),
-    /// How many bytes are kept for it.
+    /// How many bytes are reserved for it.
     Size(u64),
     /// Its kind.
     Kind(VolKind),
@@ -34,14 +34,14 @@ pub(crate) enum Line {
     Name(VolName),
     /// It grows to the size of the device.
     Autoresize,
-    /// Its bytes aren't checked where it's opened.
+    /// Its CRCs aren't checked when it's opened.
     SkipCheck,
     /// Its alignment.
     Alignment(u32),
 }
 
 impl Line {
-    /// The key that the line sets. None where it begins a section.
+    /// The key that the line sets. `None` if it begins a section.
     pub(crate) fn key(&self) -> Option<Key>
         ensures { result ≡ key_in self.now }
     {
@@ -123,10 +123,10 @@ impl Line {
     }
 }
 
-/// The bytes of the longest line that ubinize doesn't cut in two.
+/// The length of the longest line that ubinize doesn't cut in two, in bytes.
 const LONGEST_LINE: usize = 1022;
 
-/// The bytes of the longest name of a section.
+/// The length of the longest name of a section in bytes.
 const LONGEST_TITLE: usize = 128;
 
 /// The kind of a volume that a value names.
@@ -143,7 +143,7 @@ fn kind_of(value: &[u8]) -> Option<VolKind>
     None
 }
 
-/// What a value of `vol_flags` says of its volume.
+/// What a value of `vol_flags` says about its volume.
 #[tactic(auto, unfolding(crate::specs::Lines::flag_of))]
 fn flag_of(value: &[u8]) -> Option<Line>
     ensures { result ≡ flag_of value.now }
@@ -157,7 +157,7 @@ fn flag_of(value: &[u8]) -> Option<Line>
     None
 }
 
-/// What a key with a value says. None where the key doesn't take the value.
+/// What a key with a value says. `None` if the key doesn't take the value.
 #[tactic(auto, unfolding(crate::specs::Lines::setting))]
 fn setting(alloc: Global, key: Key, value: &[u8]) -> Result<Option<Line>, AllocError>
     ensures { IfOk result (λ said. said ≡ setting key value.now) }
@@ -176,7 +176,7 @@ fn setting(alloc: Global, key: Key, value: &[u8]) -> Result<Option<Line>, AllocE
     Ok(said)
 }
 
-/// What a line says whose `=` stands at a place.
+/// What a line whose `=` stands at a place says.
 #[tactic(auto, unfolding(crate::specs::Lines::setting_at))]
 fn setting_at(alloc: Global, text: &[u8], place: usize) -> Result<Line, LineError>
     requires { place < length text.now }
@@ -194,7 +194,7 @@ fn equals_sign(text: &[u8]) -> Option<usize>
     text.iter().position(|byte| *byte == b'=')
 }
 
-/// What a line says that isn't a heading.
+/// What a line that isn't a heading says.
 #[tactic(auto, unfolding(crate::specs::Lines::setting_line))]
 fn setting_line(alloc: Global, text: &[u8]) -> Result<Line, LineError>
     ensures { let said = setting_line text.now in MatchResult result (λ l. said ≡ Ok l) (IsRefused said) }
@@ -205,28 +205,28 @@ fn setting_line(alloc: Global, text: &[u8]) -> Result<Line, LineError>
     }
 }
 
-/// Whether ubinize takes a byte for more in a section's name: `]` and `:`.
+/// Whether a byte means more to ubinize in a section's name: `]` and `:`.
 fn is_special(byte: u8) -> bool
     ensures { result ≡ is_special byte }
 {
     byte == b']' || byte == b':'
 }
 
-/// Whether ubinize takes one of the bytes for more in a section's name.
+/// Whether one of the bytes means more to ubinize in a section's name.
 fn has_special(name: &[u8]) -> bool
     ensures { result ≡ list_any is_special name.now }
 {
     name.iter().any(|byte| is_special(*byte))
 }
 
-/// Whether bytes may be a section's name: there are some and not too many, and none of them is special.
+/// Whether bytes may be a section's name: there are some, but not too many, and none of them is special.
 fn is_title(name: &[u8]) -> bool
     ensures { result ≡ is_title name.now }
 {
     !name.is_empty() && name.len() <= LONGEST_TITLE && !has_special(name)
 }
 
-/// The name of the section that begins with the line. None where it isn't `[NAME]`.
+/// The name of the section that begins with the line. `None` if it isn't `[NAME]`.
 #[tactic(auto, unfolding(crate::specs::Lines::title_of))]
 fn title_of(text: &[u8]) -> Option<&[u8]>
     ensures { option_map (λ n. n.now) result ≡ title_of text.now }
@@ -238,7 +238,7 @@ fn title_of(text: &[u8]) -> Option<&[u8]>
     if is_title(name) { Some(name) } else { None }
 }
 
-/// What a line says that begins with `[`.
+/// What a line that begins with `[` says.
 #[tactic(auto, unfolding(crate::specs::Lines::heading_line))]
 fn heading_line(alloc: Global, number: u32, text: &[u8]) -> Result<Line, LineError>
     ensures { let said = heading_line number text.now in MatchResult result (λ l. said ≡ Ok l) (IsRefused said) }
@@ -249,7 +249,7 @@ fn heading_line(alloc: Global, number: u32, text: &[u8]) -> Result<Line, LineErr
     }
 }
 
-/// What a line says that is trimmed and isn't skipped.
+/// What a line that is trimmed and isn't skipped says.
 #[tactic(auto, unfolding(crate::specs::Lines::line_said))]
 fn line_said(alloc: Global, number: u32, text: &[u8]) -> Result<Line, LineError>
     ensures { let said = line_said number text.now in MatchResult result (λ l. said ≡ Ok l) (IsRefused said) }
@@ -261,14 +261,14 @@ fn line_said(alloc: Global, number: u32, text: &[u8]) -> Result<Line, LineError>
     }
 }
 
-/// Whether a byte is zero.
+/// Whether one of the bytes is zero.
 fn has_zero(text: &[u8]) -> bool
     ensures { result ≡ list_any (λ b. b == 0) text.now }
 {
     text.contains(&0)
 }
 
-/// Whether a line is one for every reader: it's not too long, has no zero byte, and doesn't end with a backslash.
+/// Whether a line is one line to every reader: it isn't too long, has no zero byte, and doesn't end with a backslash.
 #[tactic(auto, unfolding(crate::specs::Lines::is_one_line))]
 fn is_one_line(text: &[u8]) -> bool
     ensures { result ≡ is_one_line text.now }
@@ -276,7 +276,7 @@ fn is_one_line(text: &[u8]) -> bool
     text.len() <= LONGEST_LINE && !has_zero(text) && !ends_with_byte(b'\\', trimmed(text))
 }
 
-/// What the line of a number says by itself. None where it's skipped.
+/// What the line with a number says by itself. `None` if it's skipped.
 #[tactic(auto, unfolding(crate::specs::Lines::line_of))]
 pub(crate) fn line_of(alloc: Global, number: u32, text: &[u8]) -> Result<Option<Line>, LineError>
     ensures { let said = line_of number text.now in MatchResult result (λ l. said ≡ Ok l) (IsRefused said) }

@@ -13,7 +13,7 @@ use crate::line::{Line, line_of};
 use crate::section::Section;
 use std::alloc::Global;
 
-/// Takes what the line of a number says, if it isn't skipped.
+/// Takes what the line with a number says, if it isn't skipped.
 fn read_line(alloc: Global, said: &mut Vec<Line>, number: u32, text: &[u8]) -> Result<(), LineError>
     ensures { let line = line_of number text.now in let cause = cause_after said.old.items line in MatchResult result (λ _. (cause ≡ None) × (said.new.items ≡ said.old.items ++ option_to_list (result_unwrap_or line None))) (IsCause cause) }
 {
@@ -28,7 +28,7 @@ fn read_line(alloc: Global, said: &mut Vec<Line>, number: u32, text: &[u8]) -> R
     Ok(())
 }
 
-/// What the lines of a text say, where none of them has a fault.
+/// What the lines of a text say, if none of them has a fault.
 fn read_lines(alloc: Global, text: &[u8]) -> Result<Vec<Line>, ConfigError>
     ensures { MatchResult result (λ said. (line_fault text.now ≡ None) × (said.items ≡ sayings (lines text.now))) (IsFault (line_fault text.now)) }
 {
@@ -70,13 +70,13 @@ fn sections_of(alloc: Global, said: &[Line]) -> Result<Vec<Section>, ConfigError
     Ok(sections)
 }
 
-/// The sections of a config, in their order.
+/// The sections of a config, in order.
 ///
 /// # Errors
 ///
-/// Its first fault: the first line that something is wrong with, by itself or by the lines above it, and of several
-/// causes of the line the first in the order of [`ConfigCause`]; or else the first section that lacks a key, by the line
-/// that begins it. Memory where memory ran out.
+/// Its first fault: the first line with a fault, by itself or by the lines above it; if it has several, the first in the
+/// order of [`ConfigCause`]. If no line has one, the first section that lacks a key, by the line that begins it.
+/// `Memory` if memory ran out.
 pub fn parse_config(alloc: Global, text: &[u8]) -> Result<Vec<Section>, ConfigError>
     ensures sections { IfOk result (λ out. (first_fault text.now ≡ None) × (out.items ≡ sections_of text.now)) }
     ensures refused { IfErr result (IsFault (first_fault text.now)) }

@@ -19,17 +19,17 @@ pub struct Section {
     pub name: VolName,
     /// The kind of the volume.
     pub kind: VolKind,
-    /// What the volume uses of a logical eraseblock is a multiple of so many bytes.
+    /// The volume uses a multiple of this many bytes of each logical eraseblock.
     pub alignment: u32,
-    /// 0x01 where the volume grows to the size of the device, 0x02 where the bytes of a static one aren't checked, else 0.
+    /// 0x01 if the volume grows to the size of the device, 0x02 if the CRCs of a static one aren't checked, else 0.
     pub flags: u8,
-    /// How many bytes are kept for the volume, where the config says it.
+    /// How many bytes are reserved for the volume, if the config says so.
     pub size: Option<u64>,
-    /// The path of the file that holds its contents, where the config names one.
+    /// The path of the file that holds its contents, if the config names one.
     pub image: Option<Text>,
 }
 
-/// How many parts of a size have so many bytes together.
+/// How many parts of a size this many bytes have.
 fn parts_of(bytes: u64, part: u32) -> u64
     requires { 1 ≤ part }
     ensures { result ≡ parts_of bytes part }
@@ -38,7 +38,7 @@ fn parts_of(bytes: u64, part: u32) -> u64
 }
 
 impl Section {
-    /// The record that reserves so many eraseblocks.
+    /// The record that reserves this many eraseblocks.
     fn reserving(&self, reserved: u32) -> VolumeRecord
         ensures { result ≡ reserving self.now reserved }
     {
@@ -52,7 +52,7 @@ impl Section {
         }
     }
 
-    /// The bytes that are kept for the volume.
+    /// How many bytes are reserved for the volume.
     fn bytes(&self, image_len: Option<u64>) -> u64
         ensures { result ≡ bytes_of self.now image_len }
     {
@@ -62,7 +62,7 @@ impl Section {
         }
     }
 
-    /// Whether the volume has no byte, and should: one without an image file, or a dynamic one with an empty file.
+    /// Whether a volume that should have bytes has none: one without an image file, or a dynamic one with an empty file.
     fn is_empty(&self, image_len: Option<u64>) -> bool
         ensures { result ≡ is_empty self.now image_len }
     {
@@ -72,7 +72,7 @@ impl Section {
         }
     }
 
-    /// The record of a volume of so many bytes: it reserves an eraseblock at least.
+    /// The record of a volume of this many bytes: it reserves at least one eraseblock.
     fn sized(&self, geometry: &Geometry, bytes: u64) -> Result<VolumeRecord, ConfigCause>
         ensures value { result ≡ sized geometry.now self.now bytes }
         ensures faultless { IfOk result (λ r. rec_fault geometry.now r ≡ None) }
@@ -93,18 +93,18 @@ impl Section {
         Ok(self.reserving(reserved as u32))
     }
 
-    /// The record of the section's volume, where its image file has so many bytes: None where it names none. It reserves
-    /// the eraseblocks that `vol_size`, or else the image file, fills, each without what the alignment leaves free, and one at
-    /// least: so a static volume may be empty.
+    /// The record of the section's volume, if its image file has `image_len` bytes: `None` if it names none. It reserves the
+    /// eraseblocks that `vol_size`, or else the image file, fills, each without what the alignment leaves free. It reserves at
+    /// least one, so a static volume may be empty.
     ///
     /// # Errors
     ///
-    /// Of these the first: [`Empty`](ConfigCause::Empty) where the image file of a dynamic volume has no byte, or a volume
-    /// without an image file none;
-    /// [`LongImage`](ConfigCause::LongImage) where the image file has more bytes than `vol_size`;
-    /// [`Record`](ConfigCause::Record) where the alignment isn't right for the geometry;
-    /// [`TooLarge`](ConfigCause::TooLarge) where 2^31 eraseblocks and more would be reserved;
-    /// [`IdRange`](ConfigCause::IdRange) where the geometry has no slot for the volume.
+    /// The first of these: [`Empty`](ConfigCause::Empty) if the image file of a dynamic volume is empty, or a volume
+    /// without an image file has no byte;
+    /// [`LongImage`](ConfigCause::LongImage) if the image file has more bytes than `vol_size`;
+    /// [`Record`](ConfigCause::Record) if the alignment isn't right for the geometry;
+    /// [`TooLarge`](ConfigCause::TooLarge) if 2^31 eraseblocks or more would be reserved;
+    /// [`IdRange`](ConfigCause::IdRange) if the geometry has no slot for the volume.
     #[tactic(auto, unfolding(crate::specs::Records::record_in))]
     pub fn record(
         &self,

@@ -7,7 +7,7 @@ ghost use Rattle.std.specs.Cmp.Lexicographic.{nat_list_eq_equiv, pointwise};
 use std::alloc::{AllocError, Global};
 use std::marker::Model;
 
-/// Bytes as a config has them: the path of a file, or the name of a section. Seen as the list of them.
+/// Bytes as a config has them: the path of a file, or the name of a section. The model is the list of them.
 #[derive(Debug, Drop)]
 pub struct Text {
     bytes: Vec<u8>,

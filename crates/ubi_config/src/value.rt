@@ -13,7 +13,7 @@ fn is_mark(byte: u8) -> bool
     byte == b'#' || byte == b';'
 }
 
-/// Whether a text is nothing, or a remark.
+/// Whether a text is empty, or a remark.
 pub(crate) fn is_remark(text: &[u8]) -> bool
     ensures { result ≡ is_remark text.now }
 {
@@ -42,7 +42,7 @@ fn place_of(quote: u8, text: &[u8]) -> Option<usize>
     text.iter().position(|byte| *byte == quote)
 }
 
-/// A value without quotes: it ends where a remark begins. None where it's empty.
+/// A value without quotes: it ends where a remark begins. `None` if it's empty.
 #[tactic(auto, unfolding(crate::specs::Values::plain_value))]
 fn plain_value(text: &[u8]) -> Option<&[u8]>
     ensures { option_map (λ v. v.now) result ≡ plain_value text.now }
@@ -51,15 +51,15 @@ fn plain_value(text: &[u8]) -> Option<&[u8]>
     if value.is_empty() { None } else { Some(value) }
 }
 
-/// Whether bytes may stand in quotes: there are some, and the last is no blank.
+/// Whether bytes may stand in quotes: there are some, and the last isn't a blank.
 pub(crate) fn is_quotable(bytes: &[u8]) -> bool
     ensures { result ≡ is_quotable bytes.now }
 {
     !bytes.is_empty() && !is_blank(bytes[bytes.len() - 1])
 }
 
-/// A value that a quote at a place ends. None where it may not stand in quotes, or where more than a remark stands
-/// behind the quote.
+/// A value that a quote at a place ends. `None` if it may not stand in quotes, or if more than a remark stands
+/// after the quote.
 fn value_before(text: &[u8], place: usize) -> Option<&[u8]>
     requires { place < length text.now }
     ensures { option_map (λ v. v.now) result ≡ value_before text.now place }
@@ -72,7 +72,7 @@ fn value_before(text: &[u8], place: usize) -> Option<&[u8]>
     }
 }
 
-/// A value in quotes, from behind the first of them on.
+/// A value in quotes, from after the first of them on.
 #[tactic(auto, unfolding(crate::specs::Values::quoted_value))]
 fn quoted_value(quote: u8, text: &[u8]) -> Option<&[u8]>
     ensures { option_map (λ v. v.now) result ≡ quoted_value quote text.now }
@@ -90,7 +90,7 @@ fn is_quote(byte: u8) -> bool
     byte == b'"' || byte == b'\''
 }
 
-/// The value that stands behind `=`, without quotes and remark. None where it's empty, or its quotes aren't right.
+/// The value after `=`, without quotes and remark. `None` if it's empty, or its quotes aren't right.
 #[tactic(auto, unfolding(crate::specs::Values::value_of))]
 pub(crate) fn value_of(text: &[u8]) -> Option<&[u8]>
     ensures { option_map (λ v. v.now) result ≡ value_of text.now }

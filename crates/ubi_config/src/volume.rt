@@ -1,4 +1,4 @@
-//! A volume that a config is written of.
+//! A volume for which a config is written.
 
 ghost use Rattle.std.specs.Prelude.{◌≡◌};
 ghost use Rattle.ubi_config.specs.Written.{has_words, is_growing, left_out_words};
@@ -13,30 +13,30 @@ pub struct ConfigVolume {
     pub id: u32,
     /// Its record.
     pub entry: VolumeRecord,
-    /// The path of the file; none where its contents can't be read.
+    /// The path of the file; `None` if its contents can't be read.
     pub image: Option<Text>,
 }
 
-/// Why a volume is left out of a config. Of several, the first in this order.
+/// Why a volume is left out of a config. If several reasons apply, the first in this order.
 #[derive(Clone, Copy, Debug, PartialEq, Eq)]
 pub enum LeftOut {
-    /// An update of it began that didn't end.
+    /// An update of it began and didn't end.
     Updating,
     /// Its contents can't be read.
     Damaged,
     /// Its name can't stand in quotes: it has both kinds of them, a zero byte or the end of a line, ends with a blank, or is
     /// too long.
     Name,
-    /// The path of its file can't.
+    /// The path of its file can't stand in quotes.
     Path,
-    /// It has other flags than 01, or 02 of a static volume.
+    /// It has other flags than 01, or than 02 in a static volume.
     Flags,
     /// It grows to the size of the device, and so does another.
     Growing,
 }
 
 impl LeftOut {
-    /// The words of it.
+    /// The words for the reason.
     pub fn words(self) -> &'static str
         ensures { result.now ≡ left_out_words self }
     {

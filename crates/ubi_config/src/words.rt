@@ -6,7 +6,7 @@ ghost use Rattle.ubi_config.specs.Words.{ends_with_byte, is_blank, is_no_digit, 
 
 use ubi_words::number_within;
 
-/// The most bytes that a volume may have.
+/// How many bytes a volume may have at most.
 const MOST_BYTES: u64 = 0x7FFF_FFFF_FFFF_FFFF;
 
 /// Whether a byte is a blank: a space, or a byte from 0x09 to 0x0D.
@@ -39,7 +39,7 @@ fn trimmed_start(bytes: &[u8]) -> &[u8]
     &bytes[blanks_before(bytes)..]
 }
 
-/// Bytes without the blanks behind them.
+/// Bytes without the blanks after them.
 fn trimmed_end(bytes: &[u8]) -> &[u8]
     ensures { result.now ≡ trimmed_end bytes.now }
 {
@@ -81,7 +81,7 @@ fn gap_before(rest: &[u8]) -> usize
     unit_place(rest).unwrap_or(rest.len())
 }
 
-/// The bytes of a unit.
+/// How many bytes a unit is.
 #[tactic(auto, unfolding(crate::specs::Words::unit_named))]
 fn unit_named(name: &[u8]) -> Option<u64>
     ensures { result ≡ unit_named name.now }
@@ -98,7 +98,7 @@ fn unit_named(name: &[u8]) -> Option<u64>
     None
 }
 
-/// The bytes that are counted by what follows a number: one by one where nothing does.
+/// How many bytes the unit after a number is: one, if there is no unit.
 #[tactic(auto, unfolding(crate::specs::Words::unit_of))]
 fn unit_of(rest: &[u8]) -> Option<u64>
     ensures { result ≡ unit_of rest.now }
@@ -109,7 +109,7 @@ fn unit_of(rest: &[u8]) -> Option<u64>
     unit_named(&rest[gap_before(rest)..])
 }
 
-/// A number of units in bytes. None where that is 0, or more than a volume may have.
+/// A number of units in bytes. `None` if that is 0, or more than a volume may have.
 fn size_in(unit: u64, number: u64) -> Option<u64>
     ensures { result ≡ size_in unit number }
 {
@@ -136,7 +136,7 @@ fn digits_before(word: &[u8]) -> usize
     digits_place(word).unwrap_or(word.len())
 }
 
-/// The bytes that a number and its unit write.
+/// How many bytes a number and its unit stand for.
 #[tactic(auto, unfolding(crate::specs::Words::size_of))]
 pub(crate) fn size_of(word: &[u8]) -> Option<u64>
     ensures { result ≡ size_of word.now }

@@ -1,4 +1,4 @@
-//! Writing a config of volumes.
+//! Writing a config for volumes.
 
 ghost use Rattle.std.specs.List.{flat_map, list_any};
 ghost use Rattle.std.specs.Prelude.{◌≡◌, ◌++◌, ◌==◌, ◌∷◌, [], All, IfOk, None, Option, OnOk, Some, codes, count_by, decimal, option_map};
@@ -12,7 +12,7 @@ use itoa::Buffer;
 use std::alloc::{AllocError, Global};
 use ubi_media::{Geometry, VolKind, VolumeRecord};
 
-/// The bytes of the longest value that is written.
+/// The length of the longest value that is written, in bytes.
 const LONGEST_VALUE: usize = 1011;
 
 /// Whether a byte stands in bytes.
@@ -22,7 +22,7 @@ fn has_byte(bytes: &[u8], byte: u8) -> bool
     bytes.iter().any(|other| *other == byte)
 }
 
-/// Whether a byte stands in bytes that no value has.
+/// Whether bytes have one that no value has.
 fn has_no_value(bytes: &[u8]) -> bool
     ensures { result ≡ list_any is_no_value bytes.now }
 {
@@ -56,14 +56,14 @@ fn path_of(volume: &ConfigVolume) -> &[u8]
     }
 }
 
-/// Whether volumes are few enough that grow.
+/// Whether few enough volumes grow.
 fn may_grow(volumes: &[ConfigVolume]) -> bool
     ensures { result ≡ may_grow volumes.now }
 {
     volumes.iter().filter(|volume| volume.is_growing()).count() <= 1
 }
 
-/// Why a volume is left out. None where it's described.
+/// Why a volume is left out. `None` if it's described.
 #[tactic(auto, unfolding(crate::specs::Written::left_out))]
 fn left_out(grow: bool, volume: &ConfigVolume) -> Option<LeftOut>
     ensures { result ≡ left_out grow volume.now }
@@ -143,7 +143,7 @@ fn kind_word(kind: VolKind) -> &'static str
     }
 }
 
-/// Adds the line that begins the section of a volume, behind an empty one.
+/// Adds the line that begins the section of a volume, after an empty one.
 fn put_heading(text: &mut Vec<u8>, id: u32) -> Result<(), AllocError>
     ensures { OnOk result (text.new.items ≡ text.old.items ++ text_of ([] ∷ (codes "[" ++ title id ++ codes "]") ∷ [])) }
 {
@@ -151,7 +151,7 @@ fn put_heading(text: &mut Vec<u8>, id: u32) -> Result<(), AllocError>
     put_word(text, "]\n")
 }
 
-/// Adds the line of flags, where there are some.
+/// Adds the line of flags, if there are some.
 fn put_flags(text: &mut Vec<u8>, flags: u8) -> Result<(), AllocError>
     ensures { OnOk result (text.new.items ≡ text.old.items ++ text_of (flag_lines flags)) }
 {
@@ -162,7 +162,7 @@ fn put_flags(text: &mut Vec<u8>, flags: u8) -> Result<(), AllocError>
     }
 }
 
-/// The bytes that a volume reserves.
+/// How many bytes a volume reserves.
 fn bytes_reserved(geometry: &Geometry, entry: &VolumeRecord) -> u64
     requires { rec_fault geometry.now entry.now ≡ None }
     ensures { result ≡ bytes_reserved geometry.now entry.now }
@@ -238,11 +238,11 @@ fn put_head(text: &mut Vec<u8>, geometry: &Geometry, image_seq: u32) -> Result<(
     Ok(())
 }
 
-/// The config of volumes whose contents lie in files: a section for each, in their order. Its first line is a remark with the
-/// words of `ubi_tool build` that build the image again, once IMAGE is replaced by the path of a file. A volume that no
-/// config can describe, or whose contents can't be read, has a remark in place of its section, which says [why](LeftOut).
+/// The config for volumes whose contents lie in files: a section for each, in order. Its first line is a remark with the
+/// words of `ubi_tool build` that build the image again, once IMAGE is replaced by the path of a file. If no config can
+/// describe a volume, or its contents can't be read, it has a remark in place of its section, which says [why](LeftOut).
 ///
-/// The records break no rule under the geometry.
+/// The records must break no rule under the geometry.
 ///
 /// # Errors
 ///

@@ -1,4 +1,4 @@
--- The group that speaks for most bytes is that of the image.
+-- The group that speaks for the most bytes is that of the image.
 use Rattle.ubi_detect.proofs.Prelude.{◌≡◌, ℕ, ◌+◌, ◌-◌, ◌*◌, ◌<◌, ◌≤◌, ◌⊎◌, Bool, true, false, List, length, inl, inr, refl, ap, sym, ◌∙◌, subst, arith, All, list_all, ◌&&◌, ◌||◌, ◌==◌, IfSome, IsFalse, IsTrue, MatchOption, None, Option, Some, nat_lt, not, slice_index_or, and_cases, and_from, and_parts, le-leb, leb-true, ltb-false, ltb-true, true≢false, get_or-map, list_all-map, dvd_antisymm, below_or_last, below_same_or_above, IsGroup, IsImage, IsSpacing, Says, greatest_size, no_key, spoken, keys_of, places, same_offsets, speaks, Group, Head, Key, AreGroups, IsBestOf, IsWithin, NoneSays, says_size, speaks_among, beats}
 use Rattle.ubi_detect.proofs.AddedGroups.{no_group}
 use Rattle.ubi_detect.proofs.MoreKeys.{as_many_keys}

@@ -1,4 +1,4 @@
--- Of each file something is told, or it is refused for a cause.
+-- In each file something is found, or it is refused for a cause.
 use Rattle.ubi_detect.proofs.Prelude.{◌≡◌, ℕ, ◌-◌, ◌≤◌, ◌⊎◌, Bool, true, false, List, [], ◌∷◌, length, inl, inr, refl, ap, sym, ◌∙◌, arith, within_or_past, AreDetected, IsFound, IsUndetected, IsWhole, NonePlain, DetectedOrRefused, IsImage, heads_of, key_count, most_keys, end_of_last, has_no_page, told, is_sure, Detected, Undetected, Group, Head}
 use Rattle.ubi_detect.specs.declared.detect.Undetected.TheVariants as cause
 use Rattle.ubi_detect.proofs.PlainOrNot.{surely_or_not}

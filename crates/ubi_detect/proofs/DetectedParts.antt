@@ -1,4 +1,4 @@
--- What is detected of a source, by the group of its image.
+-- What is detected in a source, by the group of its image.
 use Rattle.ubi_detect.proofs.Prelude.{◌≡◌, ◌≢◌, ℕ, List, [], Result, Ok, Err, IfErr, IfOk, AreDetectedOf, IsDetectError, IsFound, told, Agreed, Source, WhereHeld, DetectError, Detected, Group, IsUntold}
 use Rattle.ubi_detect.specs.declared.detect.DetectError.TheVariants as error
 use Rattle.ubi_detect.specs.declared.detect.Undetected.TheVariants as cause

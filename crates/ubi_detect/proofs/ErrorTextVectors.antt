@@ -1,4 +1,4 @@
--- The texts of why no geometry is told, on literals.
+-- The texts that say why no geometry is found, on literals.
 use Rattle.ubi_detect.proofs.Prelude.{◌≡◌, codes, refl, digits, undetected_text}
 use Rattle.ubi_detect.specs.declared.detect.Undetected.TheVariants as cause
 

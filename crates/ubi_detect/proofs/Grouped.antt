@@ -1,4 +1,4 @@
--- The groups of headers with one header more.
+-- The groups of headers with one more header.
 use Rattle.ubi_detect.proofs.Prelude.{◌≡◌, ℕ, ◌+◌, ◌-◌, Bool, true, false, cond, List, [], ◌∷◌, ◌++◌, length, refl, ap, sym, ◌∙◌, subst, arith, ◌∣◌, IsGcd, filter, fold, last_or, ◌==◌, IsFalse, IsTrue, Option, Some, map, unwrap_or, ne_eqb, append-nil, get_or_append_left, map-append, All-cons, All-nil, All-push, filter-append, fold-append, get_or-append_seam, dvd_trans, Divides, IsGroup, IsSpacing, first_place, is_of, keys_of, last_place, places, with_key, Group, Head, Key, IsAdded}
 use Rattle.std.proofs.lemmas.List.{length-append}
 

@@ -1,4 +1,4 @@
--- Tests that are done one after the other.
+-- Tests that are done in order.
 use Rattle.ubi_detect.proofs.Prelude.{◌≡◌, Bool, true, false, ap, sym, ◌∙◌, ◌&&◌, ◌||◌}
 
 module _ (a b c : Bool) where

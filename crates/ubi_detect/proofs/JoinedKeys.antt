@@ -1,4 +1,4 @@
--- Headers that are of one group, one after the other.
+-- Headers that are of one group, in order.
 use Rattle.ubi_detect.proofs.Prelude.{◌≡◌, ℕ, ◌+◌, ◌*◌, ◌<◌, ◌⊎◌, true, List, inl, inr, refl, ap, sym, ◌∙◌, subst, arith, ◌||◌, ◌==◌, IsTrue, None, Some, and_from, and_parts, eq-eqb, eqb-true, or_cases, or_left, or_right, none-some, same_Some, below_or_last, is_of, key_at, Key, AreJoined, HasHeadOf, IsJoined, NoneJoined, NoneOwns}
 
 -- what it is that a header belongs to a group

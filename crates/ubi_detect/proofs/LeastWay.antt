@@ -1,5 +1,4 @@
--- Of what is told of a file the first has the least page, and where pages have no out-of-band bytes nothing else
--- differs.
+-- The first of what is found in a file has the least page, and if pages have no out-of-band bytes nothing else differs.
 use Rattle.ubi_detect.proofs.Prelude.{◌≡◌, ℕ, suc, ◌-◌, ◌/◌, ◌%◌, ◌*◌, ◌≤◌, Bool, true, false, cond, List, [], ◌∷◌, ◌++◌, refl, sym, subst, arith, then_some, ◌∣◌, All, AllByRecursion, AllPairs, cons_option, filter_map, flat_map, Contains, option_map, nat_le, nat_lt, ◌==◌, ◌&&◌, nat_tests, All-append, All-cons, All-contains, All-from_recursion, All-head, All-map, All-nil, All-tail, All-weaker, AllPairs-cons, AllPairs-filter, dvd_of_mod-eq-zero, dvd_refl, mod_self, page_sizes, with_page, EcOffsets, AreDetected, is_laid_out, sizes_of, end_of_image, has_vote, is_voted, is_without, start_of_image, told, told_by, told_ways, ways_with, ways_without, page_counts, plain_way, way_of, Detected, Group, Way}
 use Rattle.std.proofs.Common.{map}
 use Rattle.std.specs.Prelude.{filter}

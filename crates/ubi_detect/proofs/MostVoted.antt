@@ -1,4 +1,4 @@
--- Ways that have the most votes, one after the other.
+-- Ways that have the most votes, in order.
 use Rattle.ubi_detect.proofs.Prelude.{◌≡◌, ◌∙◌, ◌++◌, ◌∷◌, [], ◌+◌, ◌<◌, ◌≤◌, Bool, true, false, cond, List, length, ap, sym, take, get_or, ℕ, arith, filter, fold, ◌&&◌, ◌==◌, IsFalse, map, max, nat_lt, le-ltb, lt-ltb, or_from, or_right, append-nil, get_or-map, filter_more, has_no_page, has_vote, is_voted, is_without, told_ways, top_vote, votes, ways_with, ways_without, has_no_way, Group, Way, Ways, AreWays, is_most_voted}
 
 module _ (f : Way → ℕ) (ws : List Way) (vs : List ℕ) (are : vs ≡ map f ws) (i : ℕ) (d : Way) (inside : i < length ws) (found : List Way)

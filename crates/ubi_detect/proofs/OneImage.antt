@@ -1,4 +1,4 @@
--- A file holds one image at most, and what is told of it is one list or one cause.
+-- A file holds at most one image, and what is found in it is one list or one cause.
 use Rattle.ubi_detect.proofs.Prelude.{◌≡◌, ℕ, List, inl, inr, ap, sym, ◌∙◌, arith, slice_index_or, IsWhole, OneDetection, OneFound, OneImage, TwoHeaders, IsImage, no_key, first_place, heads_of, keys_of, last_place, places, told, Group, Head}
 use Rattle.ubi_detect.proofs.BestGroup.{same_count, same_size}
 use Rattle.ubi_detect.proofs.OnePlain.{one_plain, same_groups}

@@ -1,4 +1,4 @@
--- A file is plainly the image of one group at most.
+-- A file is plainly the image of at most one group.
 use Rattle.ubi_detect.proofs.Prelude.{◌≡◌, ℕ, ◌+◌, ◌*◌, ◌/◌, ◌%◌, ◌<◌, ◌≤◌, ◌⊎◌, List, inl, inr, ap, sym, ◌∙◌, subst, arith, IsFalse, IsTrue, mod-eq_of_lt, mul-le-mul_right, true≢false, none-some, same_Some, below_same_or_above, key_at, step, NonePlain, IsPlain, has_inner_start, is_sure, NoneAlone, NotPlain, Group, Key}
 use Rattle.ubi_detect.proofs.JoinedKeys.{Owns, owns}
 use Rattle.ubi_detect.proofs.PlainSizes.{second}

@@ -1,4 +1,4 @@
--- A file of which something is told isn't refused, and else it is refused for one cause at most.
+-- A file in which something is found isn't refused; and a file is refused for at most one cause.
 use Rattle.ubi_detect.proofs.Prelude.{◌≡◌, ◌≢◌, ℕ, ◌-◌, ◌<◌, ◌≤◌, List, [], length, inl, inr, refl, ap, sym, ◌∙◌, arith, IsFalse, true≢false, below_same_or_above, AreDetected, IsFound, IsUndetected, IsWhole, NonePlain, DetectedOrNot, OneUndetected, IsImage, heads_of, key_count, most_keys, end_of_last, has_no_page, told, is_sure, Detected, Undetected, Group}
 use Rattle.ubi_detect.specs.declared.detect.Undetected.TheVariants as cause
 use Rattle.ubi_detect.proofs.OneImage.{one_found, same_group, same_whole}

@@ -1,4 +1,4 @@
--- The geometry of an image is among those that are told of it.
+-- The geometry of an image is among those that are found for it.
 use Rattle.ubi_detect.proofs.Prelude.{◌≡◌, ℕ, Bool, true, false, List, [], ◌∷◌, cond, length, zero, suc, refl, ap, sym, ◌∙◌, subst, arith, Contains, Option, Some, None, is_none, map, option_map, ◌==◌, ◌&&◌, ◌||◌, cons_option, filter_map, list_any, then_some, eqb-true, eq-eqb, nat_tests, Sizes, page_sizes, first_broken, GeometryOfImage, OutOfBandOfImage, AreDetected, IsFound, data_place, is_laid_out, sizes_of, end_of_image, has_vote, is_voted, start_of_image, told, told_by, told_ways, ways_with, ways_without, plain_way, Detected, Group, Way}
 use Rattle.std.proofs.Common.{true≢false}
 use Rattle.std.specs.Prelude.{filter}

@@ -1,4 +1,4 @@
--- The group of an image that lies in a file is that of its own headers, so many bytes further behind.
+-- The group of an image that lies in a file is that of its own headers, that much further on.
 use Rattle.ubi_detect.proofs.Prelude.{◌≡◌, ◌≢◌, ℕ, ◌+◌, ◌-◌, ◌<◌, ◌≤◌, ◌⊎◌, Bool, true, false, cond, List, [], ◌∷◌, ◌++◌, length, zero, suc, inl, inr, refl, ap, sym, ◌∙◌, subst, arith, ◌∣◌, filter, fold, last_or, list_all, list_any, ◌==◌, ◌&&◌, ◌||◌, IsTrue, Some, map, not, slice_index_or, unwrap_or, and_from, and_parts, eqb-true, not-true, or_left, or_right, true≢false, nat_eq_equiv, append-nil, get_or-map, length-map, map-append, filter-append, list_all-append, list_any-append, list_any_at, Divides, IsGroup, IsImage, IsSpacing, Says, no_key, spoken, first_place, heads_of, is_of, keys_of, last_place, places, same_key, same_offsets, speaks, with_key, PartOfFile, moved, Group, Head, Key}
 use Rattle.ubi_detect.proofs.BestGroup.{same_spoken}
 use Rattle.ubi_detect.proofs.NewGroups.{any_key, any_map}

@@ -1,4 +1,4 @@
--- The headers of a file in which some bytes lie: those before them, their own, and those behind them.
+-- The headers of a file in which some bytes lie: those before them, their own, and those after them.
 use Rattle.ubi_detect.proofs.Prelude.{◌≡◌, ℕ, ◌+◌, ◌-◌, ◌*◌, ◌/◌, ◌<◌, ◌≤◌, ◌⊎◌, Bool, true, List, [], ◌++◌, length, slice_range, zero, suc, inl, inr, refl, ap, sym, ◌∙◌, arith, list_all, option_to_list, ◌&&◌, None, Option, Some, map, not, option_map, mod-add-div', and_from, not_from_false, append-nil, map-append, list_all-append, heads_of, heads_to, is_of, key_at, key_in, step, LiesAt, NoneOutside, Head, Key, head_in, append_assoc}
 use Rattle.ubi_detect.proofs.Surveyed.{heads_more, inner_range}
 

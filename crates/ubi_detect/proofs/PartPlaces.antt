@@ -1,4 +1,4 @@
--- Where an image begins and ends that lies in a file.
+-- Where an image that lies in a file begins and ends.
 use Rattle.ubi_detect.proofs.Prelude.{◌≡◌, ℕ, ◌+◌, ◌-◌, ◌*◌, ◌/◌, ◌<◌, ◌≤◌, List, length, inl, inr, ap, ◌∙◌, arith, IsFalse, dvd-sub, lt-div-mul-add, mod-add-div', mul-le-mul_right, le-div, dvd_of_mod-eq-zero, le_of_dvd, within_or_past, Says, heads_of, places, step, LiesAt, PlaceOfPart, moved, blanks_before, blanks_behind, end_of_image, end_of_last, start_of_image, is_blank, Group}
 use Rattle.ubi_detect.proofs.OnGrid.{between}
 use Rattle.ubi_detect.proofs.OnePlain.{next_mul}

@@ -1,4 +1,4 @@
--- The size of an image in a file is sure where it is in the image's own bytes.
+-- The size of an image in a file is sure if it is in the image's own bytes.
 use Rattle.ubi_detect.proofs.Prelude.{◌≡◌, ℕ, ◌+◌, ◌-◌, ◌*◌, ◌/◌, ◌%◌, ◌≤◌, Bool, true, false, List, length, refl, ap, sym, ◌∙◌, arith, All, ◌==◌, ◌&&◌, ◌||◌, nat_le, nat_lt, not, mul-div-le, mul-le-mul_right, and_parts, leb-true, slots, record_size, vid_magic, step, layout, HoldsPart, SureOfPart, moved, count_starts, all_are, are_no_parts, copy_at, end_in, ends_blank, goes_on, has_room, have_copies, holds_table, is_blank, is_filled, is_hole, is_prime, is_seen, is_start, is_sure, is_whole_size, looked_at, may_be_parts, may_be_size, meet_in, meets, number_at, says_so, some_ends_blank, some_inner, some_part, some_start, tables_meet, plain_ways, put, ways, Group, Way}
 use Rattle.ubi_detect.proofs.OnePlain.{next_mul}
 use Rattle.ubi_detect.proofs.PartPlaces.{first_or_behind, size_of_unit}

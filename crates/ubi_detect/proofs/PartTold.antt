@@ -1,4 +1,4 @@
--- What is told of an image in a file is what the image's own bytes tell.
+-- What is found for an image in a file is what is found in the image's own bytes.
 use Rattle.ubi_detect.proofs.Prelude.{◌≡◌, ◌≢◌, ℕ, ◌+◌, ◌-◌, ◌≤◌, cond, List, [], ◌∷◌, length, inr, refl, ap, sym, ◌∙◌, arith, All, filter, fold, ◌==◌, ◌&&◌, ◌||◌, map, max, nat_lt, vid_magic, HoldsPart, StandsAlone, ToldOfPart, further, moved, end_of_image, has_vid, has_vote, is_voted, is_without, start_of_image, told, told_by, told_ways, top_vote, votes, ways_with, ways_without, has_no_way, Detected, Group, Way}
 use Rattle.ubi_detect.proofs.PartGroups.{part_of_file}
 use Rattle.ubi_detect.proofs.PartPlaces.{place_of_part}

@@ -1,4 +1,4 @@
--- Tests of numbers from 0 on, one after the other.
+-- Tests of numbers from 0 on, in order.
 use Rattle.ubi_detect.proofs.Prelude.{◌≡◌, ℕ, ◌+◌, ◌<◌, Bool, true, false, cond, [], ◌∷◌, zero, suc, inl, inr, refl, ap, sym, ◌∙◌, arith, list_all, list_any, range_with_len, ◌&&◌, ◌||◌, count_by, and_from, and_left, and_right, or_from, or_left, or_right, list_all-append, list_any-append, fold-append, below_or_last}
 use Rattle.ubi_detect.proofs.Surveyed.{range_more}
 

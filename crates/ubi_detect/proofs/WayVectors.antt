@@ -1,5 +1,5 @@
 -- The pages that eraseblocks of a size and of offsets may have, on literals: the least first, and each a divisor of
--- those behind it.
+-- those after it.
 use Rattle.ubi_detect.proofs.Prelude.{◌≡◌, ℕ, List, [], ◌∷◌, refl, first_broken, EcOffsets, plain_ways, ways, Way}
 use Rattle.std.proofs.Common.{map}
 

@@ -1,4 +1,4 @@
--- What is found of a row of numbers, one after the other.
+-- What is found for a row of numbers, in order.
 use Rattle.ubi_detect.proofs.Prelude.{◌≡◌, ℕ, ◌+◌, ◌<◌, List, [], ◌∷◌, ◌++◌, length, take, get_or, ap, sym, ◌∙◌, Option, Some, None, cons_option, filter_map, flat_map, append-nil, take_more, flat_map-append, filter_map-append, append_assoc}
 
 module _ {X : Type 0} (f : ℕ → Option X) (xs : List ℕ) (i d : ℕ) (inside : i < length xs) (before found : List X)

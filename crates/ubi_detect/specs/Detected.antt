@@ -1,4 +1,4 @@
--- What is detected of the geometry of a file, or why nothing is.
+-- What is detected about the geometry of a file, or why nothing is.
 use Rattle.std.specs.Prelude.{◌≡◌, ◌≢◌, ℕ, ◌-◌, ◌<◌, ◌≤◌, ◌⊎◌, IsFalse, IsTrue, List, [], Result, Err, length}
 use Rattle.ubi_detect.specs.Groups.{IsImage}
 use Rattle.ubi_detect.specs.Heads.{heads_of, key_count, most_keys}
@@ -17,8 +17,8 @@ use Rattle.ubi_detect.specs.declared.groups.Group.{Group}
 abbrev pub NonePlain : List ℕ → Type 0
 NonePlain bytes = (g : Group) → IsSurelyPlain bytes g → ⊥
 
--- this is the group of the image that its headers say, where none plainly is and they name few keys, of which the last eraseblock is
--- all there
+-- this is the group of the image that the headers of a file say, if none plainly is, the headers name few keys, and the last
+-- eraseblock of the image is all there
 pub record IsWhole (bytes : List ℕ) (g : Group) : Type 0 where
   pub none : NonePlain bytes
   pub few : key_count bytes ≤ most_keys
@@ -30,22 +30,22 @@ pub record IsWhole (bytes : List ℕ) (g : Group) : Type 0 where
 abbrev pub IsFound : List ℕ → Group → Type 0
 IsFound bytes g = IsSurelyPlain bytes g ⊎ (IsWhole bytes g × IsTrue (is_sure bytes g))
 
--- this is what is told of a file
+-- this is what is found in a file
 pub record AreDetected (bytes : List ℕ) (found : List Detected) : Type 0 where
   pub group : Group
   pub is : IsFound bytes group
   pub are : found ≡ told bytes group
   pub some : found ≢ []
 
--- why nothing is told
+-- why nothing is found
 abbrev pub IsUndetected : List ℕ → Undetected → Type 0
--- no header stands in it
+-- no header stands in the file
 IsUndetected bytes cause.NoHeader = heads_of bytes ≡ []
--- some do, but they name too many keys, or no group says a size, or it isn't sure
+-- headers do, but they name too many keys, or no group says a size, or the size isn't sure
 IsUndetected bytes cause.NoSize =
     (heads_of bytes ≢ []) × NonePlain bytes × ((most_keys < key_count bytes)
     ⊎ (((j : ℕ) (g : Group) → IsImage (heads_of bytes) j g → ⊥) ⊎ ((g : Group) × IsWhole bytes g × IsFalse (is_sure bytes g))))
--- they name few, and of the last eraseblock of the image only so many bytes are there
+-- they name few keys, and only `rest` bytes of the last eraseblock of the image are there
 IsUndetected bytes (cause.Length size rest) =
     NonePlain bytes × (key_count bytes ≤ most_keys) × ((j : ℕ) × (g : Group) × IsImage (heads_of bytes) j g × (length bytes < end_of_last g) × (size ≡ g.size)
     × (rest ≡ length bytes - g.last))
@@ -56,22 +56,22 @@ IsUndetected bytes (cause.OutOfBand size) =
 IsUndetected bytes (cause.Page size o) =
     (g : Group) × IsFound bytes g × (told bytes g ≡ []) × IsTrue (has_no_page g) × (size ≡ g.size) × (o ≡ g.key.offsets)
 
--- what is known of a source afterwards: one read has failed where the answer is Read, and none where it isn't
+-- what is known of a source afterwards: one read has failed if the answer is Read, and none if it isn't
 abbrev pub after_detecting : {A : Type 0} → Source → Result A DetectError → Source
 after_detecting k (Err (error.Read _)) = failed k
 after_detecting k _ = k
 
--- the place of a read that failed is that where it began
+-- the answer names the place where a failed read began
 abbrev pub NamesPlace : ℕ → DetectError → Type 0
 NamesPlace at (error.Read place) = place ≡ at
 NamesPlace at _ = Unit {0}
 
--- what is told of a source: that of whatever it may hold
+-- what is found in a source: it is right for whatever the source may hold
 abbrev pub AreDetectedOf : Agreed → List Detected → Type 0
 AreDetectedOf agrees found = WhereHeld agrees (λ bytes. AreDetected bytes found)
 
--- why nothing is told of a source: for a cause that stands in whatever it may hold, since a read that began in it failed, or since
--- memory ran out
+-- why nothing is found in a source: for a cause that applies to whatever it may hold; or a read that began in it failed; or memory
+-- ran out
 abbrev pub IsDetectError : Source → Agreed → DetectError → Type 0
 IsDetectError k agrees (error.Undetected c) = WhereHeld agrees (λ bytes. IsUndetected bytes c)
 IsDetectError k agrees (error.Read at) = at < k.size

@@ -1,11 +1,11 @@
--- What is printed where no geometry is told of a file.
+-- The texts that are printed if no geometry is found in a file.
 use Rattle.std.specs.Prelude.{ℕ, List, ◌++◌, codes, decimal}
 use Rattle.ubi_detect.specs.declared.detect.DetectError.{DetectError}
 use Rattle.ubi_detect.specs.declared.detect.DetectError.TheVariants as detect
 use Rattle.ubi_detect.specs.declared.detect.Undetected.{Undetected}
 use Rattle.ubi_detect.specs.declared.detect.Undetected.TheVariants as cause
 
--- the text of why no geometry is told of a file
+-- the text that says why no geometry is found in a file
 abbrev pub undetected_text : Undetected → List ℕ
 undetected_text cause.NoHeader = codes "F1 NoHeader"
 undetected_text cause.NoSize = codes "F2 NoSize"
@@ -14,7 +14,7 @@ undetected_text (cause.OutOfBand size) = codes "F5 OutOfBand peb=" ++ decimal si
 undetected_text (cause.Page size o) =
     codes "F6 Page peb=" ++ decimal size ++ codes " vid=" ++ decimal o.vid_offset ++ codes " data=" ++ decimal o.data_offset
 
--- the text of why the geometry of a source isn't detected
+-- the text that says why the geometry of a source isn't detected
 abbrev pub detect_error_text : DetectError → List ℕ
 detect_error_text (detect.Undetected c) = undetected_text c
 detect_error_text (detect.Read at) = codes "a read failed at=" ++ decimal at

@@ -1,4 +1,4 @@
--- What a group of headers says of the size of eraseblocks, and which group is that of the image.
+-- What a group of headers says about the size of eraseblocks, and which group is that of the image.
 use Rattle.std.specs.Prelude.{◌≡◌, ℕ, ◌-◌, ◌*◌, ◌<◌, ◌≤◌, ◌⊎◌, IsTrue, List, length, slice_index_or}
 use Rattle.std.specs.Int.{◌∣◌}
 use Rattle.std.specs.List.{All}
@@ -7,7 +7,7 @@ use Rattle.ubi_detect.specs.declared.groups.Group.{Group}
 use Rattle.ubi_detect.specs.declared.heads.Head.{Head}
 use Rattle.ubi_detect.specs.declared.heads.Key.{Key}
 
--- an eraseblock has at most so many bytes
+-- how many bytes an eraseblock has at most
 abbrev pub greatest_size : ℕ
 greatest_size = 16777216
 
@@ -15,7 +15,7 @@ greatest_size = 16777216
 abbrev pub Divides : ℕ → List ℕ → Type 0
 Divides q ps = All (λ p. q ∣ (p - first_place ps)) ps
 
--- q is the greatest common divisor of the distances of places; it is 0 where these are one place or none
+-- q is the greatest common divisor of the distances of places; it is 0 if there is one place or none
 pub record IsSpacing (ps : List ℕ) (q : ℕ) : Type 0 where
   pub divides : Divides q ps
   pub greatest : (r : ℕ) → Divides r ps → r ∣ q
@@ -27,7 +27,7 @@ pub record IsGroup (heads : List Head) (g : Group) : Type 0 where
   pub count : g.count ≡ length (places heads g.key)
   pub size : IsSpacing (places heads g.key) g.size
 
--- no key, where one is asked for behind the last one
+-- no key, if one is asked for after the last
 abbrev pub no_key : Key
 no_key = record { offsets = record { vid_offset = 0; data_offset = 0 }; image_seq = 0 }
 
@@ -41,12 +41,12 @@ pub record Says (heads : List Head) (j : ℕ) (g : Group) : Type 0 where
   pub from : 1 ≤ g.size
   pub to : g.size ≤ greatest_size
 
--- how many bytes a group speaks for: for each header but the last one those of an eraseblock
+-- how many bytes a group speaks for: those of an eraseblock for each header but the last
 abbrev pub spoken : Group → ℕ
 spoken g = (g.count - 1) * g.size
 
--- the image of the headers is that of the key j: no group speaks for more bytes, and of those that speak for as many none has an
--- earlier key
+-- the image of the headers is that of the key j: no group speaks for more bytes, and none that speaks for as many has an earlier
+-- key
 pub record IsImage (heads : List Head) (j : ℕ) (g : Group) : Type 0 where
   pub says : Says heads j g
   pub most : (i : ℕ) (f : Group) → Says heads i f → (spoken f < spoken g) ⊎ ((spoken f ≡ spoken g) × (j ≤ i))

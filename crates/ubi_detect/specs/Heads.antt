@@ -7,16 +7,16 @@ use Rattle.ubi_media.specs.declared.ec.EcStart.TheVariants as start
 use Rattle.ubi_detect.specs.declared.heads.Head.{Head}
 use Rattle.ubi_detect.specs.declared.heads.Key.{Key}
 
--- headers are looked for at multiples of so many bytes
+-- headers are looked for at multiples of this many bytes
 abbrev pub step : ℕ
 step = 64
 
--- what 64 bytes name that start so: offsets and an image sequence number, if they are a header
+-- what 64 bytes that start so name: offsets and an image sequence number, if they are a header
 abbrev pub key_by : List ℕ → EcStart → Option Key
 key_by front (start.Header o) = Some (record { offsets = o; image_seq = (ec_fields front).image_seq })
 key_by front _ = None
 
--- the same, of 64 bytes
+-- what 64 bytes name, if they are a header
 abbrev pub key_in : List ℕ → Option Key
 key_in front = key_by front (ec_start front)
 
@@ -40,7 +40,7 @@ heads_of bytes = heads_to bytes (length bytes / step)
 abbrev pub same_offsets : Key → Key → Bool
 same_offsets k l = (k.offsets.vid_offset == l.offsets.vid_offset) && (k.offsets.data_offset == l.offsets.data_offset)
 
--- and the same number
+-- whether two headers name the same offsets and the same number
 abbrev pub same_key : Key → Key → Bool
 same_key k l = same_offsets k l && (k.image_seq == l.image_seq)
 
@@ -48,7 +48,7 @@ same_key k l = same_offsets k l && (k.image_seq == l.image_seq)
 abbrev pub is_of : Key → Key → Bool
 is_of k l = same_offsets k l && ((l.image_seq == k.image_seq) || (l.image_seq == 0))
 
--- one key more, where it isn't among them
+-- keys with one more, if it isn't among them
 abbrev pub with_key : List Key → Key → List Key
 with_key keys k = if list_any (same_key k) keys then keys else keys ++ k ∷ []
 
@@ -60,11 +60,11 @@ keys_of heads = fold with_key [] (map (λ h. h.key) heads)
 abbrev pub key_count : List ℕ → ℕ
 key_count bytes = length (keys_of (heads_of bytes))
 
--- headers may name so many: each header is compared with all keys that were named before
+-- headers may name this many keys: each header is compared with all keys that were named before
 abbrev pub most_keys : ℕ
 most_keys = 256
 
--- whether the group of k speaks for an image: it has a number, or no header of its offsets has
+-- whether the group of k speaks for an image: it has a number, or no header with its offsets has one
 abbrev pub speaks : List Key → Key → Bool
 speaks keys k = not (k.image_seq == 0) || list_all (λ l. not (same_offsets k l) || (l.image_seq == 0)) keys
 
@@ -76,6 +76,6 @@ places heads k = map (λ h. h.place) (filter (λ h. is_of k h.key) heads)
 abbrev pub first_place : List ℕ → ℕ
 first_place ps = slice_index_or ps 0 0
 
--- the last of them
+-- the last of places
 abbrev pub last_place : List ℕ → ℕ
 last_place ps = unwrap_or (last_or None ps) 0

@@ -1,4 +1,4 @@
--- The geometry of a size, of offsets and of a page, where the data begin where Linux has them.
+-- The geometry of a size, of offsets and of a page, if the data begin where Linux has them.
 use Rattle.std.specs.Prelude.{ℕ, ◌+◌, ◌*◌, ◌==◌, ◌&&◌, Bool, Option, is_none}
 use Rattle.std.specs.Int.{div_ceil}
 use Rattle.std.specs.Bool.{then_some}
@@ -6,7 +6,7 @@ use Rattle.ubi_media.specs.Geometry.{Sizes}
 use Rattle.ubi_media.specs.Limits.{first_broken}
 use Rattle.ubi_media.specs.declared.ec.EcOffsets.{EcOffsets}
 
--- the sizes of a device of so many bytes an eraseblock, of a page and of offsets; it may have as many eraseblocks as any
+-- the sizes of a device with eraseblocks of a size, with a page and with offsets; it may have as many eraseblocks as any
 abbrev pub sizes_of : ℕ → EcOffsets → ℕ → Sizes
 sizes_of size o page =
     record { peb_size = size; page = page; vid_offset = o.vid_offset; data_offset = o.data_offset; pebs = 1048576 }

@@ -1,4 +1,4 @@
--- Laws of an image that lies in a file, with anything before it and behind it: the file tells of it what its own bytes tell.
+-- Laws of an image that lies in a file, with anything before and after it: the file shows the same image as the image's own bytes.
 use Rattle.std.specs.Prelude.{◌≡◌, ◌≢◌, ℕ, ◌+◌, ◌-◌, ◌*◌, ◌%◌, ◌<◌, ◌≤◌, ◌⊎◌, IsFalse, IsTrue, List, [], Some, length, map, slice_range}
 use Rattle.ubi_detect.specs.Detected.{AreDetected, IsWhole, NonePlain}
 use Rattle.ubi_detect.specs.Groups.{Says, spoken}
@@ -15,38 +15,38 @@ pub record LiesAt (file : List ℕ) (at : ℕ) (part : List ℕ) : Type 0 where
   pub inside : at + length part ≤ length file
   pub bytes : slice_range file at (at + length part) ≡ part
 
--- and their headers say a group, whose last eraseblock is all there
+-- such bytes have headers that say a group, whose last eraseblock is all there
 pub record HoldsPart (file : List ℕ) (at : ℕ) (part : List ℕ) (g : Group) : Type 0 where
   pub lies : LiesAt file at part
   pub index : ℕ
   pub says : Says (heads_of part) index g
   pub whole : end_of_last g ≤ length part
 
--- each header that isn't all in the n bytes from a place on is of another image than those of k
+-- each header that doesn't lie within the n bytes from a place on is of another image than those of k
 abbrev pub NoneOutside : List ℕ → ℕ → ℕ → Key → Type 0
 NoneOutside file at n k = (u : ℕ) (l : Key) → u * step + step ≤ length file → key_at file (u * step) ≡ Some l
     → (u * step < at) ⊎ (at + n < u * step + step) → IsFalse (is_of k l) × IsFalse (is_of l k)
 
--- nothing else is told of the file: no header outside is of the group's image, no other group speaks for as many bytes, and the file
--- is neither plainly an image nor one of too many keys
+-- nothing else is found in the file: no header outside is of the group's image, no other group speaks for as many bytes, and the
+-- file is neither plainly an image nor one of too many keys
 pub record IsForemost (file : List ℕ) (at : ℕ) (part : List ℕ) (g : Group) : Type 0 where
   pub none : NoneOutside file at (length part) g.key
   pub most : (j : ℕ) (f : Group) → Says (heads_of file) j f → f.key ≢ g.key → spoken f < spoken g
   pub plain : NonePlain file
   pub few : key_count file ≤ most_keys
 
--- no blank eraseblock lies right before the image, and none right behind it, unless these bytes have all of it
+-- no blank eraseblock lies right before the image, and none right after it, unless these bytes have all of it
 pub record StandsAlone (file : List ℕ) (at : ℕ) (part : List ℕ) (g : Group) : Type 0 where
   pub before : start_of_image part g < g.size → g.size ≤ at + start_of_image part g
       → IsFalse (is_blank file (at + start_of_image part g - g.size))
   pub behind : length part < end_of_image part g + g.size → at + end_of_image part g + g.size ≤ length file
       → IsFalse (is_blank file (at + end_of_image part g))
 
--- the group of the same headers, so many bytes further behind
+-- the group of the same headers, this many bytes further on
 abbrev pub moved : ℕ → Group → Group
 moved at g = record g { first = at + g.first; last = at + g.last }
 
--- the same geometry, and an image so many bytes further behind
+-- the same geometry, and an image this many bytes further on
 abbrev pub further : ℕ → Detected → Detected
 further at d = record d { start = at + d.start }
 
@@ -55,7 +55,7 @@ abbrev pub PartOfFile : Type 0
 PartOfFile = (file : List ℕ) (at : ℕ) (part : List ℕ) (g : Group) → HoldsPart file at part g → IsForemost file at part g
     → IsWhole file (moved at g)
 
--- its size is sure where it is in its own bytes
+-- the size of the image is sure in the file if it is in its own bytes
 abbrev pub SureOfPart : Type 0
 SureOfPart = (file : List ℕ) (at : ℕ) (part : List ℕ) (g : Group) → HoldsPart file at part g
     → is_sure file (moved at g) ≡ is_sure part g
@@ -65,7 +65,7 @@ abbrev pub PlaceOfPart : Type 0
 PlaceOfPart = (file : List ℕ) (at : ℕ) (part : List ℕ) (g : Group) → HoldsPart file at part g → StandsAlone file at part g
     → (start_of_image file (moved at g) ≡ at + start_of_image part g) × (end_of_image file (moved at g) ≡ at + end_of_image part g)
 
--- and what is told of the file is what its own bytes tell
+-- what is found in the file is what is found in the image's own bytes
 abbrev pub ToldOfPart : Type 0
 ToldOfPart = (file : List ℕ) (at : ℕ) (part : List ℕ) (g : Group) → HoldsPart file at part g → IsForemost file at part g
     → StandsAlone file at part g → IsTrue (is_sure part g) → told part g ≢ [] → AreDetected file (map (further at) (told part g))

@@ -19,7 +19,7 @@ pub record IsPlain (bytes : List ℕ) (g : Group) : Type 0 where
   pub named : (i : ℕ) × (k : Key) × (i < g.count) × (key_at bytes (i * g.size) ≡ Some k) × (k.image_seq ≡ g.key.image_seq)
   pub alone : (u : ℕ) → u * step < 2 * g.size → (u * step) % g.size ≢ 0 → key_at bytes (u * step) ≡ None
 
--- it is plainly the image of the group: also no header of it stands where a part of an eraseblock could begin, and its size is sure
+-- the file is plainly the image of the group: no header of it stands where a part of an eraseblock could begin, and its size is sure
 pub record IsSurelyPlain (bytes : List ℕ) (g : Group) : Type 0 where
   pub plain : IsPlain bytes g
   pub alone : IsFalse (has_inner_start bytes g)

@@ -11,7 +11,7 @@ use Rattle.ubi_detect.specs.declared.way.Way.{Way}
 abbrev pub plain_way : ℕ → EcOffsets → ℕ → Option Way
 plain_way q o page = option_map (λ s. record { geometry = s; oob = 0 }) (geometry_of q o page)
 
--- all of these, the least page first
+-- all pages without out-of-band bytes, the least first
 abbrev pub plain_ways : ℕ → EcOffsets → List Way
 plain_ways q o = filter_map (plain_way q o) page_sizes
 
@@ -19,18 +19,18 @@ plain_ways q o = filter_map (plain_way q o) page_sizes
 abbrev pub page_counts : List ℕ
 page_counts = 16 ∷ 32 ∷ 64 ∷ 128 ∷ 256 ∷ 512 ∷ 1024 ∷ 2048 ∷ []
 
--- a page and the out-of-band bytes behind it, of both of which q bytes are n: at least one for each page, at most a quarter of it
+-- a page of at least 256 bytes with out-of-band bytes, if n of both are q bytes: at least one for each page, at most a quarter of it
 abbrev pub way_of : ℕ → EcOffsets → ℕ → ℕ → Option Way
 way_of q o page n =
     let s = sizes_of (page * n) o page in
     then_some ((q % n == 0) && nat_lt page (q / n) && nat_le 256 page && nat_le (q / n - page) (page / 4) && is_laid_out s)
     (record { geometry = s; oob = q / n - page })
 
--- all of these, the least page first, and of one page the fewest pages first
+-- all pages with out-of-band bytes, the least first, and for one page the fewest pages first
 abbrev pub ways : ℕ → EcOffsets → List Way
 ways q o = flat_map (λ page. filter_map (way_of q o page) page_counts) page_sizes
 
--- whether there is none
+-- whether there is no page with out-of-band bytes
 abbrev pub has_no_way : ℕ → EcOffsets → Bool
 has_no_way q o = length (ways q o) == 0
 

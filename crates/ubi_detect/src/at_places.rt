@@ -14,11 +14,11 @@ use crate::heads::{Key, key_in};
 use byteorder::{BigEndian, ByteOrder};
 use ubi_scan::BlockSource;
 
-/// Fills `out` with the bytes at a place of a source, if all of them are there, and tells whether they are.
+/// Fills `out` with the bytes at a place of a source, if all of them are there, and says whether they are.
 ///
 /// # Errors
 ///
-/// Read where the read failed.
+/// `Read` if the read failed.
 fn read_there<S: BlockSource>(source: &mut S, at: u64, out: &mut [u8]) -> Result<bool, DetectError>
     requires size { (S.known source.old).size < 2 ^ 63 }
     requires some { 1 ≤ length out.old }
@@ -49,7 +49,7 @@ fn are_all(bytes: &[u8], byte: u8) -> bool
 ///
 /// # Errors
 ///
-/// Read where the read failed.
+/// `Read` if the read failed.
 pub fn all_are<S: BlockSource>(
     source: &mut S,
     byte: u8,
@@ -74,11 +74,11 @@ pub fn all_are<S: BlockSource>(
     }
 }
 
-/// The number in the four bytes at a place of a source; 0 where they aren't there.
+/// The number in the four bytes at a place of a source; 0 if they aren't there.
 ///
 /// # Errors
 ///
-/// Read where the read failed.
+/// `Read` if the read failed.
 pub fn number_at<S: BlockSource>(source: &mut S, at: u64) -> Result<u32, DetectError>
     requires { (S.known source.old).size < 2 ^ 63 }
     ensures known { S.known source.new ≡ after_detecting (S.known source.old) result }
@@ -99,7 +99,7 @@ pub fn number_at<S: BlockSource>(source: &mut S, at: u64) -> Result<u32, DetectE
 ///
 /// # Errors
 ///
-/// Read where the read failed.
+/// `Read` if the read failed.
 pub fn key_at<S: BlockSource>(source: &mut S, at: u64) -> Result<Option<Key>, DetectError>
     requires { at + 64 ≤ (S.known source.old).size }
     ensures known { S.known source.new ≡ after_detecting (S.known source.old) result }
@@ -119,7 +119,7 @@ pub fn key_at<S: BlockSource>(source: &mut S, at: u64) -> Result<Option<Key>, De
 ///
 /// # Errors
 ///
-/// Read where the read failed.
+/// `Read` if the read failed.
 pub fn is_start<S: BlockSource>(source: &mut S, group: &Group, at: u64) -> Result<bool, DetectError>
     requires { (S.known source.old).size < 2 ^ 63 }
     ensures known { S.known source.new ≡ after_detecting (S.known source.old) result }

@@ -12,19 +12,19 @@ use crate::detect::DetectError;
 use crate::groups::Group;
 use ubi_scan::BlockSource;
 
-/// A test of what an eraseblock holds that begins at a place of a source.
+/// A test of what the eraseblock at a place of a source holds.
 pub trait BlockTest {
-    // Whether it holds of the eraseblock that begins at a place of some bytes.
+    // Whether it holds for the eraseblock that begins at a place of some bytes.
     ghost holds: { Self → List ℕ → ℕ → Bool };
 
-    // How far behind that place it may look for others.
+    // How far after that place it may look for others.
     ghost reach: { Self → ℕ };
 
-    /// Whether it holds of the eraseblock that begins at a place.
+    /// Whether it holds for the eraseblock that begins at a place.
     ///
     /// # Errors
     ///
-    /// Read where a read failed.
+    /// `Read` if a read failed.
     fn holds<S: BlockSource>(&self, source: &mut S, at: u64) -> Result<bool, DetectError>
         requires size { (S.known source.old).size < 2 ^ 63 }
         requires inside { at + reach self.now < 2 ^ 63 + 2 ^ 33 }
@@ -46,7 +46,7 @@ impl Group {
         (self.last - self.first) / self.size + 1
     }
 
-    /// Where one of these begins.
+    /// Where one of these eraseblocks begins.
     pub fn block_at(&self, i: u64) -> u64
         requires from { 1 ≤ self.now.size }
         requires order { self.now.first ≤ self.now.last }
@@ -63,7 +63,7 @@ impl Group {
 ///
 /// # Errors
 ///
-/// Read where a read failed.
+/// `Read` if a read failed.
 fn start_holds<S: BlockSource, T: BlockTest>(
     source: &mut S,
     group: &Group,
@@ -90,7 +90,7 @@ fn start_holds<S: BlockSource, T: BlockTest>(
 ///
 /// # Errors
 ///
-/// Read where a read failed.
+/// `Read` if a read failed.
 pub fn some_start<S: BlockSource, T: BlockTest>(
     source: &mut S,
     group: &Group,
@@ -113,7 +113,7 @@ pub fn some_start<S: BlockSource, T: BlockTest>(
     Ok(false)
 }
 
-/// One for what holds, none for what doesn't.
+/// 1 for what holds, 0 for what doesn't.
 fn one_if(holds: bool) -> u64
     ensures value { result ≡ (if holds then 1 else 0) }
     ensures few { result ≤ 1 }
@@ -125,7 +125,7 @@ fn one_if(holds: bool) -> u64
 ///
 /// # Errors
 ///
-/// Read where a read failed.
+/// `Read` if a read failed.
 pub fn count_starts<S: BlockSource, T: BlockTest>(
     source: &mut S,
     group: &Group,

@@ -27,7 +27,7 @@ use ubi_scan::BlockSource;
 pub struct Detected {
     /// The geometry, of a device with as many eraseblocks as any may have.
     pub geometry: Geometry,
-    /// How many out-of-band bytes lie behind each page.
+    /// How many out-of-band bytes follow each page.
     pub oob: u32,
     /// Where the image begins.
     pub start: u64,
@@ -35,7 +35,7 @@ pub struct Detected {
     pub length: u64,
 }
 
-/// Why no geometry is told of a file.
+/// Why no geometry is found in a file.
 #[derive(Clone, Copy, Debug, PartialEq, Eq)]
 pub enum Undetected {
     /// No erase-counter header stands at a multiple of 64.
@@ -43,7 +43,7 @@ pub enum Undetected {
     /// Headers name too many offsets and numbers, or no two are of one image, or what stands at the places of its eraseblocks speaks
     /// against the size that they say.
     NoSize,
-    /// The eraseblock of the image's last header isn't all there: the size of one, and how many bytes of it are.
+    /// The eraseblock of the image's last header isn't all there: the size of an eraseblock, and how many bytes of it are there.
     Length(u64, u64),
     /// Eraseblocks of this size may have out-of-band bytes, and no volume-identifier header says how many.
     OutOfBand(u64),
@@ -76,7 +76,7 @@ impl Error for Undetected {}
 /// Why the geometry of a source isn't detected.
 #[derive(Clone, Copy, Debug, PartialEq, Eq)]
 pub enum DetectError {
-    /// None can be told of what it holds.
+    /// No geometry is found in what it holds.
     Undetected(Undetected),
     /// The read that began at this place failed.
     Read(u64),
@@ -114,11 +114,11 @@ impl<T: Drop> From<AllocFailed<T>> for DetectError {
     }
 }
 
-/// What is told of the image of a group.
+/// What is found for the image of a group.
 ///
 /// # Errors
 ///
-/// Undetected with OutOfBand or Page. Read where a read failed. Memory where it ran out.
+/// `Undetected` with `OutOfBand` or `Page`. `Read` if a read failed. `Memory` if memory ran out.
 fn tell<S: BlockSource>(
     alloc: Global,
     source: &mut S,
@@ -147,12 +147,12 @@ fn tell<S: BlockSource>(
     Err(DetectError::Undetected(Undetected::OutOfBand(group.size)))
 }
 
-/// The group of a source that is plainly an image, but for what its eraseblocks hold, if no header of it stands where a part of one
-/// could begin.
+/// The group of a source that is plainly an image, apart from what its eraseblocks hold, if no header of it stands where a part of
+/// one could begin.
 ///
 /// # Errors
 ///
-/// Read where a read failed.
+/// `Read` if a read failed.
 fn plain_group<S: BlockSource>(source: &mut S) -> Result<Option<Group>, DetectError>
     requires { (S.known source.old).size < 2 ^ 63 }
     ensures known { S.known source.new ≡ after_detecting (S.known source.old) result }
@@ -176,7 +176,7 @@ fn plain_group<S: BlockSource>(source: &mut S) -> Result<Option<Group>, DetectEr
 ///
 /// # Errors
 ///
-/// Read where a read failed. Memory where it ran out.
+/// `Read` if a read failed. `Memory` if memory ran out.
 fn plain_image<S: BlockSource>(
     alloc: Global,
     source: &mut S,
@@ -202,11 +202,11 @@ fn plain_image<S: BlockSource>(
     }
 }
 
-/// The group of the image that the headers of a source say, where none plainly is.
+/// The group of the image that the headers of a source say, if none plainly is.
 ///
 /// # Errors
 ///
-/// Undetected with NoHeader, NoSize or Length. Read where a read failed. Memory where it ran out.
+/// `Undetected` with `NoHeader`, `NoSize` or `Length`. `Read` if a read failed. `Memory` if memory ran out.
 fn said_group<S: BlockSource>(alloc: Global, source: &mut S) -> Result<Group, DetectError>
     requires size { (S.known source.old).size < 2 ^ 63 }
     requires none { WhereHeld (S.agrees source.old) NonePlain }
@@ -234,11 +234,11 @@ fn said_group<S: BlockSource>(alloc: Global, source: &mut S) -> Result<Group, De
     Ok(group)
 }
 
-/// The group of the image that the headers of a source say, where none plainly is, and the pages that its eraseblocks may have.
+/// The group of the image that the headers of a source say, if none plainly is, and the pages that its eraseblocks may have.
 ///
 /// # Errors
 ///
-/// Undetected with NoHeader, NoSize or Length. Read where a read failed. Memory where it ran out.
+/// `Undetected` with `NoHeader`, `NoSize` or `Length`. `Read` if a read failed. `Memory` if memory ran out.
 fn found_image<S: BlockSource>(alloc: Global, source: &mut S) -> Result<(Group, Ways), DetectError>
     requires size { (S.known source.old).size < 2 ^ 63 }
     requires none { WhereHeld (S.agrees source.old) NonePlain }
@@ -262,16 +262,16 @@ fn found_image<S: BlockSource>(alloc: Global, source: &mut S) -> Result<(Group, 
 /// The most bytes that a file has.
 const LONGEST: u64 = 0x7FFF_FFFF_FFFF_FFFF;
 
-/// Detects the geometry of a source of which nothing else is known, and which part of it is the image: by the erase-counter headers at
-/// multiples of 64 that name the same offsets and the same image sequence number, or none, as docs/FORMAT.md has it. There is one for
-/// each page that Linux lays out so, the least first; as many eraseblocks as a device may have are given to each. Where a source is
-/// plainly an image its first two eraseblocks are read, and single places of the others; else all of it, from its beginning to its end.
+/// Detects the geometry of a source of which nothing else is known, and which part of it is the image. It uses the erase-counter headers
+/// at multiples of 64 that name the same offsets and the same image sequence number, or none, as docs/FORMAT.md says. There is one answer
+/// for each page that Linux lays out so, the least first; each has as many eraseblocks as a device may have. If a source is plainly an
+/// image, its first two eraseblocks are read, and single places of the others. Otherwise all of it is read, from its beginning to its end.
 ///
 /// # Errors
 ///
-/// Undetected with the first cause that stands: NoHeader; NoSize, where headers name more than 256 keys, which are two offsets and a
-/// number, or where none say a size; Length; NoSize, where it isn't sure; OutOfBand; Page. Read where a read failed. Memory where it ran
-/// out: it needs 100 KiB at most, however long the source is.
+/// `Undetected` with the first cause that applies: `NoHeader`; `NoSize`, if headers name more than 256 keys, which are two offsets and
+/// a number, or if none say a size; `Length`; `NoSize`, if the size isn't sure; `OutOfBand`; `Page`. `Read` if a read failed. `Memory`
+/// if memory ran out: it needs at most 100 KiB, however long the source is.
 pub fn detect_from<S: BlockSource>(
     alloc: Global,
     source: &mut S,

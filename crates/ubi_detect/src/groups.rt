@@ -1,4 +1,4 @@
-//! Headers that are of one image, and what they say of the size of its eraseblocks.
+//! Headers that are of one image, and what they say about the size of its eraseblocks.
 
 ghost use Rattle.std.specs.Int.{IsGcd};
 ghost use Rattle.std.specs.List.{All};
@@ -12,13 +12,13 @@ ghost use Rattle.ubi_detect.specs.inner.Detecting.{AreAdded, AreGroups, AreReady
 use crate::heads::{Head, Key};
 use std::alloc::AllocError;
 
-/// An eraseblock has at most so many bytes.
+/// How many bytes an eraseblock has at most.
 pub const GREATEST_SIZE: u64 = 16_777_216;
 
-/// The headers of a file that isn't plainly an image name at most so many keys.
+/// How many keys the headers of a file that isn't plainly an image name at most.
 pub const MOST_KEYS: usize = 256;
 
-/// The headers of a file that name one key, or the same offsets and no number. It takes the same memory, however many they are.
+/// The headers of a file that name one key, or the same offsets and no number. It takes the same memory, however many there are.
 #[derive(Clone, Copy)]
 pub struct Group {
     /// What they name.
@@ -27,9 +27,9 @@ pub struct Group {
     pub first: u64,
     /// Where the last one begins.
     pub last: u64,
-    /// How many they are.
+    /// How many there are.
     pub count: u64,
-    /// The greatest common divisor of the distances between them: the bytes of an eraseblock; 0 of one header or none.
+    /// The greatest common divisor of the distances between them: the size of an eraseblock in bytes. 0 for one header or none.
     pub size: u64,
 }
 
@@ -103,7 +103,7 @@ fn group_with(groups: &[Group], key: &Key) -> Option<Group>
     groups.iter().copied().find(|group| key.is_same(&group.key))
 }
 
-/// The group of a key that no header has named yet: the headers of its offsets that name no number belong to it.
+/// The group of a key that no header has named yet: headers with its offsets and no number belong to it.
 fn new_group(groups: &[Group], key: &Key) -> Group
     ensures key { result.key ≡ key.now }
     ensures group { (heads : List Head) → AreGroups heads groups.now → has_key groups.now key.now ≡ false → IsGroup heads result }
@@ -146,7 +146,7 @@ fn have_group(groups: &mut Vec<Group>, key: &Key) -> Result<(), AllocError>
     Ok(())
 }
 
-/// Adds a header that stands behind all that were added before.
+/// Adds a header that comes after all that were added before.
 ///
 /// # Errors
 ///
@@ -162,14 +162,14 @@ pub fn add_head(groups: &mut Vec<Group>, head: &Head) -> Result<(), AllocError>
     Ok(())
 }
 
-/// Whether no header of the offsets of a key has a number.
+/// Whether no header with the offsets of a key has a number.
 fn are_unnumbered(groups: &[Group], key: &Key) -> bool
     ensures { result ≡ are_unnumbered groups.now key.now }
 {
     groups.iter().all(|group| key.is_unnumbered_by(&group.key))
 }
 
-/// Whether a group speaks for an image: it has a number, or none of its offsets has.
+/// Whether a group speaks for an image: it has a number, or none with its offsets has.
 fn speaks(groups: &[Group], key: &Key) -> bool
     ensures { result ≡ speaks_among groups.now key.now }
 {
@@ -184,7 +184,7 @@ fn says_size(groups: &[Group], group: &Group) -> bool
 }
 
 impl Group {
-    /// How many bytes it speaks for: for each header but the last one those of an eraseblock.
+    /// How many bytes it speaks for: those of an eraseblock for each header but the last.
     fn spoken(&self) -> u128
         ensures { result ≡ spoken self.now }
     {
@@ -209,7 +209,7 @@ fn is_better(groups: &[Group], group: &Group, best: &Option<Group>) -> bool
     says_size(groups, group) && group.beats(best)
 }
 
-/// The group of the image of a file, of the groups of its headers: the one that speaks for most bytes, of several the first one.
+/// The group of the image of a file, out of the groups of its headers: the one that speaks for the most bytes; if several do, the first.
 pub fn image_among(groups: &[Group]) -> Option<Group>
     ensures within { (n : ℕ) → All (IsWithin n) groups.now → IfSome result (IsWithin n) }
     ensures size { IfSome result (λ g. (1 ≤ g.size) × (g.size ≤ greatest_size) × (2 ≤ g.count)) }

@@ -7,15 +7,15 @@ ghost use Rattle.ubi_detect.specs.Heads.{is_of, key_in, same_key, same_offsets};
 use byteorder::{BigEndian, ByteOrder};
 use ubi_media::{EC_MAGIC, EcOffsets, EcStart, read_start};
 
-/// Headers are looked for at multiples of so many bytes.
+/// Headers are looked for at multiples of this many bytes.
 pub const STEP: u64 = 64;
 
-/// What the headers of one image name alike.
+/// What the headers of one image name in common.
 #[derive(Clone, Copy)]
 pub struct Key {
-    /// The places of the volume-identifier header and of the data in an eraseblock.
+    /// The offsets of the volume-identifier header and of the data in an eraseblock.
     pub offsets: EcOffsets,
-    /// The image sequence number; 0 is none.
+    /// The image sequence number; 0 means none.
     pub image_seq: u32,
 }
 
@@ -42,7 +42,7 @@ impl Key {
         self.has_offsets_of(other) && (other.image_seq == self.image_seq || other.image_seq == 0)
     }
 
-    /// The key of the group to which a header of this key and one of another belong, if there is one.
+    /// The key of the group that has both a header of this key and one of another, if there is one.
     pub fn joined(&self, other: &Key) -> Option<Key>
         ensures { MatchOption result (NoneOwns self.now other.now) (IsJoined self.now other.now) }
     {
@@ -55,7 +55,7 @@ impl Key {
         }
     }
 
-    /// Whether another header gives the offsets of this one no number: it names other offsets, or none.
+    /// Whether another header gives no number to the offsets of this one: it names other offsets, or no number.
     pub fn is_unnumbered_by(&self, other: &Key) -> bool
         ensures { result ≡ not (same_offsets self.now other.now) || (other.now.image_seq == 0) }
     {
@@ -86,7 +86,7 @@ pub fn key_in(bytes: &[u8; 64]) -> Option<Key>
     }
 }
 
-/// The same of the 64 bytes from a place of others on. Most begin with another magic, and aren't looked at further.
+/// What the 64 bytes from a place of others on name, if they are a header. Most begin with another magic, and aren't looked at further.
 pub fn key_within(bytes: &[u8], at: usize) -> Option<Key>
     requires { at + 64 ≤ length bytes.now }
     ensures { result ≡ key_in (slice_range bytes.now at (at + 64)) }

@@ -3,7 +3,7 @@
 ghost use Rattle.ubi_detect.specs.DetectLaws.{DetectedOrNot, DetectedOrRefused, EachOnGrid, GeometryOfImage, GreatestSize, OneDetection, OneFound, OneImage, OneUndetected, OutOfBandOfImage, PlaceOnGrid, SizeOfImage, TwoHeaders};
 ghost use Rattle.ubi_detect.specs.PartLaws.{PartOfFile, PlaceOfPart, SureOfPart, ToldOfPart};
 
-/// The headers of a file say one image at most, and a file holds one at most.
+/// The headers of a file say at most one image, and a file holds at most one.
 pub fn one_image()
     ensures headers { OneImage }
     ensures file { OneFound }
@@ -14,15 +14,15 @@ pub fn two_headers()
     ensures { TwoHeaders }
 {}
 
-/// What is told of a file is one list, a file of which something is told isn't refused, and it is refused for one cause at most.
+/// What is found in a file is one list; a file in which something is found isn't refused; and it is refused for at most one cause.
 pub fn one_detection()
     ensures geometries { OneDetection }
     ensures refusal { DetectedOrNot }
     ensures cause { OneUndetected }
 {}
 
-/// The headers of an image stand at multiples of its size from the first one, up to the last one, and no greater size says so; and the
-/// place that is told of it begins and ends at such multiples.
+/// The headers of an image stand at multiples of its size from the first one, up to the last one, and no greater size has that. The
+/// place that is found for it begins and ends at such multiples.
 pub fn image_on_grid()
     ensures each { EachOnGrid }
     ensures greatest { GreatestSize }
@@ -30,19 +30,19 @@ pub fn image_on_grid()
     ensures place { PlaceOnGrid }
 {}
 
-/// The geometry of an image is among those that are told of it, without out-of-band bytes and with them.
+/// The geometry of an image is among those that are found for it, without out-of-band bytes and with them.
 pub fn geometry_of_image()
     ensures plain { GeometryOfImage }
     ensures out_of_band { OutOfBandOfImage }
 {}
 
-/// Of each file something is told, or it is refused for a cause.
+/// In each file something is found, or it is refused for a cause.
 pub fn detected_or_refused()
     ensures { DetectedOrRefused }
 {}
 
-/// Of a file in which an image lies, with anything before and behind it, what is told is what the image's own bytes tell, so many bytes
-/// further behind: where nothing else in the file is told in its place. So are its group, whether its size is sure, and its place.
+/// If an image lies in a file, with anything before and after it, what is found in the file is what is found in the image's own bytes,
+/// that much further on, unless something else in the file takes its place. So are its group, whether its size is sure, and its place.
 pub fn part_of_file()
     ensures image { PartOfFile }
     ensures sure { SureOfPart }

@@ -1,7 +1,7 @@
-//! The geometry of a file of which nothing else is known, and where in it an image lies: what its own headers say.
+//! The geometry of a file of which nothing else is known, and where in it an image lies, found by the file's own headers.
 //!
-//! [`detect_from`] reads the headers that stand in a file, groups them by what they say, and tells each geometry that those of one image
-//! give, with the part of the file that the image is. It takes any source of `ubi_scan`, and memory for the groups alone. What is told is
+//! [`detect_from`] reads the headers in a file and groups them by what they say. It gives each geometry that the headers of one image
+//! show, with the part of the file that is the image. It takes any source of `ubi_scan`, and memory for the groups alone. Its answer is
 //! exactly what the definitions say of all bytes of the file.
 //!
 //! A caller, proved from the contracts alone (`crates/ubi_uses`):

@@ -18,7 +18,7 @@ use std::alloc::{AllocError, Global};
 use ubi_media::VID_MAGIC;
 use ubi_scan::BlockSource;
 
-/// Whether the magic of a volume-identifier header stands where it does in an eraseblock.
+/// Whether the magic of a volume-identifier header stands in its place in an eraseblock.
 #[derive(Drop)]
 struct HasVid<'a> {
     way: &'a Way,
@@ -39,7 +39,7 @@ impl BlockTest for HasVid<'_> {
 ///
 /// # Errors
 ///
-/// Read where a read failed.
+/// `Read` if a read failed.
 fn blanks_before<S: BlockSource>(source: &mut S, group: &Group) -> Result<u64, DetectError>
     requires size { (S.known source.old).size < 2 ^ 63 }
     requires lies { LiesIn (S.known source.old).size group.now }
@@ -59,11 +59,11 @@ fn blanks_before<S: BlockSource>(source: &mut S, group: &Group) -> Result<u64, D
     Ok(most)
 }
 
-/// How many eraseblocks right behind that of the last header of a group are blank.
+/// How many eraseblocks right after that of the last header of a group are blank.
 ///
 /// # Errors
 ///
-/// Read where a read failed.
+/// `Read` if a read failed.
 fn blanks_behind<S: BlockSource>(source: &mut S, group: &Group) -> Result<u64, DetectError>
     requires size { (S.known source.old).size < 2 ^ 63 }
     requires lies { LiesIn (S.known source.old).size group.now }
@@ -89,7 +89,7 @@ fn blanks_behind<S: BlockSource>(source: &mut S, group: &Group) -> Result<u64, D
 ///
 /// # Errors
 ///
-/// Read where a read failed. Memory where it ran out.
+/// `Read` if a read failed. `Memory` if memory ran out.
 fn votes_of<S: BlockSource>(
     alloc: Global,
     source: &mut S,
@@ -113,7 +113,7 @@ fn votes_of<S: BlockSource>(
     Ok(counts)
 }
 
-/// The greatest of some numbers; 0 where there are none.
+/// The greatest of some numbers; 0 if there are none.
 fn greatest(numbers: &[u64]) -> u64
     ensures { result ≡ fold max 0 numbers.now }
 {
@@ -124,14 +124,14 @@ fn greatest(numbers: &[u64]) -> u64
     greatest
 }
 
-/// Whether so many votes are as many as the most, and one at least.
+/// Whether this many votes are as many as the most, and at least one.
 fn are_most(votes: u64, most: u64) -> bool
     ensures { result ≡ nat_lt 0 votes && (votes == most) }
 {
     votes > 0 && votes == most
 }
 
-/// Those of some ways that have as many votes as the one with most, and one at least.
+/// Those of some ways that have as many votes as the one with most, and at least one.
 ///
 /// # Errors
 ///
@@ -155,7 +155,7 @@ fn most_voted(alloc: Global, ways: &[Way], votes: &[u64]) -> Result<Vec<Way>, Al
 ///
 /// # Errors
 ///
-/// Read where a read failed. Memory where it ran out.
+/// `Read` if a read failed. `Memory` if memory ran out.
 fn voted<S: BlockSource>(
     alloc: Global,
     source: &mut S,
@@ -179,11 +179,11 @@ fn voted<S: BlockSource>(
     Ok(voted)
 }
 
-/// The ways that are told of the eraseblocks of a group, the least page first.
+/// The ways that are found for the eraseblocks of a group, the least page first.
 ///
 /// # Errors
 ///
-/// Read where a read failed. Memory where it ran out.
+/// `Read` if a read failed. `Memory` if memory ran out.
 fn told_ways<S: BlockSource>(
     alloc: Global,
     source: &mut S,
@@ -210,7 +210,7 @@ fn told_ways<S: BlockSource>(
     Ok(most_voted(alloc, ways.with.as_slice(), with.as_slice())?)
 }
 
-/// What is told of ways of an image that lies from one place to another.
+/// What is found for ways of an image that lies from one place to another.
 ///
 /// # Errors
 ///
@@ -231,11 +231,11 @@ fn placed(alloc: Global, ways: &[Way], start: u64, end: u64) -> Result<Vec<Detec
     Ok(found)
 }
 
-/// What is told of the image of a group.
+/// What is found for the image of a group.
 ///
 /// # Errors
 ///
-/// Read where a read failed. Memory where it ran out.
+/// `Read` if a read failed. `Memory` if memory ran out.
 pub fn told<S: BlockSource>(
     alloc: Global,
     source: &mut S,

@@ -1,4 +1,4 @@
-//! Sources that are plainly an image, as whole dumps are: of these the first two eraseblocks are read, and of each the first 64 bytes.
+//! Sources that are plainly an image, as whole dumps are: their first two eraseblocks are read, and the first 64 bytes of each.
 
 ghost use Rattle.std.specs.Prelude.{◌≡◌, ℕ, ◌*◌, ◌+◌, ◌/◌, ◌%◌, ◌<◌, ◌≤◌, ◌^◌, IfErr, IfOk, IfSome, MatchOption, Some};
 ghost use Rattle.ubi_detect.specs.Detected.{NamesPlace, after_detecting};
@@ -20,7 +20,7 @@ use ubi_scan::BlockSource;
 ///
 /// # Errors
 ///
-/// Read where a read failed.
+/// `Read` if a read failed.
 fn first_head<S: BlockSource>(
     source: &mut S,
     from: u64,
@@ -43,11 +43,11 @@ fn first_head<S: BlockSource>(
     Ok(None)
 }
 
-/// The key of the group to which the headers belong with which `count` eraseblocks start, of which the first one names `first`, if they do.
+/// The key of the group to which the headers of `count` eraseblocks belong, if there is one; the first header names `first`.
 ///
 /// # Errors
 ///
-/// Read where a read failed.
+/// `Read` if a read failed.
 fn joined_key<S: BlockSource>(
     source: &mut S,
     first: Key,
@@ -82,7 +82,7 @@ fn joined_key<S: BlockSource>(
 ///
 /// # Errors
 ///
-/// Read where a read failed.
+/// `Read` if a read failed.
 fn plain_size<S: BlockSource>(source: &mut S) -> Result<Option<u64>, DetectError>
     requires size { (S.known source.old).size < 2 ^ 63 }
     requires two { 2 * step ≤ (S.known source.old).size }
@@ -107,11 +107,11 @@ fn plain_size<S: BlockSource>(source: &mut S) -> Result<Option<u64>, DetectError
     }
 }
 
-/// The group of a source that is plainly an image, but for what its eraseblocks hold, if it is.
+/// The group of a source that is plainly an image, apart from what its eraseblocks hold, if it is.
 ///
 /// # Errors
 ///
-/// Read where a read failed.
+/// `Read` if a read failed.
 pub fn read_plain<S: BlockSource>(source: &mut S) -> Result<Option<Group>, DetectError>
     requires { (S.known source.old).size < 2 ^ 63 }
     ensures known { S.known source.new ≡ after_detecting (S.known source.old) result }

@@ -19,7 +19,7 @@ use std::alloc::{AllocError, Global};
 use ubi_media::{EcOffsets, LAYOUT_VOLUME, RECORD_SIZE, VID_MAGIC};
 use ubi_scan::BlockSource;
 
-/// Whether an eraseblock ends with 16 bytes 0xFF, but for so many out-of-band bytes.
+/// Whether an eraseblock ends with 16 bytes 0xFF, apart from its last out-of-band bytes.
 #[derive(Drop)]
 struct EndsBlank {
     size: u64,
@@ -47,7 +47,7 @@ impl BlockTest for EndsBlank {
 ///
 /// # Errors
 ///
-/// Read where a read failed.
+/// `Read` if a read failed.
 fn is_filled<S: BlockSource>(source: &mut S, at: u64) -> Result<bool, DetectError>
     requires size { (S.known source.old).size < 2 ^ 63 }
     ensures known { S.known source.new ≡ after_detecting (S.known source.old) result }
@@ -62,11 +62,11 @@ fn is_filled<S: BlockSource>(source: &mut S, at: u64) -> Result<bool, DetectErro
     Ok(!all_are(source, 0, 64, at)?)
 }
 
-/// Whether something stands at a place behind 16 bytes 0xFF.
+/// Whether something stands at a place after 16 bytes 0xFF.
 ///
 /// # Errors
 ///
-/// Read where a read failed.
+/// `Read` if a read failed.
 fn is_hole<S: BlockSource>(source: &mut S, at: u64) -> Result<bool, DetectError>
     requires size { (S.known source.old).size < 2 ^ 63 }
     ensures known { S.known source.new ≡ after_detecting (S.known source.old) result }
@@ -81,12 +81,11 @@ fn is_hole<S: BlockSource>(source: &mut S, at: u64) -> Result<bool, DetectError>
     all_are(source, 0xFF, 16, at.saturating_sub(16))
 }
 
-/// Whether what an eraseblock holds goes on at a place: so many bytes are neither all 0xFF nor all zero, and don't stand behind 16 bytes
-/// 0xFF.
+/// Whether what an eraseblock holds goes on at a place: `count` bytes are neither all 0xFF nor all zero, and don't follow 16 bytes 0xFF.
 ///
 /// # Errors
 ///
-/// Read where a read failed.
+/// `Read` if a read failed.
 fn goes_on<S: BlockSource>(source: &mut S, count: usize, at: u64) -> Result<bool, DetectError>
     requires size { (S.known source.old).size < 2 ^ 63 }
     requires some { 1 ≤ count }
@@ -110,7 +109,7 @@ fn goes_on<S: BlockSource>(source: &mut S, count: usize, at: u64) -> Result<bool
 ///
 /// # Errors
 ///
-/// Read where a read failed.
+/// `Read` if a read failed.
 fn holds_table<S: BlockSource>(source: &mut S, way: &Way, at: u64) -> Result<bool, DetectError>
     requires size { (S.known source.old).size < 2 ^ 63 }
     requires inside { at < 2 ^ 63 + 2 ^ 34 }
@@ -133,11 +132,11 @@ fn holds_table<S: BlockSource>(source: &mut S, way: &Way, at: u64) -> Result<boo
     Ok(!all_are(source, 0xFF, 64, record)?)
 }
 
-/// Whether two eraseblocks that follow each other hold unlike copies of the volume table, by the numbers of their logical eraseblocks.
+/// Whether two consecutive eraseblocks hold different copies of the volume table, by the numbers of their logical eraseblocks.
 ///
 /// # Errors
 ///
-/// Read where a read failed.
+/// `Read` if a read failed.
 fn have_copies<S: BlockSource>(
     source: &mut S,
     way: &Way,
@@ -190,8 +189,8 @@ impl BlockTest for Meets<'_> {
     }
 }
 
-/// At most so many bytes are looked at where a part of an eraseblock begins: more than a record of the volume table has, whose check is
-/// no zero.
+/// How many bytes are looked at, at most, where a part of an eraseblock begins: more than a record of the volume table has, whose CRC
+/// isn't zero.
 const LOOKED_AT: u64 = 192;
 
 /// Whether what an eraseblock holds goes on at a place.
@@ -213,7 +212,7 @@ impl BlockTest for GoesOn {
     }
 }
 
-/// Whether something stands at a place behind 16 bytes 0xFF.
+/// Whether something stands at a place after 16 bytes 0xFF.
 #[derive(Drop)]
 struct Hole;
 
@@ -243,10 +242,10 @@ impl BlockTest for Starts<'_> {
     }
 }
 
-/// Whether a test holds where a part of an eraseblock would begin, but for the first one.
+/// Whether a test holds where a part of an eraseblock would begin, except the first one.
 #[derive(Drop)]
 struct SomePart<'a, T: BlockTest> {
-    /// The bytes of an eraseblock.
+    /// The size of an eraseblock in bytes.
     size: u64,
     /// How many parts it has.
     parts: u64,
@@ -271,7 +270,7 @@ impl<T: BlockTest> BlockTest for SomePart<'_, T> {
     }
 }
 
-/// The same of the eraseblocks before that of the last header.
+/// The same for the eraseblocks before that of the last header.
 #[derive(Drop)]
 struct SomeInner<'a, T: BlockTest> {
     last: u64,
@@ -292,14 +291,14 @@ impl<T: BlockTest> BlockTest for SomeInner<'_, T> {
     }
 }
 
-/// Whether there is room for data behind the headers in eraseblocks of a size.
+/// Whether eraseblocks of a size have room for data after the headers.
 fn has_room(offsets: &EcOffsets, size: u64) -> bool
     ensures { result ≡ has_room offsets.now size }
 {
     u64::from(offsets.data_offset) + 64 <= size
 }
 
-/// Whether no number but 1 and itself divides a number.
+/// Whether only 1 and itself divide a number.
 fn is_prime(number: u64) -> bool
     ensures { result ≡ is_prime number }
 {
@@ -311,7 +310,7 @@ fn is_prime(number: u64) -> bool
     true
 }
 
-/// Whether eraseblocks of a size may be so many of the true ones.
+/// Whether eraseblocks of a size may be `parts` of the true ones each.
 fn may_be_parts(offsets: &EcOffsets, size: u64, parts: u64) -> bool
     requires some { 1 ≤ parts }
     requires few { parts < 2 ^ 32 }
@@ -320,11 +319,11 @@ fn may_be_parts(offsets: &EcOffsets, size: u64, parts: u64) -> bool
     size % (parts * STEP) == 0 && has_room(offsets, size / parts) && is_prime(parts)
 }
 
-/// Whether the eraseblocks of a group can't be so many of the true ones.
+/// Whether the eraseblocks of a group can't be this many of the true ones each.
 ///
 /// # Errors
 ///
-/// Read where a read failed.
+/// `Read` if a read failed.
 fn are_no_parts<S: BlockSource>(
     source: &mut S,
     group: &Group,
@@ -364,11 +363,11 @@ fn are_no_parts<S: BlockSource>(
     Ok(!some_start(source, group, &hole)?)
 }
 
-/// Whether a number of parts is none that the eraseblocks of a group could be of.
+/// Whether the eraseblocks of a group can't have this number of parts.
 ///
 /// # Errors
 ///
-/// Read where a read failed.
+/// `Read` if a read failed.
 fn is_no_number<S: BlockSource>(
     source: &mut S,
     group: &Group,
@@ -395,7 +394,7 @@ fn is_no_number<S: BlockSource>(
 ///
 /// # Errors
 ///
-/// Read where a read failed.
+/// `Read` if a read failed.
 fn is_whole_size<S: BlockSource>(source: &mut S, group: &Group) -> Result<bool, DetectError>
     requires size { (S.known source.old).size < 2 ^ 63 }
     requires lies { LiesIn (S.known source.old).size group.now }
@@ -413,11 +412,11 @@ fn is_whole_size<S: BlockSource>(source: &mut S, group: &Group) -> Result<bool, 
     Ok(true)
 }
 
-/// Whether two eraseblocks that follow each other hold the two copies of the volume table, in one of some ways.
+/// Whether two consecutive eraseblocks hold the two copies of the volume table, in one of some ways.
 ///
 /// # Errors
 ///
-/// Read where a read failed.
+/// `Read` if a read failed.
 fn meet_in<S: BlockSource>(source: &mut S, group: &Group, ways: &[Way]) -> Result<bool, DetectError>
     requires size { (S.known source.old).size < 2 ^ 63 }
     requires lies { LiesIn (S.known source.old).size group.now }
@@ -435,11 +434,11 @@ fn meet_in<S: BlockSource>(source: &mut S, group: &Group, ways: &[Way]) -> Resul
     Ok(false)
 }
 
-/// Whether an eraseblock ends blank, but for the out-of-band bytes of one of some ways.
+/// Whether an eraseblock ends blank, apart from the out-of-band bytes of one of some ways.
 ///
 /// # Errors
 ///
-/// Read where a read failed.
+/// `Read` if a read failed.
 fn end_in<S: BlockSource>(source: &mut S, group: &Group, ways: &[Way]) -> Result<bool, DetectError>
     requires size { (S.known source.old).size < 2 ^ 63 }
     requires lies { LiesIn (S.known source.old).size group.now }
@@ -495,7 +494,7 @@ fn is_seen(alloc: Global, group: &Group) -> Result<bool, AllocError>
 ///
 /// # Errors
 ///
-/// Read where a read failed.
+/// `Read` if a read failed.
 fn some_ends_blank<S: BlockSource>(
     source: &mut S,
     group: &Group,
@@ -520,11 +519,11 @@ fn some_ends_blank<S: BlockSource>(
     end_in(source, group, with)
 }
 
-/// Whether two eraseblocks that follow each other hold the two copies of the volume table, without out-of-band bytes or with them.
+/// Whether two consecutive eraseblocks hold the two copies of the volume table, without out-of-band bytes or with them.
 ///
 /// # Errors
 ///
-/// Read where a read failed.
+/// `Read` if a read failed.
 fn tables_meet<S: BlockSource>(
     source: &mut S,
     group: &Group,
@@ -550,7 +549,7 @@ fn tables_meet<S: BlockSource>(
 ///
 /// # Errors
 ///
-/// Read where a read failed.
+/// `Read` if a read failed.
 fn says_so<S: BlockSource>(source: &mut S, group: &Group, ways: &Ways) -> Result<bool, DetectError>
     requires size { (S.known source.old).size < 2 ^ 63 }
     requires lies { LiesIn (S.known source.old).size group.now }
@@ -599,7 +598,7 @@ fn may_be_size(alloc: Global, group: &Group) -> Result<bool, AllocError>
 ///
 /// # Errors
 ///
-/// Read where a read failed. Memory where it ran out.
+/// `Read` if a read failed. `Memory` if memory ran out.
 pub fn is_sure<S: BlockSource>(
     alloc: Global,
     source: &mut S,
@@ -622,11 +621,11 @@ pub fn is_sure<S: BlockSource>(
     }
 }
 
-/// Whether a header of a group stands where one of so many parts of an eraseblock would begin, if it may have so many.
+/// Whether a header of a group stands where one of this many parts of an eraseblock would begin, if it may have so many.
 ///
 /// # Errors
 ///
-/// Read where a read failed.
+/// `Read` if a read failed.
 fn has_part_start<S: BlockSource>(
     source: &mut S,
     group: &Group,
@@ -657,7 +656,7 @@ fn has_part_start<S: BlockSource>(
 ///
 /// # Errors
 ///
-/// Read where a read failed.
+/// `Read` if a read failed.
 pub fn has_inner_start<S: BlockSource>(source: &mut S, group: &Group) -> Result<bool, DetectError>
     requires size { (S.known source.old).size < 2 ^ 63 }
     requires lies { LiesIn (S.known source.old).size group.now }

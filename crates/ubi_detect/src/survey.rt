@@ -14,10 +14,10 @@ use crate::heads::{Head, STEP, key_within};
 use std::alloc::{AllocError, Global};
 use ubi_scan::BlockSource;
 
-/// So many bytes are read at once.
+/// How many bytes are read at once.
 const WINDOW: usize = 65_536;
 
-/// Adds the header that 64 bytes of some bytes are, which stand at a place of their file, if they are one.
+/// Adds the header that 64 bytes of some bytes are, if they are one; they stand at a place of their file.
 fn add_unit(groups: &mut Vec<Group>, place: u64, bytes: &[u8], at: usize) -> Result<(), AllocError>
     requires inside { at + 64 ≤ length bytes.now }
     requires place { place < 2 ^ 63 }
@@ -31,8 +31,7 @@ fn add_unit(groups: &mut Vec<Group>, place: u64, bytes: &[u8], at: usize) -> Res
     }
 }
 
-/// Adds the headers that stand in bytes, which begin at a place of their file, until there are too many groups. Answers whether there are
-/// few.
+/// Adds the headers in some bytes, which begin at a place of their file, until there are too many groups. Returns whether there are few.
 fn add_heads(groups: &mut Vec<Group>, place: u64, bytes: &[u8]) -> Result<bool, AllocError>
     requires place { place % step ≡ 0 }
     requires end { place + length bytes.now < 2 ^ 63 }
@@ -52,12 +51,12 @@ fn add_heads(groups: &mut Vec<Group>, place: u64, bytes: &[u8]) -> Result<bool, 
     Ok(true)
 }
 
-/// Adds the headers that stand in the bytes of a source from a place on, as many as fit in a window, until there are too many groups.
-/// Answers whether there are few.
+/// Adds the headers in the bytes of a source from a place on, as many as fit in a window, until there are too many groups. Returns
+/// whether there are few.
 ///
 /// # Errors
 ///
-/// Read where the read failed, Memory where it ran out.
+/// `Read` if the read failed, `Memory` if memory ran out.
 fn add_window<S: BlockSource>(
     source: &mut S,
     groups: &mut Vec<Group>,
@@ -86,7 +85,7 @@ fn add_window<S: BlockSource>(
     }
 }
 
-/// So many zeros.
+/// `count` zeros.
 fn zeros(alloc: Global, count: usize) -> Result<Vec<u8>, AllocError>
     ensures { IfOk result (λ zeros. vec_len zeros ≡ count) }
 {
@@ -97,7 +96,7 @@ fn zeros(alloc: Global, count: usize) -> Result<Vec<u8>, AllocError>
 ///
 /// # Errors
 ///
-/// Read where a read failed, Memory where it ran out: it takes 64 KiB, and 24 KiB at most for the groups, or 36 while they move.
+/// `Read` if a read failed. `Memory` if memory ran out: it takes 64 KiB, and at most 24 KiB for the groups, or 36 while they move.
 pub fn read_groups<S: BlockSource>(
     alloc: Global,
     source: &mut S,

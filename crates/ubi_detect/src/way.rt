@@ -2,11 +2,11 @@
 
 use ubi_media::Geometry;
 
-/// A geometry, and how many out-of-band bytes lie behind each page of it.
+/// A geometry, and how many out-of-band bytes follow each page.
 #[derive(Clone, Copy)]
 pub struct Way {
     /// The sizes without out-of-band bytes.
     pub geometry: Geometry,
-    /// The out-of-band bytes of a page.
+    /// How many out-of-band bytes a page has.
     pub oob: u32,
 }

@@ -12,7 +12,7 @@ use crate::way::Way;
 use std::alloc::{AllocError, Global};
 use ubi_media::{EcOffsets, Geometry, MOST_PEBS, PAGE_SIZES};
 
-/// The bytes of a header.
+/// The size of a header in bytes.
 const HEADER_SIZE: u64 = 64;
 
 /// How many pages an eraseblock with out-of-band bytes may have.
@@ -99,7 +99,7 @@ fn push_ways(
     Ok(())
 }
 
-/// The pages with out-of-band bytes that an eraseblock may have, the least first, and of one page the fewest first.
+/// The pages with out-of-band bytes that an eraseblock may have, the least first, and for one page the fewest pages first.
 ///
 /// # Errors
 ///
@@ -129,9 +129,9 @@ pub fn has_no_way(alloc: Global, size: u32, offsets: &EcOffsets) -> Result<bool,
 /// The pages that the eraseblocks of a group may have, without out-of-band bytes and with them.
 #[derive(Drop)]
 pub struct Ways {
-    /// Those without, the least page first.
+    /// The pages without out-of-band bytes, the least first.
     pub without: Vec<Way>,
-    /// Those with them.
+    /// The pages with out-of-band bytes.
     pub with: Vec<Way>,
 }
 
@@ -151,7 +151,7 @@ impl Ways {
         Ok(Ways { without, with })
     }
 
-    /// Whether there are none.
+    /// Whether there are no pages.
     pub fn are_none(&self) -> bool
         ensures { result ≡ (length self.now.without.items == 0) && (length self.now.with.items == 0) }
     {

@@ -1,4 +1,4 @@
--- Bytes of which those of marked eraseblocks read 0xFF.
+-- Bytes in which those of marked eraseblocks read 0xFF.
 use Rattle.ubi_files.proofs.Prelude.{◌≡◌, ◌∙◌, ℕ, zero, suc, ◌+◌, ◌-◌, ◌*◌, ◌/◌, ◌%◌, ◌<◌, ◌≤◌, ◌&&◌, ◌||◌, ◌⊎◌, ◌==◌, Bool, List, [], ◌∷◌, ◌++◌, ap, arith, cond, drop, false, get_or, inl, inr, length, map, min, nat_le, nat_lt, refl, replicate, subst, sym, take, true, div-lt_iff_lt-mul, enumerate_from, ReadsAtMost, ForSome, Err, IfOk, None, Ok, Option, Result, if◌then◌else◌, option_map, cases_lt, nat_tests, div-mul-add, get_or-drop, get_or-replicate, get_or-take, length-append, length-drop, length-replicate, length-take, length-take-le, same_lists, take-append-le, take_all, is_listed, StandsAt, masked, Some}
 use Rattle.ubi_files.proofs.Filled.{get_or-filled, get_or-placed, length-placed}
 

@@ -1,4 +1,4 @@
--- Which of the bytes of a file lie in pages.
+-- Which of the bytes of a file are in pages.
 use Rattle.ubi_files.proofs.Prelude.{◌≡◌, ◌∙◌, ℕ, zero, suc, ◌+◌, ◌-◌, ◌*◌, ◌/◌, ◌%◌, ◌<◌, ◌≤◌, ◌⊎◌, List, [], ◌∷◌, ◌++◌, ap, arith, drop, false, inl, inr, le_refl, length, min, nat_lt, refl, subst, sym, take, true, then_some, cons_option, enumerate_from, ForSome, Err, IfOk, Ok, Option, Result, filter_map, option_map, cases_lt, nat_tests, div-add-mod', mod-mul-add, mod_below, mul-le, drop_all, drop-drop, drop-take, drop_at, length-append, length-drop, length-take, length-take-le, nil_from_length, take-append-drop, take-append-le, take-take, take_all, take_at, take_min, paste, drop-paste, length-paste, take-paste, filter_map-append, StandsAt, pages_from, pages_of, append-nil}
 use Rattle.ubi_files.proofs.MaskedBytes.{for_mapped}
 

@@ -1,4 +1,4 @@
--- The bytes of a file as a dump is read.
+-- The bytes of a file, as a dump is read.
 use Rattle.ubi_files.proofs.Prelude.{◌≡◌, ◌∙◌, ℕ, ◌+◌, ◌*◌, ◌/◌, ◌<◌, ◌≤◌, ◌⊎◌, Bool, List, ap, arith, drop, inl, inr, length, min, refl, subst, sym, take, cases_lt, length-take, take-take, take_all, ForSome, option_map_or, IfSome, None, Option, option_map, unwrap_or, Sizes, judged, masked, Files, Fits, marks_of, misfit_of, most_of, viewed, sizes_of, pages_of, part_len, part_of, Dump, Some}
 use Rattle.ubi_files.proofs.MaskedBytes.{for_mapped, length-masked, masked-take}
 use Rattle.ubi_files.proofs.PageBytes.{judged_pages}

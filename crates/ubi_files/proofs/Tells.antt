@@ -1,4 +1,4 @@
--- What is told of a file that can't be had.
+-- What is answered for a file that can't be opened.
 use Rattle.ubi_files.proofs.Prelude.{Tells, Unread, Memory, Told, Outcome}
 
 -- what is told is no less than more

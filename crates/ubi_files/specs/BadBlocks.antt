@@ -1,4 +1,4 @@
--- The eraseblocks that a word lists as bad, and what is read where they are.
+-- The eraseblocks that a word lists as bad, and what is read in their place.
 use Rattle.std.specs.Prelude.{ℕ, ◌/◌, ◌==◌, ◌&&◌, ◌||◌, Bool, List, [], ◌∷◌, None, Option, false, filter_map, if◌then◌else◌, is_some, length, map, nat_le, option_and_then, replicate}
 use Rattle.std.specs.Bool.{then_some}
 use Rattle.std.specs.List.{enumerate_from, list_all, list_any, slice_split}
@@ -16,7 +16,7 @@ block_number word =
 abbrev pub range_between : ℕ → ℕ → Option BlockRange
 range_between first last = then_some (nat_le first last) (record { first = first; last = last })
 
--- the range of the parts of an item, which is cut at its hyphens: a number alone, or two
+-- the range of the parts of an item, which is cut at its hyphens: one number, or two
 abbrev pub range_of_parts : List (List ℕ) → Option BlockRange
 range_of_parts [] = None
 range_of_parts (one ∷ []) = option_and_then (λ n. range_between n n) (block_number one)
@@ -28,7 +28,7 @@ range_of_parts (first ∷ last ∷ more ∷ rest) = None
 abbrev pub range_of : List ℕ → Option BlockRange
 range_of item = range_of_parts (slice_split (λ b. b == 45) item)
 
--- the items of a word: what stands between its commas; none where it has no byte
+-- the items of a word: what stands between its commas; there are none if it is empty
 abbrev pub list_items : List ℕ → List (List ℕ)
 list_items word = if length word == 0 then [] else slice_split (λ b. b == 44) word
 
@@ -44,14 +44,14 @@ ranges_of word = filter_map range_of (list_items word)
 abbrev pub has_number : BlockRange → ℕ → Bool
 has_number r p = nat_le r.first p && nat_le p r.last
 
--- marks of eraseblocks by their numbers, where those that ranges have are marked too
+-- marks of eraseblocks by their numbers, with the eraseblocks of ranges marked too
 abbrev pub with_ranges : List Bool → List BlockRange → List Bool
 with_ranges marks ranges = map (λ e. e.1 || list_any (λ r. has_number r e.0) ranges) (enumerate_from 0 marks)
 
--- of each eraseblock of a device, whether a word lists it
+-- whether a word lists each eraseblock of a device
 abbrev pub bad_marks : ℕ → List ℕ → List Bool
 bad_marks pebs word = with_ranges (replicate pebs false) (ranges_of word)
 
--- bytes of eraseblocks of this size, as they are read: 0xFF where the eraseblock is marked, and else as they are
+-- bytes of eraseblocks of this size, as they are read: 0xFF if the eraseblock is marked, and as they are if not
 abbrev pub masked : ℕ → List Bool → List ℕ → List ℕ
 masked size marks bytes = map (λ e. if is_listed marks (e.0 / size) then 0xFF else e.1) (enumerate_from 0 bytes)

@@ -7,7 +7,7 @@ use Rattle.ubi_media.specs.Geometry.{Sizes}
 use Rattle.ubi_scan.specs.Image.{judged}
 use Rattle.ubi_files.specs.declared.outcome.Outcome.{Outcome}
 
--- whether it is known what files receive that are written, and what the file at a path holds, where that is known
+-- whether it is known what files that are written receive, and what the file at a path holds, if that is known
 pub record Files : Type 0 where
   pub tells : Bool
   pub holds : List ℕ → Option (List ℕ)
@@ -16,11 +16,11 @@ pub record Files : Type 0 where
 abbrev pub untold : Files
 untold = record { tells = false; holds = λ path. None }
 
--- what a file holds that was just opened anew: nothing, where it is known what it receives
+-- what a file that was just opened anew holds: nothing, if it is known what it receives
 abbrev pub fresh : Files → Option (List ℕ)
 fresh d = if d.tells then Some [] else None
 
--- where it is known what the file at a path holds, it is what it received
+-- if it is known what the file at a path holds, that is what it received
 abbrev pub Holds : Files → List ℕ → Option (List ℕ) → Type 0
 Holds d path received = IfSome (d.holds path) (λ bytes. received ≡ Some bytes)
 
@@ -37,7 +37,7 @@ IsJudgedOf d path s bytes = IfSome (d.holds path) (λ all. bytes ≡ judged s al
 abbrev pub IsTextOf : Files → List ℕ → List ℕ → Type 0
 IsTextOf d path bytes = IfSome (d.holds path) (λ all. bytes ≡ all)
 
--- where work ended with an outcome, the file at a path holds what it received, if all is done; and else what it held
+-- if work ended with an outcome, the file at a path holds what it received if all is done, and what it held if not
 pub record IsLeft (old new : Files) (path : List ℕ) (received : Option (List ℕ)) (o : Outcome) : Type 0 where
   pub done : o.status ≡ 0 → Holds new path received
   pub refused : o.status ≢ 0 → new.holds path ≡ old.holds path
@@ -58,12 +58,12 @@ AllStay old new = (path : List ℕ) → new.holds path ≡ old.holds path
 abbrev pub Stays : Files → Files → List ℕ → Type 0
 Stays old new path = new.holds path ≡ old.holds path
 
--- each path but two holds what it held, the second of which may be left out
+-- each path except two holds what it held; the second may be left out
 abbrev pub OthersStayBeside : Files → Files → List ℕ → Option (Bor (List ℕ)) → Type 0
 OthersStayBeside old new path second =
     (other : List ℕ) → other ≢ path → ForSome second (λ p. other ≢ p.now) → new.holds other ≡ old.holds other
 
--- the file at a path received some bytes, if there are any, and else holds what it held
+-- the file at a path received some bytes, if there are any, and holds what it held if not
 abbrev pub Receives : Files → Files → List ℕ → Option (List ℕ) → Type 0
 Receives old new path None = new.holds path ≡ old.holds path
 Receives old new path (Some bytes) = (received : Option (List ℕ)) × Appends (fresh old) received bytes × Holds new path received

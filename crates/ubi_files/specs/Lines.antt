@@ -1,4 +1,4 @@
--- Printed lines of what is refused, and of files that fail.
+-- The printed lines of refusals, and of files that fail.
 use Rattle.std.specs.Prelude.{List, ◌++◌, codes, decimal, ℕ}
 use Rattle.ubi_media.specs.ErrorTexts.{geometry_error_text, refusal_text}
 use Rattle.ubi_media.specs.declared.geometry.GeometryError.{GeometryError}
@@ -18,12 +18,12 @@ geometry_line limit = refused_line (geometry_error_text limit)
 abbrev pub refusal_line : Refusal → List ℕ
 refusal_line c = refused_line (refusal_text c)
 
--- the text of why a file can't be seen as the words tell
+-- the text that says why a file can't be read as the words say
 abbrev pub misfit_text : Misfit → List ℕ
 misfit_text (why.Part bytes) = codes "F7 Part bytes=" ++ decimal bytes
 misfit_text (why.Pages rest) = codes "F8 Pages rest=" ++ decimal rest
 
--- the line of a file that can't be seen so
+-- the line of a file that can't be read so
 abbrev pub misfit_line : Misfit → List ℕ
 misfit_line m = refused_line (misfit_text m)
 

@@ -3,8 +3,8 @@ use Rattle.std.specs.Prelude.{◌*◌, None, Some, unwrap_or}
 use Rattle.ubi_media.specs.Geometry.{Sizes}
 use Rattle.ubi_files.specs.declared.numbers.Numbers.{Numbers}
 
--- the sizes that the numbers name: where they are left out, the volume-identifier header stands behind the first page,
--- the data behind the second, and the device is as large as any
+-- the sizes that the numbers name: if they are left out, the volume-identifier header follows the first page, the data
+-- follow the second, and the device is as large as any
 abbrev pub sizes_of : Numbers → Sizes
 sizes_of n = record {
   peb_size = n.peb_size;
@@ -14,7 +14,7 @@ sizes_of n = record {
   pebs = unwrap_or n.pebs 1048576;
 }
 
--- the numbers of a geometry, of which none is left out
+-- the numbers of a geometry, with none left out
 abbrev pub numbers_of : Sizes → Numbers
 numbers_of s = record {
   peb_size = s.peb_size;
@@ -24,7 +24,7 @@ numbers_of s = record {
   pebs = Some s.pebs;
 }
 
--- the numbers of the greatest device that there is: of a file of which no geometry is known, no more is read
+-- the numbers of the greatest device that there is: no more is read of a file of unknown geometry
 abbrev pub greatest : Numbers
 greatest = record {
   peb_size = 16777216;

@@ -2,6 +2,6 @@
 use Rattle.std.specs.Prelude.{ℕ, ◌≤◌, List, Option, length}
 use Rattle.std.specs.Io.KnownBytes.{Consumes}
 
--- known bytes lose so many of the first ones at most
+-- known bytes lose at most this many of the first ones
 abbrev pub TakesAtMost : ℕ → Option (List ℕ) → Option (List ℕ) → Type 0
 TakesAtMost limit old new = (taken : List ℕ) × (length taken ≤ limit) × Consumes old new taken

@@ -13,11 +13,11 @@ use ubi_words::{cut, decimal_of};
 pub struct BlockRange {
     /// The number of the first.
     pub first: u32,
-    /// That of the last, which isn't less.
+    /// The number of the last, which isn't less.
     pub last: u32,
 }
 
-/// Bytes without a plus that stands first.
+/// Bytes without a leading plus.
 fn without_plus(word: &[u8]) -> &[u8]
     ensures { result.now ≡ without_leading_plus word.now }
 {
@@ -28,7 +28,7 @@ fn without_plus(word: &[u8]) -> &[u8]
     }
 }
 
-/// The number that decimal digits write, where a plus may stand first. None where a word isn't one, or is above 4294967295.
+/// The number that decimal digits stand for, where a plus may stand first. `None` if a word isn't one, or is above 4294967295.
 fn block_number(word: &[u8]) -> Option<u32>
     ensures { result ≡ block_number word.now }
 {
@@ -39,7 +39,7 @@ fn block_number(word: &[u8]) -> Option<u32>
     decimal_of(digits)
 }
 
-/// From one number to another. None where that is less.
+/// The range from one number to another. `None` if the other is less.
 fn range_between(first: u32, last: u32) -> Option<BlockRange>
     ensures { result ≡ range_between first last }
 {
@@ -50,7 +50,7 @@ fn range_between(first: u32, last: u32) -> Option<BlockRange>
     }
 }
 
-/// The eraseblocks that an item of a list names: by a number, or by two with a hyphen between them.
+/// The eraseblocks that an item of a list names: one number, or two with a hyphen between them.
 fn range_of(item: &[u8]) -> Option<BlockRange>
     ensures { result ≡ range_of item.now }
 {
@@ -66,7 +66,7 @@ fn range_of(item: &[u8]) -> Option<BlockRange>
     range_between(block_number(first)?, block_number(last)?)
 }
 
-/// Whether a word is a list of eraseblocks: items with one comma between two, or no byte at all.
+/// Whether a word is a list of eraseblocks: items separated by single commas, or an empty word.
 pub fn is_block_list(word: &[u8]) -> bool
     ensures { result ≡ is_block_list word.now }
 {
@@ -134,7 +134,7 @@ fn mark_list(marks: &mut [bool], word: &[u8])
     }
 }
 
-/// Of each of `pebs` eraseblocks, whether a word lists it.
+/// Whether a word lists each of `pebs` eraseblocks.
 ///
 /// # Errors
 ///

@@ -43,7 +43,7 @@ impl<'a, F> OutputFile<'a, F> {
     }
 }
 
-/// Files by their paths. The system's own are [`Host`](crate::host::Host), and of these nothing is known.
+/// Files by their paths. [`Host`](crate::host::Host) has those of the system, of which nothing is known.
 pub trait Disk {
     /// A file that is read at places.
     type Placed: PlacedFile + Drop;
@@ -63,13 +63,13 @@ pub trait Disk {
     // At which paths it is known that there is a file which can be opened.
     ghost opens: { Self → List ℕ → Bool };
 
-    /// The file at a path, to be read at places; or none where it can't be read so.
+    /// The file at a path, to be read at places; or `None` if it can't be read so.
     fn placed_at(&self, path: &str) -> Option<SizedFile<Self::Placed>>
         ensures named { IfSome result (λ f. Self.Placed.bytes f.file ≡ (files self.now).holds path.now) }
         ensures none { result ≡ None → opens self.now path.now ≡ false };
 
-    /// The file at a path, to be read at places while the file at `out` is written; or none where it can't be read so, or both
-    /// may be one file.
+    /// The file at a path, to be read at places while the file at `out` is written; or `None` if it can't be read so, or if
+    /// both may be one file.
     fn placed_beside(&self, path: &str, out: &str) -> Option<SizedFile<Self::Placed>>
         ensures named { IfSome result (λ f. Self.Placed.bytes f.file ≡ (files self.now).holds path.now) }
         ensures apart { IfSome result (λ _. path.now ≢ out.now) }
@@ -79,7 +79,7 @@ pub trait Disk {
     fn may_be_one(&self, path: &str, other: &str) -> bool
         ensures { path.now ≡ other.now → result ≡ true };
 
-    /// Whether there is a device at a path whose bad eraseblocks may read anything.
+    /// Whether there is a device at a path whose bad eraseblocks may read as anything.
     fn is_flash(&self, path: &str) -> bool
         ensures { result ≡ true → (files self.now).holds path.now ≡ None };
 
@@ -87,7 +87,7 @@ pub trait Disk {
     ///
     /// # Errors
     ///
-    /// Read where it can't be opened, and where it has no end.
+    /// `Read` if it can't be opened, or if it has no end.
     fn whole(&self, path: &str) -> Result<WholeFile<Self::Reader>, ToolError>
         ensures named { IfOk result (λ f. IfSome ((files self.now).holds path.now) (λ all. Self.Reader.remaining f.reader ≡ Some all)) }
         ensures err { IfErr result (λ e. e ≡ ToolError.Read) }
@@ -104,7 +104,7 @@ pub trait Disk {
         ensures others { OthersStay (files self.old) (files self.new) path.now }
         ensures unopened { OnErr result (files self.new ≡ files self.old) };
 
-    /// Makes the file at a path, where there is none yet. Nothing is known of it until [`keep`](Self::keep) closes it.
+    /// Makes the file at a path, if there is none yet. Nothing is known of it until [`keep`](Self::keep) closes it.
     ///
     /// # Errors
     ///

@@ -6,21 +6,21 @@ ghost use Rattle.ubi_files.specs.Dump.{greatest_dump};
 use crate::numbers::{GREATEST, Numbers};
 use crate::view::FilePart;
 
-/// A dump, as the words tell how it is read.
+/// A dump, with what the words say of how it is read.
 #[derive(Clone, Copy)]
 pub struct Dump<'a> {
     /// The numbers of its geometry.
     pub numbers: Numbers,
-    /// The part of its file that it is.
+    /// The part of the file that is the dump.
     pub part: FilePart,
-    /// How many out-of-band bytes lie behind each page.
+    /// How many out-of-band bytes follow each page.
     pub oob: u32,
-    /// The list of its bad eraseblocks, which read 0xFF; none is bad where it is left out.
+    /// The list of its bad eraseblocks, which read 0xFF; if it is left out, none is bad.
     pub bad: Option<&'a str>,
 }
 
 impl<'a> Dump<'a> {
-    /// A part of a file of which no geometry is known: no more is read of it than the greatest dump has that there is.
+    /// A part of a file of unknown geometry: no more of it is read than the greatest dump that there is has.
     pub fn greatest(part: FilePart) -> Dump<'a>
         ensures { result ≡ greatest_dump part }
     {

@@ -8,12 +8,12 @@ ghost use Rattle.ubi_files.specs.Row.{row_bytes};
 use std::io;
 use ubi_scan::PlacedFile;
 
-/// A file, and how many bytes it has.
+/// A file, and its size in bytes.
 #[derive(Drop)]
 pub struct SizedFile<F: PlacedFile> {
     file: F,
     len: u64,
-    // Of a file whose bytes are known, it has as many.
+    // If the bytes of a file are known, it has this many.
     pub ghost sized: { ForSome (F.bytes file) (λ all. length all ≡ len) },
     pub ghost counted: { len < 2 ^ 64 },
 }
@@ -35,7 +35,7 @@ impl<F: PlacedFile> SizedFile<F> {
         &self.file
     }
 
-    /// How many bytes it has.
+    /// The size of the file in bytes.
     pub fn len(&self) -> u64
         ensures { result ≡ self.now.len }
     {
@@ -43,7 +43,7 @@ impl<F: PlacedFile> SizedFile<F> {
     }
 }
 
-/// Files in a row. What stands behind the end of one is the beginning of the next one.
+/// Files in a row: after the end of one comes the beginning of the next.
 #[derive(Drop)]
 pub struct FileRow<F: PlacedFile> {
     files: Vec<SizedFile<F>>,

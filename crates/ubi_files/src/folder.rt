@@ -4,17 +4,17 @@ use std::fs::Files;
 use std::io::Read;
 use std::{fs, io};
 
-/// The bytes that are read at once of the names in a folder.
+/// How many bytes of the names in a folder are read at once.
 const CHUNK: usize = 1024;
 
-/// Whether no name is read but those of the folder itself and of the one above it. Each is followed by a zero byte.
+/// Whether the only names that were read are those of the folder itself and of the one above it. Each is followed by a zero byte.
 fn has_no_name(names: &[u8]) -> bool {
     names.split(|byte| *byte == 0).all(|name| name.is_empty()
         || name == b".".as_slice()
         || name == b"..".as_slice())
 }
 
-/// Whether there is a folder at a path, itself and not by a link, and nothing in it. It is denied where it can't be told.
+/// Whether there is a folder at a path, itself and not by a link, with nothing in it. False if that can't be found out.
 fn is_empty_folder<R: Files>(rt: &R, path: &str) -> bool {
     match fs::symlink_metadata(rt, path) {
         Ok(metadata) if metadata.is_dir() => {}

@@ -15,7 +15,7 @@ use std::io::Write;
 use std::os::unix::fs::FileExt;
 use ubi_scan::SystemFile;
 
-/// The files of the system. Other programs may write to them, so that nothing is known of what they hold.
+/// The files of the system. Other programs may write to them, so nothing is known of what they hold.
 #[derive(Clone, Copy)]
 pub struct Host<'a, R> {
     rt: &'a R,

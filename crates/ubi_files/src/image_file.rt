@@ -32,7 +32,7 @@ pub struct ImageFile {
     pub bytes: Vec<u8>,
 }
 
-/// Why an image can't be had.
+/// Why an image can't be opened.
 #[derive(Drop)]
 pub enum Unread {
     /// What is answered instead: the line of a geometry or of a file.
@@ -42,7 +42,7 @@ pub enum Unread {
 }
 
 impl Unread {
-    /// What a command answers then.
+    /// What a command then answers.
     ///
     /// # Errors
     ///
@@ -65,7 +65,7 @@ impl From<AllocError> for Unread {
     }
 }
 
-/// Those bytes of an image that are judged: all, or the first ones up to one more than a device of the geometry has.
+/// Those bytes of an image that are judged: all of them, or the first ones, up to one more than a device of the geometry has.
 fn read_judged<F: Read>(
     alloc: Global,
     file: &mut WholeFile<F>,
@@ -108,7 +108,7 @@ pub fn unread_line(alloc: Global, path: &str) -> Result<Outcome, AllocError>
     Ok(Outcome::saying(file_line(alloc, "cannot read ", path)?, FAILED))
 }
 
-/// What is told of a file that couldn't be read: its line, or that memory ran out.
+/// What is answered for a file that couldn't be read: its line, or that memory ran out.
 pub fn unread_file(alloc: Global, path: &str, error: ToolError) -> Unread
     ensures line { Tells (λ o. Gives o (says (file_line (codes "cannot read ") path.now) 1)) result }
     ensures memory { error ≡ ToolError.Memory → result ≡ Memory }
@@ -142,7 +142,7 @@ pub fn allowed_geometry(alloc: Global, numbers: Numbers) -> Result<Geometry, Unr
 ///
 /// # Errors
 ///
-/// The line of the first limit that the numbers break, that of a file that can't be read, or that memory ran out.
+/// The line of the first limit that the numbers break; that of a file that can't be read; or that memory ran out.
 pub fn load<D: Disk>(
     disk: &D,
     alloc: Global,

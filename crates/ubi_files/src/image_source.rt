@@ -9,15 +9,15 @@ use std::io::ErrorKind;
 use std::os::unix::fs::{FileExt, FileTypeExt, MetadataExt};
 use ubi_scan::{SystemFile, file_len};
 
-/// Whether two paths name one file, by what the system tells of them: its device and its number there, or which block
-/// device it is itself.
+/// Whether two paths name one file, by what the system says of them: the device and the number of the file there, or
+/// which block device it is itself.
 fn are_one(file: &Metadata, other: &Metadata) -> bool {
     let is_one_file = file.dev() == other.dev() && file.ino() == other.ino();
     let is_one_device = file.rdev() == other.rdev() && file.file_type().is_block_device();
     is_one_file || is_one_device
 }
 
-/// Whether an image and an output may be one file. A flash memory has several devices, so that any other device may be the
+/// Whether an image and an output may be one file. A flash memory has several devices, so any other device may be the
 /// same.
 fn may_be_same(image: &Metadata, output: &Metadata) -> bool {
     let other = output.file_type();
@@ -25,8 +25,8 @@ fn may_be_same(image: &Metadata, output: &Metadata) -> bool {
     are_one(image, output) || (image.file_type().is_char_device() && is_other)
 }
 
-/// Whether an image that is read at places stays as it is while the file at a path is written. It is denied where it
-/// can't be told.
+/// Whether an image that is read at places stays as it is while the file at a path is written. False if that can't
+/// be found out.
 fn stays<R: Files>(rt: &R, image: &Metadata, out: &str) -> bool {
     match fs::metadata(rt, out) {
         Ok(output) => !may_be_same(image, &output),
@@ -34,8 +34,8 @@ fn stays<R: Files>(rt: &R, image: &Metadata, out: &str) -> bool {
     }
 }
 
-/// Whether what is written to the second path may be written into the file at the first: by the same path, or by a link. A
-/// path without a file is another one, and one of which nothing is told may be the same.
+/// Whether what is written to the second path may be written to the file at the first: by the same path, or by a link. A
+/// path without a file is another one; one of which nothing can be found out may be the same.
 pub fn may_be_one<R: Files>(rt: &R, path: &str, other: &str) -> bool
     ensures { path.now ≡ other.now → result ≡ true }
 {
@@ -51,7 +51,7 @@ pub fn may_be_one<R: Files>(rt: &R, path: &str, other: &str) -> bool
     }
 }
 
-/// Whether there is a character device at a path, as a flash memory is.
+/// Whether there is a character device at a path, as flash memory is one.
 pub fn is_flash<R: Files>(rt: &R, path: &str) -> bool {
     match fs::metadata(rt, path) {
         Ok(metadata) => metadata.file_type().is_char_device(),
@@ -64,8 +64,8 @@ fn may_have_places(kind: FileType) -> bool {
     kind.is_file() || kind.is_block_device() || kind.is_char_device()
 }
 
-/// Opens a file that is read at places, and finds its size. None where that fails, and of a device that tells no size, as
-/// `/dev/zero`: it has no end.
+/// Opens a file that is read at places, and finds its size. `None` if that fails, or if it is a device without a size,
+/// such as `/dev/zero`: it has no end.
 fn open_sized<R: Files>(
     rt: &R,
     path: &str,
@@ -79,7 +79,7 @@ where
     (kind.is_file() || len > 0).then_some(SizedFile::new(SystemFile::new(file), len))
 }
 
-/// A file to be read at places; or none where it can't be read so.
+/// A file to be read at places; or `None` if it can't be read so.
 pub fn placed_at<R: Files>(rt: &R, path: &str) -> Option<SizedFile<SystemFile<R::File>>>
 where
     R::File: FileExt,
@@ -92,7 +92,7 @@ where
     }
 }
 
-/// A file to be read at places while the output is written; or none where it can't be read so, or may be the output, by the
+/// A file to be read at places while the output is written; or `None` if it can't be read so, or may be the output, by the
 /// same path or by a link: what isn't read when that is opened would be lost.
 pub fn placed_beside<R: Files>(
     rt: &R,

@@ -1,4 +1,4 @@
-//! A file that is opened late.
+//! An output file that is opened late.
 
 ghost use Rattle.std.specs.Io.KnownBytes.{WriteAppends};
 ghost use Rattle.std.specs.Io.{WritesAtMost};
@@ -38,15 +38,14 @@ impl Target for Brand {
     ghost may_open = { false };
 }
 
-/// A writer into a file that is opened anew at the first write. So a file that is there stays as it is where the work is
-/// refused.
+/// A writer to a file that is opened anew at the first write. So an existing file stays as it is if the work is refused.
 ///
 /// Its contents are those of the file: nothing, until that is open.
 #[derive(Drop)]
 pub struct LateFile<'a, 'p, D: Disk, K: Target> {
     disk: &'a mut D,
     path: &'p str,
-    /// Whether it may be opened at all: not so where it may be a file that was read.
+    /// Whether it may be opened at all: it may not if it could be a file that was read.
     may_open: bool,
     file: Option<OutputFile<'p, D::Output>>,
     of: PhantomData<K>,
@@ -60,7 +59,7 @@ pub struct LateFile<'a, 'p, D: Disk, K: Target> {
 }
 
 impl<'a, 'p, D: Disk, K: Target> LateFile<'a, 'p, D, K> {
-    /// A file that isn't opened yet, and never will be where it may not.
+    /// A file that isn't opened yet, and never will be if `may_open` is false.
     pub fn new(disk: &'a mut D, path: &'p str, may_open: bool) -> LateFile<'a, 'p, D, K>
         requires same { disk.ghost_name ≡ K.disk }
         requires named { path.now ≡ K.path }
@@ -77,7 +76,7 @@ impl<'a, 'p, D: Disk, K: Target> LateFile<'a, 'p, D, K> {
         }
     }
 
-    /// Opens the file where no write did, so that it is there though nothing was to be written.
+    /// Opens the file if no write did, so that it exists even if nothing was written.
     ///
     /// # Errors
     ///

@@ -1,8 +1,8 @@
-//! Files by their paths: how a dump is opened and seen, how an output is kept, and what is printed where either fails.
+//! Files by their paths: how a dump is opened and read, how an output is written, and what is printed if either fails.
 //!
-//! A [`Disk`] reaches files by their paths; [`Host`] is the system's own. A [`Dump`] says how the bytes of a file are read: of
-//! a part of it the pages, with 0xFF in the place of bad eraseblocks. It is opened once its [`Frame`] is known, by
-//! [`open_dump`], and read at places where it can be. A [`LateFile`] is an output that is opened at the first write.
+//! A [`Disk`] reaches files by their paths; [`Host`] is the system's own. A [`Dump`] says how the bytes of a file are read:
+//! the pages of a part of it, with 0xFF in place of bad eraseblocks. [`open_dump`] opens it once its [`Frame`] is known; it
+//! is read at places if it can be. A [`LateFile`] is an output file that is opened at the first write.
 #![tactic(auto)]
 
 mod bad_blocks;

@@ -1,4 +1,4 @@
-//! Printed lines of what is refused, and of files that fail.
+//! The printed lines of refusals, and of files that fail.
 
 ghost use Rattle.std.specs.Prelude.{◌≡◌, ◌++◌, IfOk, IfSome, OnOk, decimal};
 ghost use Rattle.ubi_files.specs.Lines.{file_line, geometry_line, misfit_line, refusal_line, refused_line};
@@ -25,7 +25,7 @@ pub fn put_number(text: &mut Vec<u8>, word: &str, number: u64) -> Result<(), All
     put_word(text, buffer.format(number))
 }
 
-/// The line of a refusal, by what is printed of its cause.
+/// The line of a refusal, by what is printed for its cause.
 pub fn refused<C: fmt::Display>(alloc: Global, cause: &C) -> Result<Vec<u8>, AllocError>
     ensures { IfOk result (λ line. IfSome (C.output cause.now) (λ text. line.items ≡ refused_line text)) }
 {
@@ -46,7 +46,7 @@ pub fn refusal_line(alloc: Global, cause: Refusal) -> Result<Vec<u8>, AllocError
     refused(alloc, &cause)
 }
 
-/// The line of a file that can't be seen as the words tell.
+/// The line of a file that can't be read as the words say.
 pub fn misfit_line(alloc: Global, misfit: Misfit) -> Result<Vec<u8>, AllocError>
     ensures { IfOk result (λ text. text.items ≡ misfit_line misfit) }
 {

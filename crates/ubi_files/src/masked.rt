@@ -1,4 +1,4 @@
-//! Files of which bad eraseblocks read 0xFF.
+//! Files whose bad eraseblocks read 0xFF.
 
 ghost use Rattle.std.specs.Option.{ForSome};
 ghost use Rattle.std.specs.Prelude.{◌≡◌, ◌+◌, ◌<◌, ℕ, List, length, option_map, take};
@@ -19,7 +19,7 @@ fn is_marked(marks: &[bool], p: u64) -> bool
     marks[p as usize]
 }
 
-/// Fills an eraseblock of an image with 0xFF if it is marked, as far as the image has bytes of it.
+/// Fills an eraseblock of an image with 0xFF if it is marked, as far as the image has its bytes.
 fn mask_block(bytes: &mut [u8], size: u32, p: usize, marks: &[bool])
     requires some { 0 < size }
     requires within { p < length marks.now }
@@ -32,7 +32,7 @@ fn mask_block(bytes: &mut [u8], size: u32, p: usize, marks: &[bool])
     }
 }
 
-/// Fills the eraseblocks of an image that are marked with 0xFF. An eraseblock has `size` bytes.
+/// Fills the marked eraseblocks of an image with 0xFF. An eraseblock has `size` bytes.
 pub fn mask(bytes: &mut [u8], size: u32, marks: &[bool])
     requires { 0 < size }
     ensures { bytes.new ≡ masked size marks.now bytes.old }
@@ -42,11 +42,11 @@ pub fn mask(bytes: &mut [u8], size: u32, marks: &[bool])
     }
 }
 
-/// A file that is read at places, of which the bytes of each marked eraseblock read 0xFF: they aren't read from the file.
+/// A file that is read at places, in which marked eraseblocks read 0xFF: their bytes aren't read from the file.
 #[derive(Drop)]
 pub struct Masked<'a, F: PlacedFile> {
     file: SizedFile<F>,
-    /// The bytes of an eraseblock.
+    /// The size of an eraseblock in bytes.
     size: u32,
     marks: &'a [bool],
     ghost some: { 0 < size },
@@ -72,7 +72,7 @@ impl<F: PlacedFile> PlacedFile for Masked<'_, F> {
             return self.file.file().read_from(at, out);
         }
         let size = u64::from(self.size);
-        // No more than what is left of the eraseblock.
+        // At most what is left of the eraseblock.
         let most = out.len().min((size - at % size) as usize);
         if !is_marked(self.marks, at / size) {
             return self.file.file().read_from(at, &mut out[..most]);

@@ -9,20 +9,20 @@ use ubi_media::{Geometry, GeometryError, MOST_PEBS};
 /// The numbers that the words give. Those that may be left out are options.
 #[derive(Clone, Copy, PartialEq, Eq)]
 pub struct Numbers {
-    /// The bytes of an eraseblock.
+    /// The size of an eraseblock in bytes.
     pub peb_size: u32,
-    /// The bytes of a page.
+    /// The size of a page in bytes.
     pub page: u32,
-    /// The place of the volume-identifier header; one page where it is left out.
+    /// The offset of the volume-identifier header; if it is left out, one page.
     pub vid_offset: Option<u32>,
-    /// The place of the data; two pages where it is left out.
+    /// The offset of the data; if it is left out, two pages.
     pub data_offset: Option<u32>,
-    /// The eraseblocks of the device; the most that there can be where they are left out.
+    /// The number of eraseblocks of the device; if it is left out, the most that there can be.
     pub pebs: Option<u32>,
 }
 
 impl Numbers {
-    /// The numbers of a geometry, of which none is left out.
+    /// The numbers of a geometry, with none left out.
     pub fn of(geometry: &Geometry) -> Numbers
         ensures { result ≡ numbers_of geometry.now }
     {
@@ -36,11 +36,11 @@ impl Numbers {
     }
 }
 
-/// The bytes of the largest page.
+/// The size of the largest page in bytes.
 const LARGEST_PAGE: u32 = 65_536;
 
-/// The numbers of the greatest device that there is, for a file of which no geometry is known: no more is read of it than such a
-/// device has, and one byte.
+/// The numbers of the greatest device that there is, for a file of unknown geometry: no more of it is read than such a device
+/// has, and one byte.
 pub const GREATEST: Numbers = Numbers {
     peb_size: 16_777_216,
     page: LARGEST_PAGE,

@@ -1,4 +1,4 @@
-//! Image files that are opened: to be read at places where they can be, and else read whole.
+//! Image files that are opened: to be read at places if they can be, and read whole if not.
 
 ghost use Rattle.std.specs.Prelude.{◌≡◌, ◌≢◌, ℕ, [], IfErr, IfOk, IfSome, IsOkAnd, List, MatchResult, None, Some, length, option_map, true};
 ghost use Rattle.ubi_media.specs.Limits.{first_broken};
@@ -26,18 +26,18 @@ use ubi_scan::{FileSource, PlacedFile};
 /// What is known of a dump before it is opened: its geometry, which breaks no limit, and which eraseblocks are bad.
 #[derive(Drop)]
 pub struct Frame<'a> {
-    /// The dump, as the words tell how it is read.
+    /// The dump, with what the words say of how it is read.
     pub dump: Dump<'a>,
     /// The geometry of its device.
     pub geometry: Geometry,
-    /// Of each eraseblock of the device, whether it is bad; none are where there are no marks.
+    /// Whether each eraseblock of the device is bad; none is if there are no marks.
     pub marks: Vec<bool>,
     ghost limits: { first_broken (sizes_of dump.numbers) ≡ None },
     ghost sizes: { geometry ≡ sizes_of dump.numbers },
     ghost marked: { marks.items ≡ marks_of dump },
 }
 
-/// The marks of the bad eraseblocks of a dump with so many.
+/// The marks of the bad eraseblocks of a dump with `pebs` of them.
 fn marks_of(alloc: Global, pebs: u32, bad: Option<&str>) -> Result<Vec<bool>, AllocError>
     ensures { (dump : Dump) → dump.bad ≡ bad.entry → (sizes_of dump.numbers).pebs ≡ pebs → IfOk result (λ marks. marks.items ≡ marks_of dump) }
 {
@@ -83,13 +83,13 @@ pub enum OpenImage<S> {
     Whole(ImageFile),
 }
 
-/// A file that is read at places, as it is seen: of a part of it the pages, with 0xFF in the place of bad eraseblocks.
+/// A file that is read at places, as it is seen: the pages of a part of it, with 0xFF in place of bad eraseblocks.
 pub type Seen<'f, F> = Masked<'f, Pages<Part<F>>>;
 
 /// A source over the file of a dump, as it is seen.
 pub type DumpSource<'f, F> = FileSource<Seen<'f, F>>;
 
-/// A source over the file of a dump, where that can be seen so.
+/// A source over the file of a dump, if that can be seen so.
 ///
 /// # Errors
 ///
@@ -140,11 +140,11 @@ fn at_places<'f, F: PlacedFile + Drop>(
     }
 }
 
-/// Opens the image of a path, of which the frame is known.
+/// Opens the image of a path, whose frame is known.
 ///
 /// # Errors
 ///
-/// The line of a file that can't be read, or of why it can't be seen so, or that memory ran out.
+/// The line of a file that can't be read, or of why it can't be seen so; or that memory ran out.
 pub fn open_dump<'f, D: Disk>(
     disk: &D,
     alloc: Global,
@@ -162,8 +162,8 @@ pub fn open_dump<'f, D: Disk>(
     }
 }
 
-/// Opens the image of a path, as [`open_dump`] does, to be read while a file is written at another: where both may be one
-/// file it is read whole.
+/// Opens the image of a path, as [`open_dump`] does, to be read while a file is written at another. If both may be one
+/// file, it is read whole.
 ///
 /// # Errors
 ///

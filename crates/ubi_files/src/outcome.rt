@@ -11,10 +11,10 @@ use thiserror::Error;
 /// The exit status of a command that did its work.
 pub const DONE: u8 = 0;
 
-/// The exit status of an image that is refused, of images that differ, of a file that fails, and of memory that ran out.
+/// The exit status if an image is refused, images differ, a file fails, or memory ran out.
 pub const FAILED: u8 = 1;
 
-/// The exit status of wrong words, a call for help among them, and of a geometry that breaks a limit.
+/// The exit status if the words are wrong or ask for help, or if a geometry breaks a limit.
 pub const WRONG_WORDS: u8 = 2;
 
 /// What a command answers.
@@ -93,7 +93,7 @@ impl From<AllocError> for SidesError {
     }
 }
 
-/// What is answered of work over bytes in memory, whose reads don't fail.
+/// What is answered for work over bytes in memory, whose reads don't fail.
 ///
 /// # Errors
 ///

@@ -1,4 +1,4 @@
-//! Files with out-of-band bytes behind each page, and the pages without them.
+//! Files with out-of-band bytes after each page, and their pages without them.
 
 ghost use Rattle.std.specs.Io.{ReadsAtMost};
 ghost use Rattle.std.specs.Option.{ForSome};
@@ -10,8 +10,8 @@ use crate::file_row::SizedFile;
 use std::io;
 use ubi_scan::PlacedFile;
 
-/// Moves the bytes together that lie in pages, behind each of which lie `oob` out-of-band bytes, and tells how many they are. The
-/// first byte lies at a place of the first page.
+/// Moves together the bytes that are in pages, each of which is followed by `oob` out-of-band bytes, and says how many they are.
+/// The first byte is at a place of the first page.
 pub fn close_gaps(bytes: &mut [u8], place: usize, page: u32, oob: u32) -> usize
     requires { place < page }
     ensures within { result ≤ length bytes.new }
@@ -29,7 +29,7 @@ pub fn close_gaps(bytes: &mut [u8], place: usize, page: u32, oob: u32) -> usize
     kept
 }
 
-/// Keeps of bytes those that lie in pages. The first byte is that of a page.
+/// Keeps only those bytes that are in pages. The first byte is that of a page.
 pub fn keep_pages(bytes: &mut Vec<u8>, page: u32, oob: u32)
     requires { 0 < page }
     ensures { bytes.new.items ≡ pages_of page oob bytes.old.items }
@@ -44,18 +44,18 @@ pub fn keep_pages(bytes: &mut Vec<u8>, page: u32, oob: u32)
 /// How many raw bytes are read through a buffer at most. So a read of headers is one read of the file.
 const SMALL: usize = 8192;
 
-/// A file with out-of-band bytes behind each page that is read at places, of which the pages are read as a file.
+/// A file that is read at places, with out-of-band bytes after each page; its pages are read as a file.
 #[derive(Drop)]
 pub struct Pages<F: PlacedFile> {
     file: SizedFile<F>,
-    /// The bytes of a page.
+    /// The size of a page in bytes.
     page: u32,
-    /// The bytes behind it.
+    /// How many bytes follow it.
     oob: u32,
     ghost some: { 0 < page },
 }
 
-/// How many of `len` bytes lie in pages.
+/// How many of `len` bytes are in pages.
 fn pages_len(len: u64, page: u32, oob: u32) -> u64
     requires some { 0 < page }
     requires whole { oob ≢ 0 → len % (page + oob) ≡ 0 }
@@ -69,7 +69,7 @@ fn pages_len(len: u64, page: u32, oob: u32) -> u64
 }
 
 impl<F: PlacedFile> Pages<F> {
-    /// The pages of a file, each of `page` bytes with `oob` bytes behind it. If there are such, no bytes may be left over.
+    /// The pages of a file, each of `page` bytes and followed by `oob` bytes. If `oob` isn't 0, no bytes may be left over.
     pub fn of(file: SizedFile<F>, page: u32, oob: u32) -> SizedFile<Pages<F>>
         requires some { 0 < page }
         requires whole { oob ≢ 0 → file.len % (page + oob) ≡ 0 }
@@ -81,7 +81,7 @@ impl<F: PlacedFile> Pages<F> {
         SizedFile::new(Pages { file, page, oob }, len)
     }
 
-    /// Reads `len` raw bytes through a buffer, those from the byte `at` of the pages on, and gives their pages as far as they have room.
+    /// Reads `len` raw bytes through a buffer, from the byte `at` of the pages on, and gives as much of their pages as `out` has room for.
     fn read_small(&self, at: u64, len: usize, out: &mut [u8]) -> io::Result<usize>
         requires few { len ≤ SMALL }
         requires inside { at / self.now.page < self.now.file.len / (self.now.page + self.now.oob) }

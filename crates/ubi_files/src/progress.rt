@@ -5,16 +5,16 @@ ghost use Rattle.std.specs.Prelude.{◌≡◌};
 use std::io;
 use std::io::Write;
 
-/// From how many bytes on the progress of work on an image is shown.
+/// The number of bytes from which on the progress of work on an image is shown.
 const LONG: u64 = 1 << 28;
 
-/// A writer that hands all on to another, and shows on the standard error, which that reaches too, how far that is.
+/// A writer that hands everything on to another, and shows on standard error how far that is. The other writer reaches standard error, too.
 ///
 /// Its contents are those of the other.
 #[derive(Drop)]
 pub struct ProgressWriter<W> {
     writer: W,
-    /// How many bytes it may receive, where that is shown.
+    /// How many bytes it may receive, if that is shown.
     most: Option<u64>,
     /// How many it has received.
     received: u64,
@@ -23,7 +23,7 @@ pub struct ProgressWriter<W> {
 }
 
 impl<W: Write + Eprint> ProgressWriter<W> {
-    /// A writer of work on `most` bytes, which is shown where these are many and somebody watches.
+    /// A writer for work on `most` bytes. Its progress is shown if these are many and `is_watched`.
     pub fn new(writer: W, most: u64, is_watched: bool) -> ProgressWriter<W>
         ensures { result.writer ≡ writer }
     {
@@ -39,7 +39,7 @@ impl<W: Write + Eprint> ProgressWriter<W> {
         }
     }
 
-    /// Shows how far it is, where that is another hundredth than before.
+    /// Shows how far it is, if that is another hundredth than before.
     fn show(&mut self)
         ensures { W.contents self.new.writer ≡ W.contents self.old.writer }
     {
@@ -60,7 +60,7 @@ impl<W: Write + Eprint> ProgressWriter<W> {
         self.writer
     }
 
-    /// Takes the line away again.
+    /// Removes the line.
     pub fn clear(&self) {
         if self.last > 0 {
             let _ = self.writer.eprint("\r\x1b[K");

@@ -11,15 +11,15 @@ use std::fs::{Files, OpenFile};
 use std::io::{ErrorKind, Read, Seek, SeekFrom};
 use std::os::unix::fs::FileTypeExt;
 
-/// The bytes that are read at once.
+/// How many bytes are read at once.
 const CHUNK: usize = 16_384;
 
-/// All bytes of a reader, or the first `limit` of them where there are more. Room for so many as are expected is taken
-/// first, within the limit, so that it is taken once; what is kept grows with what was read where there are more.
+/// All bytes of a reader, or the first `limit` of them if there are more. Space for as many as are expected is reserved
+/// first, within the limit, so it is allocated once; if there are more, what is kept grows with what was read.
 ///
 /// # Errors
 ///
-/// Read where a read fails, with an error of any kind; no read is tried again. Memory where memory ran out. The reader
+/// `Read` if a read fails, with an error of any kind; no read is tried again. `Memory` if memory ran out. The reader
 /// may then stand further on, by `limit` bytes at most.
 pub fn read_limited<R: Read>(
     alloc: Global,
@@ -50,11 +50,11 @@ pub fn read_limited<R: Read>(
     Ok(bytes)
 }
 
-/// Passes over the first bytes of a reader, `limit` of them at most, and tells how many they were.
+/// Passes over the first bytes of a reader, `limit` of them at most, and says how many they were.
 ///
 /// # Errors
 ///
-/// Read where a read fails, with an error of any kind; no read is tried again. The reader may then stand further on, by `limit`
+/// `Read` if a read fails, with an error of any kind; no read is tried again. The reader may then stand further on, by `limit`
 /// bytes at most.
 pub fn skip_limited<R: Read>(reader: &mut R, limit: u64) -> Result<u64, ToolError>
     ensures count { IfOk result (λ n. IfSome (R.remaining reader.old) (λ xs. n ≡ min limit (length xs))) }
@@ -78,8 +78,8 @@ pub fn skip_limited<R: Read>(reader: &mut R, limit: u64) -> Result<u64, ToolErro
     Ok(skipped)
 }
 
-/// Whether a file that was just opened has an end: not so a character device that has places and tells no size, as
-/// `/dev/zero`. One that has no places, as a terminal, is read like a pipe.
+/// Whether a file that was just opened has an end. A character device that has places but no size, such as
+/// `/dev/zero`, has none. One that has no places, such as a terminal, is read like a pipe.
 fn has_end<F: OpenFile + Seek>(file: &mut F) -> bool {
     let is_device = match file.metadata() {
         Ok(metadata) => metadata.file_type().is_char_device(),
@@ -94,7 +94,7 @@ fn has_end<F: OpenFile + Seek>(file: &mut F) -> bool {
     }
 }
 
-/// How many bytes a file is expected to have: what the system tells of it, or none.
+/// How many bytes a file is expected to have: what the system says of it, or 0.
 pub fn expected_len<F: OpenFile>(file: &F) -> u64 {
     match file.metadata() {
         Ok(metadata) => metadata.len(),
@@ -106,7 +106,7 @@ pub fn expected_len<F: OpenFile>(file: &F) -> u64 {
 ///
 /// # Errors
 ///
-/// Read where it can't be opened, and where it has no end.
+/// `Read` if it can't be opened, or if it has no end.
 pub fn open_whole<R: Files>(rt: &R, path: &str) -> Result<R::File, ToolError>
     ensures { IfErr result (λ e. e ≡ ToolError.Read) }
 {

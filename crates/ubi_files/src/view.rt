@@ -11,22 +11,22 @@ use std::fmt;
 pub struct FilePart {
     /// The place of its first byte.
     pub start: u64,
-    /// How many bytes it has; where this is left out, it ends with the file.
+    /// Its length in bytes; if this is left out, it ends with the file.
     pub length: Option<u64>,
 }
 
-/// The part of a file that it is itself.
+/// The part that is the whole file.
 pub const WHOLE_FILE: FilePart = FilePart {
     start: 0,
     length: None,
 };
 
-/// Why a file can't be seen as the words tell.
+/// Why a file can't be read as the words say.
 #[derive(Clone, Copy)]
 pub enum Misfit {
-    /// The part begins or ends beyond the end of the file, which has so many bytes.
+    /// The part begins or ends beyond the end of the file, which has this many bytes.
     Part(u64),
-    /// So many bytes of the part are left over behind the last page that has its out-of-band bytes.
+    /// This many bytes of the part are left over after the last page that has its out-of-band bytes.
     Pages(u64),
 }
 
@@ -41,8 +41,8 @@ impl fmt::Display for Misfit {
     }
 }
 
-/// Why a file of `len` bytes can't be seen as its part with pages of `page` bytes, behind each of which lie `oob` out-of-band bytes.
-/// None where it can.
+/// Why a file of `len` bytes can't be seen as its part with pages of `page` bytes, each followed by `oob` out-of-band bytes. `None`
+/// if it can.
 pub fn misfit_of(part: FilePart, page: u32, oob: u32, len: u64) -> Option<Misfit>
     requires { 0 < page }
     ensures { result ≡ misfit part page oob len }

@@ -27,7 +27,7 @@ use std::alloc::{AllocError, Global};
 use std::io::Read;
 use ubi_media::Geometry;
 
-/// What is told of a file that can't be seen as the words tell: its line, or that memory ran out.
+/// What is answered for a file that can't be read as the words say: its line, or that memory ran out.
 pub fn unseen(alloc: Global, misfit: Misfit) -> Unread
     ensures { Tells (λ o. Gives o (says (misfit_line misfit) 1)) result }
 {
@@ -46,7 +46,7 @@ struct PartRead {
     len: u64,
 }
 
-/// Reads the part of a file, `most` bytes of it at most. What lies before it is passed over.
+/// Reads the part of a file, at most `most` bytes of it. What lies before it is passed over.
 fn read_part<F: Read>(
     alloc: Global,
     file: &mut WholeFile<F>,
@@ -67,7 +67,7 @@ fn read_part<F: Read>(
     Ok(PartRead { bytes, len })
 }
 
-/// How many bytes the pages of a device and one page more have, with `oob` out-of-band bytes behind each; at most as many as can be
+/// How many bytes the pages of a device and one page more have, with `oob` out-of-band bytes after each; at most as many as can be
 /// counted.
 fn raw_len(geometry: &Geometry, oob: u32) -> u64
     ensures { result ≡ min ((geometry.now.pebs * geometry.now.peb_size / geometry.now.page + 1) * (geometry.now.page + oob)) (2 ^ 64 - 1) }
@@ -77,7 +77,7 @@ fn raw_len(geometry: &Geometry, oob: u32) -> u64
     (device / page + 1).saturating_mul(page + u64::from(oob))
 }
 
-/// Makes of the bytes of a part what is seen of it, as far as that is judged.
+/// Turns the bytes of a part into what is seen of it, as far as that is judged.
 fn see(bytes: &mut Vec<u8>, frame: &Frame<'_>)
     ensures { bytes.new.items ≡ masked frame.now.geometry.peb_size frame.now.marks.items (take (frame.now.geometry.pebs * frame.now.geometry.peb_size + 1) (pages_of frame.now.geometry.page frame.now.dump.oob bytes.old.items)) }
 {
@@ -92,7 +92,7 @@ fn see(bytes: &mut Vec<u8>, frame: &Frame<'_>)
     );
 }
 
-/// A number, or another where that is less; of the other it is known, as far as it can be counted, what it is.
+/// The lesser of a number and another, which is `most` as far as it can be counted.
 fn at_most(number: u64, most: u64) -> u64
     ensures { (n : ℕ) → most ≡ min n (2 ^ 64 - 1) → result ≡ min number n }
 {
@@ -114,7 +114,7 @@ fn part_read(frame: &Frame<'_>) -> FilePart
     }
 }
 
-/// The image of a dump of whose part so much was read.
+/// The image of a dump, of whose part this much was read.
 ///
 /// # Errors
 ///
@@ -173,7 +173,7 @@ pub fn load_seen<D: Disk>(
     }
 }
 
-/// What was read of the part of a dump, of whose bytes all are kept, where no more than a device of its geometry has is read.
+/// What was read of the part of a dump whose bytes are all kept, if no more is read than a device of its geometry has.
 fn kept_part(frame: &Frame<'_>, kept: Vec<u8>) -> Option<PartRead>
     ensures read { (d : Files) (path : List ℕ) → IsPartOf d frame.now.dump path kept.items → IfSome result (λ read. IsReadOf d frame.now.dump path read.bytes.items read.len) }
     ensures none { result ≡ None → 2 ^ 64 ≤ frame.now.dump.part.start + length kept.items }

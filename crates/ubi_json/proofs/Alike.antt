@@ -1,4 +1,4 @@
--- The printed lines of causes and their objects tell the same.
+-- The printed lines of causes and their objects say the same.
 use Rattle.ubi_json.proofs.Prelude.{◌≡◌, ◌++◌, [], List, ap, codes, ℕ, Side, compare_error_text, refused_at, side_word, append-nil, append_assoc, refl, decimal, refusal_text, Refusal, undetected_text, Undetected, told_of, told_text, undetected_told}
 use Rattle.ubi_media.specs.declared.refusal.Refusal.TheVariants as cause
 use Rattle.ubi_compare.specs.declared.difference.Side.TheVariants as side

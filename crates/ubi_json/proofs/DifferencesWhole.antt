@@ -1,4 +1,4 @@
--- What is told of differences has no float, and nests little.
+-- The JSON of differences has no float, and nests little.
 use Rattle.ubi_json.proofs.Prelude.{◌≡◌, ◌≤◌, List, [], ◌∷◌, arith, false, map, refl, depth, items_depth, items_of, has_float, items_have_float, Difference, difference_data, differences_data}
 use Rattle.ubi_compare.specs.declared.difference.Difference.TheVariants as difference
 

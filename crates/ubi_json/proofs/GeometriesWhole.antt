@@ -1,4 +1,4 @@
--- What is told of geometries has no float, and nests little.
+-- The JSON of geometries has no float, and nests little.
 use Rattle.ubi_json.proofs.Prelude.{◌≡◌, ◌+◌, ◌^◌, ◌≤◌, Bool, List, [], ◌∷◌, arith, cond, false, map, nat_lt, refl, true, ℕ, decimal, depth, items_depth, number, string, unsigned, items_of, has_float, items_have_float, Detected, FilePart, detected_data, geometries_data, place_data}
 
 either_whole : (b : Bool) (n : ℕ) → has_float (cond b (number (unsigned n)) (string (decimal n))) ≡ false

@@ -1,4 +1,4 @@
--- What is listed has no float, and nests little.
+-- The JSON of volumes has no float, and nests little.
 use Rattle.ubi_json.proofs.Prelude.{◌≡◌, ◌≤◌, List, [], ◌∷◌, arith, false, map, refl, depth, items_depth, items_of, has_float, items_have_float, Sizes, VolumeRecord, Amount, listed_data, record_members, volume_data, with_amount, ListedVolume, ℕ, members_depth, members_have_float}
 use Rattle.ubi_volume.specs.declared.block.Amount.TheVariants as amount
 

@@ -1,4 +1,4 @@
--- What is told of the eraseblocks of an image, as JSON.
+-- The states of the eraseblocks of an image, as JSON.
 use Rattle.std.specs.Prelude.{ℕ, List, codes, length, true}
 use Rattle.serde_json.specs.Data.{Data, boolean, member, no_members, object}
 use Rattle.ubi_volume.specs.Survey.{Seen}
@@ -21,8 +21,8 @@ states_data states =
     (numbered (codes "table") (count_of states state.Table)
     (numbered (codes "used") (count_of states state.Used) no_members)))))))))
 
--- an image that is accepted: how many eraseblocks it has, its number, the mean of the erase counters, the counts of the states, and
--- the greatest sequence number
+-- an image that is accepted: how many eraseblocks it has, its image sequence number, the mean erase counter, the counts of the
+-- states, and the greatest sequence number
 abbrev pub counts_data : ℕ → ℕ → ℕ → Data → ℕ → Data
 counts_data blocks image_seq mean states top =
     object
@@ -32,6 +32,6 @@ counts_data blocks image_seq mean states top =
     (numbered (codes "mean_counter") mean
     (member (codes "states") states (numbered (codes "top_sqnum") top no_members))))))
 
--- of an image that is surveyed
+-- the data of an image that is surveyed
 abbrev pub check_data : Seen → Data
 check_data a = counts_data (length a.states) a.scan.image_seq a.scan.mean_ec (states_data a.states) a.scan.top_sqnum

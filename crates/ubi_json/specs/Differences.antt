@@ -1,4 +1,4 @@
--- What is told of two images that are compared, as JSON.
+-- What comparing two images answers, as JSON.
 use Rattle.std.specs.Prelude.{ℕ, ◌==◌, Bool, List, codes, length, map}
 use Rattle.serde_json.specs.Data.{Data, array, boolean, member, no_members, number, object, string, unsigned}
 use Rattle.serde_json.specs.View.{items_of}
@@ -11,17 +11,17 @@ use Rattle.ubi_json.specs.Words.{condition_word, kind_word, shown, side_word}
 abbrev pub same_data : Bool → Data
 same_data same = object (member (codes "same") (boolean same) no_members)
 
--- what differs of a volume with a number, and what stands on either side
+-- a difference of the volume with a number, and what stands on either side
 abbrev pub sides_data : ℕ → List ℕ → Data → Data → Data
 sides_data id what left right =
     object
     (numbered (codes "id") id (member (codes "left") left (member (codes "right") right (worded (codes "what") what no_members))))
 
--- with a number on either side
+-- a difference with a number on either side
 abbrev pub numbers_data : ℕ → List ℕ → ℕ → ℕ → Data
 numbers_data id what left right = sides_data id what (number (unsigned left)) (number (unsigned right))
 
--- with a word on either side
+-- a difference with a word on either side
 abbrev pub words_data : ℕ → List ℕ → List ℕ → List ℕ → Data
 words_data id what left right = sides_data id what (string left) (string right)
 
@@ -42,11 +42,11 @@ difference_data (difference.Lebs id first last) =
     object
     (numbered (codes "first") first (numbered (codes "id") id (numbered (codes "last") last (worded (codes "what") (codes "lebs") no_members))))
 
--- whether there are none
+-- whether there are no differences
 abbrev pub are_none : List Difference → Bool
 are_none ds = length ds == 0
 
--- all of them in their order, and whether there are none
+-- all differences in order, and whether there are none
 abbrev pub differences_data : List Difference → Data
 differences_data ds =
     object

@@ -1,4 +1,4 @@
--- What is told of the geometries that a dump's own headers give, as JSON.
+-- The geometries that a dump's own headers give, as JSON.
 use Rattle.std.specs.Prelude.{ℕ, ◌+◌, ◌^◌, List, codes, decimal, if◌then◌else◌, map, nat_lt}
 use Rattle.serde_json.specs.Data.{Data, array, member, no_members, number, object, string, unsigned}
 use Rattle.serde_json.specs.View.{items_of}
@@ -6,12 +6,12 @@ use Rattle.ubi_detect.specs.declared.detect.Detected.{Detected}
 use Rattle.ubi_files.specs.declared.view.FilePart.{FilePart}
 use Rattle.ubi_json.specs.Line.{numbered}
 
--- a place in a file: a number; or its digits, where 64 bits don't hold it, as in no file that there is
+-- a place in a file: a number; or its digits, if 64 bits don't hold it, as is so in no file that there is
 abbrev pub place_data : ℕ → Data
 place_data n = if nat_lt n (2 ^ 64) then number (unsigned n) else string (decimal n)
 
--- what is told of an image that was found in a part of a file: its sizes, how many out-of-band bytes lie behind each page, and where in
--- the file it lies
+-- an image that was found in a part of a file: its sizes, how many out-of-band bytes follow each page, and where in the file
+-- it lies
 abbrev pub detected_data : FilePart → Detected → Data
 detected_data part told =
     object
@@ -22,6 +22,6 @@ detected_data part told =
     (numbered (codes "peb") told.geometry.peb_size
     (member (codes "start") (place_data (part.start + told.start)) (numbered (codes "vid") told.geometry.vid_offset no_members)))))))
 
--- all that is told, in its order
+-- all that is found, in order
 abbrev pub geometries_data : FilePart → List Detected → Data
 geometries_data part found = object (member (codes "geometries") (array (items_of (map (detected_data part) found))) no_members)

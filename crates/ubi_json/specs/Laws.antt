@@ -1,4 +1,4 @@
--- Laws of what is told, as they stand on functions that do nothing.
+-- Laws of the JSON, as they stand on functions that do nothing.
 use Rattle.std.specs.Prelude.{◌≡◌, ◌++◌, codes, nat_le, true}
 use Rattle.std.specs.List.{list_all}
 use Rattle.serde_json.specs.Data.{Data}
@@ -20,8 +20,8 @@ abbrev pub refused_at : Side → Refusal → CompareError
 refused_at side.Left c = error.Left c
 refused_at side.Right c = error.Right c
 
--- what is printed of a cause is told of it as JSON: the code, the name, each number under its word, and the name of the rule; and of
--- one of two images the side
+-- the printed line of a cause says the same as its JSON: the code, the name, each number under its word, and the name of the rule;
+-- and the side, if it is one of two images
 pub record TellAlike : Type 0 where
   pub refusals : (c : Refusal) → refusal_text c ≡ told_text (told_of c)
   pub undetected : (c : Undetected) → undetected_text c ≡ told_text (undetected_told c)

@@ -8,7 +8,7 @@ use Rattle.serde_json.specs.Written.{compact_text}
 abbrev pub numbered : List ℕ → ℕ → Members → Members
 numbered key n rest = member key (number (unsigned n)) rest
 
--- one that is a word
+-- a member that is a word, before others
 abbrev pub worded : List ℕ → List ℕ → Members → Members
 worded key word rest = member key (string word) rest
 

@@ -1,4 +1,4 @@
--- What is told of the volumes of an image, as JSON.
+-- The volumes of an image, as JSON.
 use Rattle.std.specs.Prelude.{ℕ, List, codes, map}
 use Rattle.std.specs.FinMap.{entries}
 use Rattle.serde_json.specs.Data.{Data, Items, Members, array, member, no_members, number, object, put, string, unsigned}
@@ -38,7 +38,7 @@ record_members s id r =
     (numbered (codes "reserved") r.reserved
     (numbered (codes "usable") (usable s r) no_members))))))
 
--- beside it, how much the volume reads: the bytes of a static one, or how many LEBs of a dynamic one aren't blank; or why it can't be read
+-- with how much the volume reads: the bytes of a static one, or how many LEBs of a dynamic one aren't blank; or why it can't be read
 abbrev pub with_amount : Amount → Members → Members
 with_amount amount.Updating ms = put (codes "state") (string (codes "updating")) ms
 with_amount amount.Damaged ms = put (codes "state") (string (codes "damaged")) ms
@@ -53,7 +53,7 @@ volume_data s v = object (with_amount v.amount (record_members s v.id v.entry))
 abbrev pub volumes_data : Data → Items → Data
 volumes_data sizes volumes = object (member (codes "geometry") sizes (member (codes "volumes") (array volumes) no_members))
 
--- those of these sizes
+-- the sizes of a device of these sizes, and its volumes
 abbrev pub listed_data : Sizes → List ListedVolume → Data
 listed_data s volumes = volumes_data (sizes_data s) (items_of (map (volume_data s) volumes))
 
@@ -61,6 +61,6 @@ listed_data s volumes = volumes_data (sizes_data s) (items_of (map (volume_data 
 abbrev pub listed_volume : ℕ × Volume → ListedVolume
 listed_volume (id, v) = record { id = id; entry = v.entry; amount = amount_of v.content }
 
--- a meaning: the volumes by rising number
+-- a meaning: the volumes in ascending order
 abbrev pub list_data : Meant → Data
 list_data m = listed_data m.sizes (map listed_volume (entries m.volumes))

@@ -1,4 +1,4 @@
--- What is told of a cause for which nothing else is told, as a line and as JSON.
+-- Causes for which there is no other answer, as a line and as JSON.
 use Rattle.std.specs.Prelude.{ℕ, ◌∷◌, ◌++◌, [], List, None, Option, Some, codes, decimal, fold, if◌then◌else◌, length, take, ◌-◌}
 use Rattle.std.specs.Str.Lossy.{utf8_lossy}
 use Rattle.std.specs.Str.{bytes_eq}
@@ -19,7 +19,7 @@ pub record Told : Type 0 where
   pub numbers : List (List ℕ × ℕ)
   pub fault : Option (List ℕ)
 
--- the word of a number in the line: as in the object, but that the second of two slots has the word of the first
+-- the word of a number in the line: that in the object, except that the second of two slots has the word of the first
 abbrev pub line_word : List ℕ → List ℕ
 line_word word = if bytes_eq word (codes "next_slot") then codes "slot" else word
 
@@ -37,11 +37,11 @@ fault_text (Some name) = codes " " ++ name
 abbrev pub told_text : Told → List ℕ
 told_text t = t.code ++ (codes " " ++ (t.cause ++ (numbers_text t.numbers ++ fault_text t.fault)))
 
--- members, and beside them the numbers
+-- members, followed by the numbers
 abbrev pub with_numbers : List (List ℕ × ℕ) → Members → Members
 with_numbers numbers ms = fold (λ m (word, n). put word (number (unsigned n)) m) ms numbers
 
--- members, and beside them the rule
+-- members, followed by the rule
 abbrev pub with_fault : Option (List ℕ) → Members → Members
 with_fault None ms = ms
 with_fault (Some name) ms = put (codes "fault") (string name) ms
@@ -58,11 +58,11 @@ refused_data ms = object (member (codes "refused") (object ms) no_members)
 abbrev pub bare : List ℕ → List ℕ → Told
 bare code name = record { code = code; cause = name; numbers = []; fault = None }
 
--- one that names an eraseblock
+-- a cause that names an eraseblock
 abbrev pub at_block : List ℕ → List ℕ → ℕ → Told
 at_block code name p = record { code = code; cause = name; numbers = (codes "block", p) ∷ []; fault = None }
 
--- one that names an eraseblock and the rule that it breaks
+-- a cause that names an eraseblock and the rule that it breaks
 abbrev pub at_fault : List ℕ → List ℕ → ℕ → List ℕ → Told
 at_fault code name p fault = record { code = code; cause = name; numbers = (codes "block", p) ∷ []; fault = Some fault }
 
@@ -91,11 +91,11 @@ told_of (cause.Mismatch p) = at_block (codes "V1") (codes "Mismatch") p
 abbrev pub refusal_data : Refusal → Data
 refusal_data c = refused_data (told_members (told_of c))
 
--- that of one of two images that is refused, with the side on which it stands
+-- the object of one of two images that is refused, with the side on which it stands
 abbrev pub side_data : Side → Refusal → Data
 side_data side c = refused_data (put (codes "side") (string (side_word side)) (told_members (told_of c)))
 
--- the cause for which no geometry is told of a file
+-- the cause for which no geometry is found in a file
 abbrev pub undetected_told : Undetected → Told
 undetected_told unknown.NoHeader = bare (codes "F1") (codes "NoHeader")
 undetected_told unknown.NoSize = bare (codes "F2") (codes "NoSize")
@@ -111,11 +111,11 @@ undetected_told (unknown.Page size o) =
       fault = None;
     }
 
--- the object of a file of which no geometry is told
+-- the object of a file in which no geometry is found
 abbrev pub undetected_data : Undetected → Data
 undetected_data c = refused_data (told_members (undetected_told c))
 
--- the object of a file that can't be had: what is printed of that, without the line's end. It is text, as words are: any byte that
--- were none would be the replacement character
+-- the object of a file that can't be opened: what is printed for it, without the line's end; it is text, as words are, and any
+-- byte that isn't would be the replacement character
 abbrev pub error_data : List ℕ → Data
 error_data line = object (member (codes "error") (string (utf8_lossy (take (length line - 1) line))) no_members)

@@ -11,7 +11,7 @@ use Rattle.ubi_compare.specs.declared.difference.Condition.TheVariants as condit
 use Rattle.ubi_compare.specs.declared.difference.Side.{Side}
 use Rattle.ubi_compare.specs.declared.difference.Side.TheVariants as side
 
--- a byte of a name as it is shown: a printable one but the backslash as it is, and any other by its two digits
+-- a byte of a name as it is shown: a printable one, except the backslash, as it is, and any other as its two digits
 abbrev pub shown_byte : ℕ → List ℕ
 shown_byte b = if nat_le 0x21 b && nat_le b 0x7E && not (b == 0x5C) then b ∷ [] else codes "\\x" ++ encode_lower (b ∷ [])
 
@@ -48,6 +48,6 @@ same_state state.Used state.Used = true
 same_state state.Stale state.Stale = true
 same_state _ _ = false
 
--- how many have a state
+-- how many eraseblocks have a state
 abbrev pub count_of : List BlockState → BlockState → ℕ
 count_of states of = count_by (λ s. same_state s of) states

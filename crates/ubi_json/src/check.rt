@@ -47,8 +47,8 @@ fn states_value(alloc: Global, states: &[BlockState]) -> Result<Value, AllocErro
     })
 }
 
-/// An image that is accepted: how many eraseblocks it has, its number, the mean of the erase counters, the counts of the
-/// states, and the greatest sequence number.
+/// An image that is accepted: how many eraseblocks it has, its image sequence number, the mean erase counter, the counts
+/// of the states, and the greatest sequence number.
 fn counts_value(
     alloc: Global,
     blocks: u64,
@@ -69,7 +69,7 @@ fn counts_value(
     })
 }
 
-/// An image that is surveyed: how many eraseblocks have each state, and the numbers of the image.
+/// The object of an image that is surveyed: how many eraseblocks have each state, and the numbers of the image.
 ///
 /// # Errors
 ///

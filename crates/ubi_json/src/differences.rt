@@ -1,4 +1,4 @@
-//! What is told of two images that are compared, as JSON.
+//! What comparing two images answers, as JSON.
 
 ghost use Rattle.std.specs.Prelude.{◌≡◌, IfOk, codes, map};
 ghost use Rattle.serde_json.specs.View.{view};
@@ -54,7 +54,7 @@ pub fn same_line(alloc: Global, same: bool) -> Result<Vec<u8>, AllocError>
     line_of(alloc, &value)
 }
 
-/// What differs of a volume, and what stands on either side.
+/// A difference of a volume, and what stands on either side.
 fn sides_value(
     alloc: Global,
     id: u32,
@@ -67,7 +67,7 @@ fn sides_value(
     json!(in alloc; {"id": u64::from(id), "left": left, "right": right, "what": what})
 }
 
-/// What differs of a volume, with a number on either side.
+/// A difference of a volume, with a number on either side.
 fn numbers_value(
     alloc: Global,
     id: u32,
@@ -80,7 +80,7 @@ fn numbers_value(
     sides_value(alloc, id, what, Value::from(left), Value::from(right))
 }
 
-/// What differs of a volume, with a word on either side.
+/// A difference of a volume, with a word on either side.
 fn words_value(
     alloc: Global,
     id: u32,
@@ -144,7 +144,7 @@ fn difference_value(alloc: Global, difference: &Difference) -> Result<Value, All
     }
 }
 
-/// Differences in their order.
+/// Differences in order.
 fn difference_values(alloc: Global, told: &[Difference]) -> Result<Vec<Value>, AllocError>
     ensures { IfOk result (λ values. map view values.items ≡ map difference_data told.now) }
 {
@@ -155,7 +155,7 @@ fn difference_values(alloc: Global, told: &[Difference]) -> Result<Vec<Value>, A
     Ok(values)
 }
 
-/// Differences in their order, and whether there are none.
+/// Differences in order, and whether there are none.
 fn differences_value(alloc: Global, told: &[Difference]) -> Result<Value, AllocError>
     ensures { IfOk result (λ v. view v ≡ differences_data told.now) }
 {
@@ -163,7 +163,7 @@ fn differences_value(alloc: Global, told: &[Difference]) -> Result<Value, AllocE
     json!(in alloc; {"differences": values, "same": told.is_empty()})
 }
 
-/// The line of the differences of two images, in their order, and of whether there are none.
+/// The line of the differences of two images, in order, and of whether there are none.
 ///
 /// # Errors
 ///

@@ -12,7 +12,7 @@ use std::alloc::{AllocError, Global};
 use ubi_detect::Detected;
 use ubi_files::FilePart;
 
-/// The place that lies so many bytes behind a start.
+/// The place that lies `behind` bytes after a start.
 fn place_value(alloc: Global, start: u64, behind: u64) -> Result<Value, AllocError>
     ensures { IfOk result (λ v. view v ≡ place_data (start + behind)) }
 {
@@ -25,7 +25,7 @@ fn place_value(alloc: Global, start: u64, behind: u64) -> Result<Value, AllocErr
     }
 }
 
-/// What is told of an image that was found in a part of a file.
+/// An image that was found in a part of a file.
 fn detected_value(alloc: Global, part: FilePart, told: &Detected) -> Result<Value, AllocError>
     ensures { IfOk result (λ v. view v ≡ detected_data part told.now) }
 {
@@ -41,7 +41,7 @@ fn detected_value(alloc: Global, part: FilePart, told: &Detected) -> Result<Valu
     })
 }
 
-/// All that is told of a part of a file, in its order.
+/// All that is found in a part of a file, in order.
 fn detected_values(
     alloc: Global,
     part: FilePart,
@@ -56,7 +56,7 @@ fn detected_values(
     Ok(values)
 }
 
-/// The object of all that is told.
+/// The object of all that is found.
 fn geometries_value(alloc: Global, part: FilePart, found: &[Detected]) -> Result<Value, AllocError>
     ensures { IfOk result (λ v. view v ≡ geometries_data part found.now) }
 {
@@ -64,7 +64,7 @@ fn geometries_value(alloc: Global, part: FilePart, found: &[Detected]) -> Result
     json!(in alloc; {"geometries": told})
 }
 
-/// The line of all that is told of the geometry of a part of a file, in its order.
+/// The line of all geometries that are found in a part of a file, in order.
 ///
 /// # Errors
 ///

@@ -2,8 +2,8 @@
 
 ghost use Rattle.ubi_json.specs.Laws.{OneLine, TellAlike};
 
-/// The printed line of a cause and its object tell the same: the code, the name, each number under its word, the name of
-/// the rule that is broken, and of one of two images the side.
+/// The printed line of a cause and its object say the same: the code, the name, each number under its word, the name of
+/// the rule that is broken, and the side, if it is one of two images.
 pub fn tell_alike()
     ensures { TellAlike }
 {}

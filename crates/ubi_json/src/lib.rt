@@ -1,5 +1,5 @@
-//! What the commands tell, as JSON: one object on one line, whose text is given and reads back as the data that the
-//! definitions name.
+//! The answers of the commands as JSON: one object on one line. Each text is given exactly, and reads back as the
+//! data that the definitions name.
 #![tactic(auto)]
 
 mod check;

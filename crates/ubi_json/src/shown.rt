@@ -19,7 +19,7 @@ fn put_shown_byte(alloc: Global, text: &mut String, byte: u8) -> Result<(), Allo
     Ok(())
 }
 
-/// A name as it is shown: printable bytes but the backslash as they are, and any other as `\x` and two digits.
+/// A name as it is shown: printable bytes, except the backslash, as they are, and any other as `\x` and two digits.
 ///
 /// # Errors
 ///

@@ -1,4 +1,4 @@
-//! Causes for which nothing else is told, as JSON.
+//! Causes for which there is no other answer, as JSON.
 
 ghost use Rattle.std.specs.Prelude.{◌≡◌, ◌-◌, IfOk, OnOk, false, length, map, option_map, string_bytes, take};
 ghost use Rattle.std.specs.Str.Lossy.{utf8_lossy};
@@ -66,14 +66,14 @@ fn told_members(
     Ok(members)
 }
 
-/// Those of a cause without numbers.
+/// The members of a cause without numbers.
 fn bare(alloc: Global, code: &str, name: &str) -> Result<Map<String, Value>, AllocError>
     ensures { IfOk result (λ m. members_view m.entries ≡ told_members (bare code.now name.now)) }
 {
     told_members(alloc, code, name, &[], None)
 }
 
-/// Those of one that names an eraseblock.
+/// The members of a cause that names an eraseblock.
 fn at_block(
     alloc: Global,
     code: &str,
@@ -85,7 +85,7 @@ fn at_block(
     told_members(alloc, code, name, &[("block", u64::from(block))], None)
 }
 
-/// Those of one that names an eraseblock and the rule that it breaks.
+/// The members of a cause that names an eraseblock and the rule that it breaks.
 fn at_fault(
     alloc: Global,
     code: &str,
@@ -197,7 +197,7 @@ pub fn refusal_line(alloc: Global, cause: Refusal) -> Result<Vec<u8>, AllocError
     line_of(alloc, &value)
 }
 
-/// The members of the cause for which no geometry is told of a file.
+/// The members of the cause for which no geometry is found in a file.
 fn undetected_members(alloc: Global, cause: Undetected) -> Result<Map<String, Value>, AllocError>
     ensures { IfOk result (λ m. members_view m.entries ≡ told_members (undetected_told cause)) }
 {
@@ -233,7 +233,7 @@ fn undetected_members(alloc: Global, cause: Undetected) -> Result<Map<String, Va
     }
 }
 
-/// The object of the cause for which no geometry is told of a file.
+/// The object of the cause for which no geometry is found in a file.
 fn undetected_value(alloc: Global, cause: Undetected) -> Result<Value, AllocError>
     ensures { IfOk result (λ v. view v ≡ undetected_data cause) }
 {
@@ -241,7 +241,7 @@ fn undetected_value(alloc: Global, cause: Undetected) -> Result<Value, AllocErro
     refused(alloc, members)
 }
 
-/// The line of the cause for which no geometry is told of a file, as JSON.
+/// The line of the cause for which no geometry is found in a file, as JSON.
 ///
 /// # Errors
 ///
@@ -261,7 +261,7 @@ fn text_of(alloc: Global, printed: &[u8]) -> Result<String, AllocError>
     String::from_utf8_lossy(alloc, &printed[..end])
 }
 
-/// The object of a file that can't be had, by what is printed of that.
+/// The object of a file that can't be opened, by what is printed for it.
 fn error_value(alloc: Global, printed: &[u8]) -> Result<Value, AllocError>
     ensures { IfOk result (λ v. view v ≡ error_data printed.now) }
 {
@@ -269,7 +269,7 @@ fn error_value(alloc: Global, printed: &[u8]) -> Result<Value, AllocError>
     json!(in alloc; {"error": text})
 }
 
-/// The line of a file that can't be had, as JSON, by what is printed of that.
+/// The line of a file that can't be opened, as JSON, by what is printed for it.
 ///
 /// # Errors
 ///

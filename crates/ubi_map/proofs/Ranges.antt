@@ -1,4 +1,4 @@
--- What is told of the numbers of a range, one after the other.
+-- What is found for the numbers of a range, in order.
 use Rattle.ubi_map.proofs.Prelude.{◌≡◌, ◌∙◌, ℕ, zero, suc, ◌+◌, List, ◌++◌, ap, sym, arith, append_assoc, append-nil, flat_map, range_with_len}
 
 pub flat_more : {A : Type 0} (f : ℕ → List A) (a n j : ℕ) → a + n ≡ j

@@ -1,4 +1,4 @@
--- What is told of eraseblocks has no float.
+-- The JSON of eraseblocks has no float.
 use Rattle.ubi_map.proofs.Prelude.{◌≡◌, ℕ, List, [], ◌∷◌, false, map, refl, string, items_of, has_float, items_have_float, Sizes, Refusal, Seen, refusal_data, ListedVolume, listed_whole, refused_data, surveyed_data}
 
 texts_whole : (texts : List (List ℕ)) → items_have_float (items_of (map string texts)) ≡ false

@@ -1,4 +1,4 @@
--- What is told of the two headers of an eraseblock: what each is, and its bytes.
+-- The two headers of an eraseblock as lines: what each is, and its bytes.
 use Rattle.std.specs.Prelude.{◌≡◌, ℕ, List, ◌++◌, codes}
 use Rattle.hex.specs.Hex.{encode_lower}
 use Rattle.ubi_media.specs.Ec.{ec_reading}

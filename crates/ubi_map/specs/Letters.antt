@@ -24,11 +24,11 @@ state_letter state.Table = codes "t"
 state_letter state.Used = codes "u"
 state_letter state.Stale = codes "s"
 
--- those of the eraseblocks of an image that is accepted
+-- the letters of the eraseblocks of an image that is accepted
 abbrev pub state_letters : List BlockState → List ℕ
 state_letters states = flat_map state_letter states
 
--- the letter of an eraseblock by its headers alone: one of a volume, of the table, or at fault; or else one without a VID header
+-- the letter of an eraseblock by its headers alone: one for a volume, for the table, or for a fault; or else one for having no VID header
 abbrev pub header_letter : EcRead → VidRead → List ℕ
 header_letter (ec_read.Fault f) v = codes "!"
 header_letter e (vid_read.Fault f) = codes "!"
@@ -38,15 +38,15 @@ header_letter e vid_read.Corrupt = codes "c"
 header_letter ec_read.Blank vid_read.Blank = codes "b"
 header_letter (ec_read.Valid h) vid_read.Blank = codes "f"
 
--- those of the first n eraseblocks
+-- the letters of the first n eraseblocks, by their headers alone
 abbrev pub header_letters : Sizes → List (List ℕ) → ℕ → List ℕ
 header_letters s bs n = flat_map (λ p. header_letter (ec s (block bs p)) (vid s (block bs p))) (range_with_len 0 n)
 
--- a number, behind as many blanks as it lacks of seven digits
+-- a number, after as many blanks as it lacks of seven digits
 abbrev pub aligned : ℕ → List ℕ
 aligned n = drop (length (decimal n)) (codes "       ") ++ decimal n
 
--- a row: 64 letters behind the number of the first eraseblock
+-- a row: the number of the first eraseblock, and then 64 letters
 abbrev pub row : List ℕ → ℕ → List ℕ
 row letters k = aligned (64 * k) ++ codes " " ++ take 64 (drop (64 * k) letters) ++ codes "\n"
 

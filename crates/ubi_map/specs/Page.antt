@@ -5,7 +5,7 @@ use Rattle.serde_json.specs.Data.{Data}
 use Rattle.serde_json.specs.Written.{compact_text}
 use Rattle.ubi_map.specs.declared.frame.TheConstants.{AFTER, BEFORE}
 
--- a byte of the text as it stands in a script element, which `<` could end: that by its digits
+-- a byte of the text as it stands in a script element; `<`, which could end that, stands as its digits
 abbrev pub script_byte : ℕ → List ℕ
 script_byte b = if b == 0x3C then codes "\\u003c" else b ∷ []
 
@@ -13,6 +13,6 @@ script_byte b = if b == 0x3C then codes "\\u003c" else b ∷ []
 abbrev pub script_text : Data → List ℕ
 script_text d = flat_map script_byte (compact_text d)
 
--- the page
+-- the page that shows some data
 abbrev pub page_of : Data → List ℕ
 page_of d = BEFORE.now ++ script_text d ++ AFTER.now

@@ -1,4 +1,4 @@
-//! What is told of the eraseblocks of an image one by one, as JSON.
+//! The eraseblocks of an image one by one, as JSON.
 
 ghost use Rattle.std.specs.Prelude.{◌≡◌, All, IfOk, None, false, map, string_bytes};
 ghost use Rattle.serde_json.specs.Data.{string};
@@ -25,7 +25,7 @@ fn text_values(alloc: Global, texts: &[String]) -> Result<Vec<Value>, AllocError
     Ok(values)
 }
 
-/// All of them.
+/// An array of texts.
 fn texts_value(alloc: Global, texts: &[String]) -> Result<Value, AllocError>
     ensures { IfOk result (λ v. view v ≡ texts_data (map string_bytes texts.now)) }
 {
@@ -33,7 +33,7 @@ fn texts_value(alloc: Global, texts: &[String]) -> Result<Value, AllocError>
     Ok(Value::Array(values))
 }
 
-/// An image that is accepted: its eraseblocks, what `check` and `list` tell of it, and a letter for the state of each eraseblock.
+/// An image that is accepted: its eraseblocks, what `check` and `list` print for it, and a letter for the state of each eraseblock.
 fn accepted_value(
     alloc: Global,
     blocks: Value,
@@ -46,7 +46,7 @@ fn accepted_value(
     json!(in alloc; {"blocks": blocks, "check": check, "list": list, "states": states})
 }
 
-/// One that is refused: its eraseblocks, the sizes of the device, the cause, and a letter for each eraseblock.
+/// An image that is refused: its eraseblocks, the sizes of the device, the cause, and a letter for each eraseblock.
 fn unaccepted_value(
     alloc: Global,
     blocks: Value,
@@ -77,7 +77,7 @@ pub(crate) fn surveyed_value(
     accepted_value(alloc, blocks, check, list, states)
 }
 
-/// One that is refused for a cause, by the lines of its eraseblocks' headers and their letters.
+/// An image that is refused for a cause, by the lines of its eraseblocks' headers and their letters.
 pub(crate) fn refused_value(
     alloc: Global,
     geometry: &Geometry,

@@ -1,6 +1,6 @@
-//! The frame of the page: what stands before the data, and what stands after them. It needs nothing but itself.
+//! The frame of the page: what stands before the data, and what stands after them. It needs no other file.
 
-/// The page as far as the data: what it looks like, and the places that the data fill.
+/// The page before the data: what it looks like, and the places that the data fill.
 pub const BEFORE: &str = r##"<!doctype html>
 <html lang="en">
 <head>
@@ -46,7 +46,7 @@ td, th { padding: 4px 10px 4px 0; border-bottom: 1px solid var(--line); overflow
 </main>
 <script type="application/json" id="data">"##;
 
-/// The page behind the data: how they are shown.
+/// The page after the data: how they are shown.
 pub const AFTER: &str = r##"</script>
 <script>
 "use strict";

@@ -46,8 +46,8 @@ pub fn state_letters(alloc: Global, states: &[BlockState]) -> Result<String, All
     Ok(letters)
 }
 
-/// The letter of an eraseblock by its headers alone: `!` where one is at fault, `v` where it is a volume's and `t` where it is the
-/// table's, `c` where one is corrupt, `b` where both are blank, and `f` where it has an erase counter alone.
+/// The letter of an eraseblock by its headers alone: `!` if one is at fault, `v` if it is a volume's and `t` if it is the table's,
+/// `c` if one is corrupt, `b` if both are blank, and `f` if it has only an erase counter.
 pub(crate) fn header_letter(ec: &EcRead, vid: &VidRead) -> &'static str
     ensures { result.now ≡ header_letter ec.now vid.now }
 {
@@ -61,7 +61,7 @@ pub(crate) fn header_letter(ec: &EcRead, vid: &VidRead) -> &'static str
     }
 }
 
-/// Adds a number, behind as many blanks as it lacks of seven digits.
+/// Adds a number, after as many blanks as it lacks of seven digits.
 fn put_aligned(text: &mut Vec<u8>, number: u64) -> Result<(), AllocError>
     ensures { OnOk result (text.new.items ≡ text.old.items ++ aligned number) }
 {
@@ -73,7 +73,7 @@ fn put_aligned(text: &mut Vec<u8>, number: u64) -> Result<(), AllocError>
     Ok(())
 }
 
-/// Adds a row: its letters behind the number of the first eraseblock.
+/// Adds a row: the number of the first eraseblock, and then its letters.
 fn put_row(text: &mut Vec<u8>, letters: &[u8], k: usize) -> Result<(), AllocError>
     requires { k * 64 < 2 ^ 63 }
     ensures { OnOk result (text.new.items ≡ text.old.items ++ row letters.now k) }
@@ -88,7 +88,7 @@ fn put_row(text: &mut Vec<u8>, letters: &[u8], k: usize) -> Result<(), AllocErro
     Ok(())
 }
 
-/// Adds the rows of letters, each behind the number of its first eraseblock.
+/// Adds the rows of letters, each after the number of its first eraseblock.
 ///
 /// # Errors
 ///

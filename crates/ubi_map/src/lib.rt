@@ -1,6 +1,6 @@
 //! What lies where in an image: a letter for each eraseblock, and a page that shows them, with the headers of each.
 //!
-//! The page needs nothing but itself: it is a frame around one JSON value, whose text no `<` can end.
+//! The page needs no other file: it is a frame around one JSON value, whose text no `<` can end.
 #![tactic(auto)]
 
 mod data;

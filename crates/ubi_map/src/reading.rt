@@ -15,11 +15,11 @@ use std::alloc::{AllocError, Global};
 use ubi_media::Geometry;
 use ubi_scan::{BlockSource, StreamError, read_headers, read_part};
 
-/// The lines of the headers of an eraseblock of a source. Nothing but these is read.
+/// The lines of the headers of an eraseblock of a source. Only these are read.
 ///
 /// # Errors
 ///
-/// Read where a read failed. Memory where it ran out.
+/// `Read` if a read failed. `Memory` if memory ran out.
 pub fn block_text<S: BlockSource>(
     alloc: Global,
     geometry: &Geometry,

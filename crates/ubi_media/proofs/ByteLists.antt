@@ -1,4 +1,4 @@
--- Lists of bytes: what is put together of bytes and taken out of them are bytes, and a field of four has 32 bits.
+-- Lists of bytes: what is put together from bytes and taken out of them are bytes, and a field of four has 32 bits.
 use Rattle.ubi_media.proofs.Prelude.{ℕ, zero, suc, ◌+◌, ◌-◌, ◌^◌, ◌<◌, List, [], ◌∷◌, ◌++◌, get_or, take, drop, arith, big_from-lt, AreBytes, blank, field}
 use Rattle.std.specs.Prelude.{slice_index}
 

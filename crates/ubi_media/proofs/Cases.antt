@@ -1,4 +1,4 @@
--- Cases of numbers that the standard library hasn't in this form.
+-- Cases of numbers that the standard library doesn't have in this form.
 use Rattle.ubi_media.proofs.Prelude.{◌≡◌, ℕ, ◌+◌, ◌<◌, ◌≤◌, ◌⊎◌, arith}
 
 pub zero_or_more : (q : ℕ) → (q ≡ 0) ⊎ (1 ≤ q)

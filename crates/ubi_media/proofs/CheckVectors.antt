@@ -1,4 +1,4 @@
--- The definition of the check on literals, against vectors from outside.
+-- The definition of the CRC on literals, against vectors from outside.
 use Rattle.ubi_media.proofs.Prelude.{◌≡◌, List, ℕ, [], ◌∷◌, replicate, refl, check, check_from, remainder}
 
 no_byte : check [] ≡ 0xFFFFFFFF

@@ -1,4 +1,4 @@
--- The check of a message: of no byte, of one, of two parts.
+-- The CRC of a message: of no byte, of one, of two parts.
 use Rattle.ubi_media.proofs.Prelude.{◌≡◌, ℕ, zero, suc, ◌+◌, ◌*◌, ◌^◌, ◌<◌, List, [], ◌∷◌, ◌++◌, length, take, drop, get_or, bit_xor, sym, ap, ◌∙◌, arith, replicate, length-append, append-nil, drop-drop, length-replicate, take-append-drop, take_more, concat-append, flat_map-append, concat, flat_map, first_chunks, bits, polynomial, add_to_front, remainder, dividend, check_from}
 use Rattle.std.proofs.lemmas.List.{append_assoc}
 use Rattle.ubi_media.proofs.Polynomials.{AreBits, AreBits-bits, AreBits-append, AreBits-zeros, AreBits-bytes, length-bits, length-bytes, polynomial-append, polynomial-zeros, polynomial-add_to_front}

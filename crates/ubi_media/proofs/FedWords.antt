@@ -1,4 +1,4 @@
--- A message that is cut into words of eight bytes: its check is the register that is fed them.
+-- A message that is cut into words of eight bytes: its CRC is the register that is fed them.
 use Rattle.ubi_media.proofs.Prelude.{◌≡◌, ℕ, zero, suc, ◌+◌, ◌*◌, ◌/◌, ◌^◌, ◌<◌, ◌≤◌, List, [], ◌∷◌, ◌++◌, length, take, drop, get_or, bit_xor, refl, sym, ap, ◌∙◌, arith, append-nil, drop_all, length-drop, length-take-le, take_all, from_le_bytes-to_le_bytes_8, mod_below, xor_comm, w64, byte_at, bytes_low_first, from_le_bytes, to_le_bytes, concat, first_chunks, check_from, AreBytes, word_at, bytes_of}
 use lib.Bits.{xor_shifted}
 use Rattle.ubi_media.proofs.ByteLists.{byte_in, bytes-drop, bytes-take}

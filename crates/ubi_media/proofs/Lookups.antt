@@ -1,4 +1,4 @@
--- Bytes that come into the register together are a look-up each.
+-- Each of the bytes that come into the register together is one look-up.
 use Rattle.ubi_media.proofs.Prelude.{◌≡◌, ℕ, zero, suc, ◌+◌, ◌*◌, ◌/◌, ◌%◌, ◌^◌, ◌<◌, ◌≤◌, List, [], ◌∷◌, length, get_or, drop, bit_xor, refl, sym, ap, ◌∙◌, arith, zero-add, drop-cons, drop_all, mod_below, shr_split, xor_comm, xor_lt, w32, to_le_bytes, flat_map, bits, add_to_front, check_from, AreBytes}
 use lib.Bits.{xor_assoc, xor_shifted, xor_zero_r}
 use Rattle.ubi_media.proofs.Checks.{check_from-run}

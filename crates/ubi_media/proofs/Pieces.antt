@@ -1,4 +1,4 @@
--- The pieces of a message are divided one after the other, and what remains of the last one has the check of all.
+-- The pieces of a message are divided in order, and what remains of the last one has the CRC of all.
 use Rattle.ubi_media.proofs.Prelude.{◌≡◌, ℕ, zero, suc, ◌+◌, ◌-◌, ◌*◌, ◌/◌, ◌^◌, ◌<◌, ◌≤◌, List, [], ◌∷◌, ◌++◌, length, take, drop, get_or, set, replicate, bit_xor, inl, inr, refl, sym, ap, ◌∙◌, arith, add-zero, add_comm, get_or_append_left, get_or-append_right, get_or-drop, get_or_past, get_or-take, length-replicate, take_all, cases_lt, concat_is, from_le_bytes-to_le_bytes_8, xor_comm, xor_lt, w64, from_le_bytes, AllByRecursion, concat, flat_map, CopiedTo, SameBelow, first_chunks, check_from, AreBytes, word_at, powers, sum_behind, left_of, Carries, IsPieceRemainder, IsQuotient}
 use Rattle.std.proofs.lemmas.List.{length-take}
 use lib.Bits.{xor_assoc, xor_self, xor_zero_l, xor_zero_r}

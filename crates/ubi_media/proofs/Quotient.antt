@@ -1,4 +1,4 @@
--- A division has a remainder, and one alone.
+-- A division has a remainder, and only one.
 use Rattle.ubi_media.proofs.Prelude.{◌≡◌, ℕ, zero, suc, ◌+◌, ◌*◌, ◌/◌, ◌%◌, ◌^◌, ◌<◌, Bool, true, false, ◌==◌, ◌≤◌, List, [], ◌∷◌, ◌++◌, length, replicate, bit_xor, refl, sym, ap, ◌∙◌, arith, length-append, bit_at, length-replicate, pow_pos, pow-add, xor_comm, xor_lt, xor_block, shl_below, shr_split, shr_below, mod_below, mod-eq_of_lt, mod-lt, pow-suc, generator, remainder, product, IsRemainder}
 use Rattle.std.specs.Bool.{if◌then◌else◌}
 use lib.Bits.{xor_assoc, xor_self}

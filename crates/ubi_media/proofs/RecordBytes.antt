@@ -1,4 +1,4 @@
--- What is written of a slot of the volume table is read back.
+-- What is written for a slot of the volume table is read back.
 use Rattle.ubi_media.proofs.Prelude.{◌≡◌, ◌≢◌, ℕ, ◌+◌, ◌-◌, ◌%◌, ◌^◌, ◌<◌, ◌==◌, true, false, get_or, List, [], ◌∷◌, ◌++◌, length, take, drop, set, replicate, refl, sym, ap, subst, ◌∙◌, arith, append_assoc, length-append, slice_index, slice_range, Option, Some, None, if◌then◌else◌, ForSome, nat_tests, mod-lt, take_at, get_or_at, big_bytes, big_number-reads_back, check, field, sealed, overwrite, padded, Sizes, leb_size, is_name, RecIs, data_pad, empty_record, fields_from, first_fault, rec_bytes, rec_fault, rec_fields, rec_front, record_of, slot_reading, kind_number, RecFits, VolumeRecord, VolKind, Dynamic, Static}
 use Rattle.ubi_media.specs.declared.record.RecRead.TheVariants as read
 use Rattle.ubi_media.proofs.Headers.{kind_back, flag_back}

@@ -59,7 +59,7 @@ valid = refl
 faulty : HaveReadings (
     -- none reserved
     (slot (0 ∷ 1 ∷ 0 ∷ 0x01000004 ∷ 0x726f6f74 ∷ []) 0xff452c6c, Fault fault.NotEmpty) ∷
-    -- one byte that isn't zero, and the right check
+    -- one byte that isn't zero, and the right CRC
     (slot (replicate 41 0 ++ (1 ∷ [])) 0x8611f3fd, Fault fault.NotEmpty) ∷
     -- many reserved
     (slot (0x80000000 ∷ 1 ∷ 0 ∷ 0x01000004 ∷ 0x726f6f74 ∷ []) 0xcd67473e, Fault fault.Negative) ∷
@@ -85,7 +85,7 @@ faulty : HaveReadings (
     (slot (0x00000014 ∷ 1 ∷ 0 ∷ 0x01000003 ∷ 0x726f6f74 ∷ []) 0xf1fcc4f2, Fault fault.NameLength) ∷
     -- name without end
     (slot (0x00000014 ∷ 1 ∷ 0 ∷ 0x0100007f ∷ replicate 32 0x61616161) 0xeba19757, Fault fault.NameLength) ∷
-    -- wrong check
+    -- wrong CRC
     (slot (0x00000014 ∷ 1 ∷ 0 ∷ 0x01000004 ∷ 0x726f6f74 ∷ []) 0x71dfb11c, BadCrc) ∷
     [])
 unfolding on_literals

@@ -1,4 +1,4 @@
--- Bytes have one reading as a record of the volume table, and of a record only the numbers can break a rule.
+-- Bytes have one reading as a record of the volume table, and only the numbers of a record can break a rule.
 use Rattle.ubi_media.proofs.Prelude.{◌≡◌, ◌≢◌, ℕ, ◌+◌, ◌-◌, ◌%◌, ◌^◌, ◌<◌, ◌≤◌, ◌==◌, ◌&&◌, Bool, true, false, not, cond, get_or, nat_lt, List, [], length, take, replicate, refl, sym, ap, subst, ◌∙◌, lit<, arith, slice_index, slice_range, IfSome, eq-eqb, eqb-true, ◌↔◌, Option, Some, None, if◌then◌else◌, option_map_or, same_text, other_text, nat_tests, take_at, drop_at, mod_below, big_bytes, big_number, big_number-reads_back, check, sealed, is_sealed, same_bytes, Sizes, leb_size, IsSealed, is_name, RecIs, breaks, data_pad, empty_record, ends_at, faults, fields_from, first_fault, judged, rec_fault, rec_fields, rec_reading, record_of, usable, kind_number, IsNumberFault, RecFault, RecFields, RecRead, VolumeRecord, VolKind, Dynamic, Static}
 use Rattle.ubi_media.specs.declared.record.RecFault.TheVariants as fault
 use Rattle.ubi_media.specs.declared.record.RecRead.TheVariants as read

@@ -1,4 +1,4 @@
--- What bytes start with where no geometry is known.
+-- What bytes start with if no geometry is known.
 use Rattle.ubi_media.proofs.Prelude.{◌≡◌, ◌≢◌, ◌<◌, ◌≤◌, ℕ, List, refl, arith, Option, Some, None, nat_tests, option_map_or, form_of, Sizes, EcFault, EcHeader, Form, EcFields}
 use Rattle.ubi_media.specs.Ec as ec
 use Rattle.ubi_media.specs.declared.ec.EcRead.TheVariants as ec_read

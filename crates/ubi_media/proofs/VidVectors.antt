@@ -83,7 +83,7 @@ faulty : HaveReadings (
     (header 0x01010000 0 0 0 0 0 1 0xd63a3b59, Fault fault.CopyFields) ∷
     -- copy of nothing
     (header 0x01010100 0 0 0 0 0 0 0x721402e1, Fault fault.CopyFields) ∷
-    -- wrong check
+    -- wrong CRC
     (header 0x01010000 0 0 0 0 0 0 0x73b1ab56, Corrupt) ∷
     [])
 unfolding on_literals

@@ -21,7 +21,7 @@ use Rattle.ubi_media.specs.declared.header.Form.TheVariants as form
 abbrev pub ec_magic : ℕ
 ec_magic = 0x55424923
 
--- the fields behind the magic
+-- the fields after the magic
 unfoldable pub ec_fields : List ℕ → EcFields
 ec_fields bytes = record {
   version = slice_index bytes 4;
@@ -31,7 +31,7 @@ ec_fields bytes = record {
   image_seq = field 4 24 bytes;
 }
 
--- whether the fields break the rule that a fault is named for
+-- whether the fields break the rule that a fault is named after
 unfoldable pub breaks : Sizes → EcFields → EcFault → Bool
 breaks s f fault.Version = not (f.version == 1)
 breaks s f fault.Offsets = not (f.vid_offset == s.vid_offset) || not (f.data_offset == s.data_offset)
@@ -75,15 +75,15 @@ ec_reading s bytes = reading_by s (ec_fields bytes) (form_of ec_magic bytes)
 abbrev pub offsets_of : EcFields → EcOffsets
 offsets_of f = record { vid_offset = f.vid_offset; data_offset = f.data_offset }
 
--- those of a geometry
+-- the offsets of a geometry
 abbrev pub offsets_in : Sizes → EcOffsets
 offsets_in s = record { vid_offset = s.vid_offset; data_offset = s.data_offset }
 
--- sizes of which no more is known than these offsets
+-- sizes of which only these offsets are known
 abbrev pub sizes_naming : EcOffsets → Sizes
 sizes_naming o = record { peb_size = 0; page = 0; vid_offset = o.vid_offset; data_offset = o.data_offset; pebs = 0 }
 
--- what bytes are that name some offsets, by what they are under these
+-- what bytes that name some offsets are, by what they are under these
 abbrev pub start_by : EcOffsets → EcRead → EcStart
 start_by o read.Blank = start.Blank
 start_by o (read.Valid _) = start.Header o
@@ -93,7 +93,7 @@ start_by o _ = start.Other
 unfoldable pub ec_start : List ℕ → EcStart
 ec_start bytes = let o = offsets_of (ec_fields bytes) in start_by o (ec_reading (sizes_naming o) bytes)
 
--- the bytes before the check
+-- the bytes before the CRC
 abbrev pub ec_front : Sizes → EcHeader → List ℕ
 ec_front s h =
     big_bytes 4 ec_magic ++ (1 ∷ 0 ∷ 0 ∷ 0 ∷ []) ++ big_bytes 8 h.counter ++ big_bytes 4 s.vid_offset ++ big_bytes 4 s.data_offset

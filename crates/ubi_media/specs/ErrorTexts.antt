@@ -1,4 +1,4 @@
--- What is printed of a fault, and of an image that is refused.
+-- The texts that are printed for a fault, and for an image that is refused.
 use Rattle.std.specs.Prelude.{ℕ, List, ◌++◌, codes, decimal}
 use Rattle.ubi_media.specs.declared.ec.EcFault.{EcFault}
 use Rattle.ubi_media.specs.declared.ec.EcFault.TheVariants as ec
@@ -54,7 +54,7 @@ geometry_error_text limit.DataOffset = codes "G4 DataOffset"
 geometry_error_text limit.LebTooSmall = codes "G5 LebTooSmall"
 geometry_error_text limit.Pebs = codes "G6 Pebs"
 
--- the text of the cause for which an image is refused, with what is at fault
+-- the text of the cause for which an image is refused, with the eraseblock, slot or volume at fault
 abbrev pub refusal_text : Refusal → List ℕ
 refusal_text cause.Length = codes "S1 Length"
 refusal_text cause.TooMany = codes "S2 TooMany"
@@ -73,7 +73,7 @@ refusal_text (cause.SameName p i j) =
 refusal_text cause.NoSpace = codes "T5 NoSpace"
 refusal_text (cause.Mismatch p) = codes "V1 Mismatch block=" ++ decimal p
 
--- the text of why an image couldn't be attached
+-- the text that says why an image couldn't be attached
 abbrev pub attach_error_text : AttachError → List ℕ
 attach_error_text (attach.Refused c) = refusal_text c
 attach_error_text attach.Memory = codes "out of memory"

@@ -1,4 +1,4 @@
--- What stands at a place of a list of bytes; blank, sealed and padded bytes; the form of a header, by magic and check.
+-- What stands at a place of a list of bytes; blank, sealed and padded bytes; the form of a header, by its magic and CRC.
 use Rattle.std.specs.Prelude.{ℕ, ◌<◌, Bool, ◌==◌, List, ◌+◌, ◌++◌, ◌-◌, take, drop, length, replicate, slice_range, not, if◌then◌else◌}
 use Rattle.std.specs.Cmp.Lexicographic.{pointwise}
 use Rattle.std.specs.List.{AllByRecursion, list_all}
@@ -15,7 +15,7 @@ AreBytes numbers = AllByRecursion (λ number. number < 256) numbers
 abbrev pub field : ℕ → ℕ → List ℕ → ℕ
 field n at bytes = big_number n (slice_range bytes at (at + n))
 
--- the list with xs in the place of what stands from a place on
+-- the list in which xs replaces what stands from a place on
 unfoldable pub overwrite : ℕ → List ℕ → List ℕ → List ℕ
 overwrite at xs bytes = take at bytes ++ xs ++ drop (at + length xs) bytes
 
@@ -31,11 +31,11 @@ blank n = replicate n 255
 unfoldable pub filled : ℕ → List ℕ → List ℕ
 filled n bytes = bytes ++ blank (n - length bytes)
 
--- bytes, and then their check
+-- bytes, and then their CRC
 abbrev pub sealed : List ℕ → List ℕ
 sealed front = front ++ big_bytes 4 (check front)
 
--- whether the four bytes at a place are the check of all bytes before them
+-- whether the four bytes at a place are the CRC of all bytes before them
 abbrev pub is_sealed : ℕ → List ℕ → Bool
 is_sealed at bytes = field 4 at bytes == check (take at bytes)
 
@@ -43,7 +43,7 @@ is_sealed at bytes = field 4 at bytes == check (take at bytes)
 abbrev pub same_bytes : List ℕ → List ℕ → Bool
 same_bytes = pointwise ◌==◌
 
--- a name with zeros behind it, 128 bytes
+-- a name with zeros after it, 128 bytes
 abbrev pub padded : List ℕ → List ℕ
 padded name = name ++ replicate (128 - length name) 0
 

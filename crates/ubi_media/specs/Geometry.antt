@@ -2,8 +2,8 @@
 use Rattle.std.specs.Prelude.{◌≡◌, ℕ, ◌+◌, ◌-◌, ◌/◌, ◌%◌, ◌≤◌, ◌==◌, List, [], ◌∷◌, IsTrue, min}
 use Rattle.std.specs.List.{list_any}
 
--- the five numbers of a geometry: bytes of an eraseblock and of a page, the places of the volume-identifier header and
--- of the data in an eraseblock, and the eraseblocks of the device
+-- the five numbers of a geometry: the sizes of an eraseblock and of a page in bytes, the offsets of the
+-- volume-identifier header and of the data in an eraseblock, and the number of eraseblocks of the device
 pub record Sizes : Type 0 where
   pub peb_size : ℕ
   pub page : ℕ
@@ -11,7 +11,7 @@ pub record Sizes : Type 0 where
   pub data_offset : ℕ
   pub pebs : ℕ
 
--- the bytes of a logical eraseblock: those of an eraseblock from the data on
+-- the size of a logical eraseblock in bytes: that of an eraseblock from the data on
 abbrev pub leb_size : Sizes → ℕ
 leb_size s = s.peb_size - s.data_offset
 

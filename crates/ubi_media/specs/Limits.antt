@@ -5,7 +5,7 @@ use Rattle.ubi_media.specs.Geometry.{Sizes, leb_size, page_sizes}
 use Rattle.ubi_media.specs.declared.geometry.GeometryError.{GeometryError}
 use Rattle.ubi_media.specs.declared.geometry.GeometryError.TheVariants as fault
 
--- whether the numbers keep the limit that an error is named for
+-- whether the numbers keep the limit that an error is named after
 abbrev pub keeps : Sizes → GeometryError → Bool
 keeps s fault.Page = list_any (λ size. size == s.page) page_sizes
 keeps s fault.PebSize = nat_le s.page s.peb_size && nat_le s.peb_size 16777216 && (s.peb_size % s.page == 0)

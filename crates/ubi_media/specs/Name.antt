@@ -7,7 +7,7 @@ use Rattle.ubi_media.specs.Fields.{padded}
 abbrev pub is_name : List ℕ → Bool
 is_name name = nat_le 1 (length name) && nat_le (length name) 127 && not (list_any (λ byte. byte == 0) name)
 
--- the first bytes are a name, and zeros stand behind it
+-- the first `len` bytes are a name, and zeros stand after it
 pub record IsPadded (bytes : List ℕ) (len : ℕ) : Type 0 where
   pub name : is_name (take len bytes) ≡ true
   pub len_is : length (take len bytes) ≡ len

@@ -13,15 +13,15 @@ use Rattle.ubi_media.specs.declared.record.RecRead.{RecRead}
 use Rattle.ubi_media.specs.declared.record.RecRead.TheVariants as read
 use Rattle.ubi_media.specs.declared.record.VolumeRecord.{VolumeRecord}
 
--- the bytes of a record
+-- the size of a record in bytes
 abbrev pub record_size : ℕ
 record_size = 172
 
--- the empty record: zeros and their check
+-- the empty record: zeros and their CRC
 unfoldable pub empty_record : List ℕ
 empty_record = sealed (replicate 168 0)
 
--- the fields
+-- the fields of a record's bytes
 unfoldable pub rec_fields : List ℕ → RecFields
 rec_fields bytes = record {
   reserved = field 4 0 bytes;
@@ -38,7 +38,7 @@ rec_fields bytes = record {
 abbrev pub ends_at : List ℕ → ℕ → Bool
 ends_at name at = option_map_or (λ place. place == at) (position (λ byte. byte == 0) name) false
 
--- whether the fields break the rule that a fault is named for
+-- whether the fields break the rule that a fault is named after
 unfoldable pub breaks : Sizes → RecFields → RecFault → Bool
 breaks s f fault.NotEmpty = f.reserved == 0
 breaks s f fault.Negative = is_negative f.reserved || is_negative f.alignment || is_negative f.data_pad
@@ -81,7 +81,7 @@ RecIs s bytes (read.Fault f) =
 RecIs s bytes (read.Valid r) =
     IsSealed 168 bytes × (bytes ≢ empty_record) × (first_fault s (rec_fields bytes) ≡ None) × (r ≡ record_of (rec_fields bytes))
 
--- what the fields of a sealed record are that isn't the empty one
+-- what the fields of a sealed record are, if it isn't the empty one
 unfoldable pub judged : Sizes → RecFields → RecRead
 judged s f = option_map_or read.Fault (first_fault s f) (read.Valid (record_of f))
 
@@ -91,15 +91,15 @@ rec_reading s bytes =
     if not (is_sealed 168 bytes) then read.BadCrc
     else (if same_bytes bytes empty_record then read.Empty else judged s (rec_fields bytes))
 
--- the bytes at the end of each logical eraseblock that a volume leaves free, for its alignment
+-- how many bytes a volume leaves free at the end of each logical eraseblock, for its alignment
 abbrev pub data_pad : Sizes → VolumeRecord → ℕ
 data_pad s r = leb_size s % r.alignment
 
--- the bytes of a logical eraseblock that a volume uses
+-- how many bytes of a logical eraseblock a volume uses
 abbrev pub usable : Sizes → VolumeRecord → ℕ
 usable s r = leb_size s - data_pad s r
 
--- the fields of a record. An alignment of 0, which breaks a rule, divides nothing
+-- the fields of a record; with an alignment of 0, which breaks a rule, nothing is divided
 unfoldable pub fields_from : Sizes → VolumeRecord → RecFields
 fields_from s r = record {
   reserved = r.reserved;
@@ -116,14 +116,14 @@ fields_from s r = record {
 abbrev pub rec_fault : Sizes → VolumeRecord → Option RecFault
 rec_fault s r = first_fault s (fields_from s r)
 
--- the bytes before the check
+-- the bytes before the CRC
 abbrev pub rec_front : Sizes → VolumeRecord → List ℕ
 rec_front s r =
     big_bytes 4 r.reserved ++ big_bytes 4 r.alignment ++ big_bytes 4 (data_pad s r)
     ++ (kind_number r.kind ∷ (if r.marker then 1 else 0) ∷ []) ++ big_bytes 2 (length r.name) ++ padded r.name
     ++ (r.flags ∷ replicate 23 0)
 
--- the bytes of a slot: of its record, or of the empty one
+-- the bytes of a slot: those of its record, or of the empty one
 unfoldable pub rec_bytes : Sizes → Option VolumeRecord → List ℕ
 rec_bytes s None = empty_record
 rec_bytes s (Some r) = sealed (rec_front s r)

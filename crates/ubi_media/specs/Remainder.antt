@@ -1,4 +1,4 @@
--- What it is to be the remainder of a polynomial on division by the generator.
+-- What a remainder of a polynomial is on division by the generator.
 use Rattle.std.specs.Prelude.{◌≡◌, ℕ, ◌*◌, ◌^◌, ◌<◌, bit_xor, Bool, if◌then◌else◌, List, [], ◌∷◌, length}
 use Rattle.ubi_media.specs.Check.{generator}
 
@@ -7,8 +7,8 @@ abbrev pub product : List Bool → ℕ → ℕ
 product [] p = 0
 product (b ∷ bs) p = bit_xor (if b then p * 2 ^ length bs else 0) (product bs p)
 
--- r is a remainder of p on division by the generator: p is the sum of a product with the generator and
--- r, and r has a degree below 32
+-- r is a remainder of p on division by the generator: p is the sum of r and a product with the generator, and r has a
+-- degree below 32
 pub record IsRemainder (p r : ℕ) : Type 0 where
   pub quotient : List Bool
   pub sum : p ≡ bit_xor (product quotient generator) r

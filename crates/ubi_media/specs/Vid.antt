@@ -30,7 +30,7 @@ kind_number kind.Static = 2
 abbrev pub kind_of : ℕ → VolKind
 kind_of n = if n == 2 then kind.Static else kind.Dynamic
 
--- the fields behind the magic
+-- the fields after the magic
 unfoldable pub vid_fields : List ℕ → VidFields
 vid_fields bytes = record {
   kind = slice_index bytes 5;
@@ -49,15 +49,15 @@ vid_fields bytes = record {
 abbrev pub says_static : VidFields → Bool
 says_static f = f.kind == 2
 
--- the bytes of a logical eraseblock that its volume may use
+-- how many bytes of a logical eraseblock its volume may use
 abbrev pub usable : Sizes → VidFields → ℕ
 usable s f = leb_size s - f.data_pad
 
--- whether a number of 32 bits is negative where it is read with a sign
+-- whether a 32-bit number is negative when it is read as signed
 abbrev pub is_negative : ℕ → Bool
 is_negative n = nat_le 0x80000000 n
 
--- whether the fields break the rule that a fault is named for
+-- whether the fields break the rule that a fault is named after
 unfoldable pub breaks : Sizes → VidFields → VidFault → Bool
 breaks s f fault.CopyFlag = nat_lt 1 f.copy_flag
 breaks s f fault.Negative =
@@ -142,7 +142,7 @@ fields_from h = record {
 abbrev pub vid_fault : Sizes → VidHeader → Option VidFault
 vid_fault s h = first_fault s (fields_from h)
 
--- the bytes before the check
+-- the bytes before the CRC
 abbrev pub vid_front : VidFields → List ℕ
 vid_front f =
     big_bytes 4 vid_magic ++ (1 ∷ f.kind ∷ f.copy_flag ∷ f.compat ∷ []) ++ big_bytes 4 f.vol_id ++ big_bytes 4 f.lnum ++ replicate 4 0
@@ -153,7 +153,7 @@ vid_front f =
 abbrev pub vid_bytes : VidHeader → List ℕ
 vid_bytes h = sealed (vid_front (fields_from h))
 
--- a header of a logical eraseblock whose data have no check, neither copied nor static
+-- a header of a logical eraseblock whose data have no CRC: it is neither copied nor static
 abbrev pub plain : VolKind → ℕ → ℕ → ℕ → ℕ → VidHeader
 plain of compat pad vol lnum = record {
   kind = of;

@@ -1,4 +1,4 @@
--- That the numbers of a header and of a record fit their widths, and which faults can be of numbers.
+-- When the numbers of a header and of a record fit their widths, and which faults numbers can have.
 use Rattle.std.specs.Prelude.{◌^◌, ◌<◌, ◌≡◌, true, ⊤}
 use Rattle.ubi_media.specs.Name.{is_name}
 use Rattle.ubi_media.specs.declared.ec.EcHeader.{EcHeader}
@@ -12,7 +12,7 @@ pub record EcFits (h : EcHeader) : Type 0 where
   pub counter : h.counter < 2 ^ 32
   pub image_seq : h.image_seq < 2 ^ 32
 
--- those of a volume-identifier header do
+-- the numbers of a volume-identifier header fit their widths
 pub record VidFits (h : VidHeader) : Type 0 where
   pub vol_id : h.vol_id < 2 ^ 32
   pub lnum : h.lnum < 2 ^ 32
@@ -22,7 +22,7 @@ pub record VidFits (h : VidHeader) : Type 0 where
   pub data_crc : h.data_crc < 2 ^ 32
   pub sqnum : h.sqnum < 2 ^ 64
 
--- the fault is of the reserved eraseblocks or of the alignment
+-- the fault is that of the reserved eraseblocks or one of the alignment
 abbrev pub IsNumberFault : RecFault → Type 0
 IsNumberFault fault.NotEmpty = ⊤
 IsNumberFault fault.Negative = ⊤
@@ -35,7 +35,7 @@ IsNumberFault fault.NameTooLong = ⊥
 IsNumberFault fault.NameBlank = ⊥
 IsNumberFault fault.NameLength = ⊥
 
--- the numbers of a record fit their widths, and its name is one
+-- the numbers of a record fit their widths, and its name is a name
 pub record RecFits (r : VolumeRecord) : Type 0 where
   pub reserved : r.reserved < 2 ^ 32
   pub alignment : r.alignment < 2 ^ 32

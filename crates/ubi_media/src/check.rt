@@ -1,5 +1,5 @@
-//! The check that seals every header and record: the CRC of 32 bits with the reflected polynomial 0xEDB88320, started
-//! at 0xFFFFFFFF, without the final complement (`UBI_CRC32_INIT` of `ubi-media.h`).
+//! The CRC at the end of every header and record: 32 bits with the reflected polynomial 0xEDB88320, started at
+//! 0xFFFFFFFF, without the final complement (`UBI_CRC32_INIT` of `ubi-media.h`).
 
 ghost use Rattle.std.specs.Prelude.{◌≡◌, ◌+◌, ◌<◌, ◌≤◌, [], ◌∷◌, length, slice_index, slice_index_or, take};
 ghost use Rattle.ubi_media.specs.declared.tables.TheConstants.{TABLES};
@@ -16,14 +16,14 @@ use byteorder::{BigEndian, ByteOrder};
 /// The state before the first byte of a message.
 const START: u32 = 0xFFFF_FFFF;
 
-/// The check of a message.
+/// The CRC of a message.
 pub fn crc(message: &[u8]) -> u32
     ensures { result ≡ check message.now }
 {
     crc_more(START, message)
 }
 
-/// The check of a message that goes on: `state` is the check of what comes before, 0xFFFFFFFF where nothing does.
+/// The CRC of a message that goes on: `state` is the CRC of what comes before, or 0xFFFFFFFF if nothing does.
 pub fn crc_more(state: u32, message: &[u8]) -> u32
     ensures { result ≡ check_from state message.now }
 {
@@ -83,7 +83,7 @@ fn with_bytes(state: u32, bytes: &[u8]) -> u32
     register
 }
 
-/// The state after sixteen more bytes: the sum of what each adds, found in the table of how many bytes come behind it.
+/// The state after sixteen more bytes: the sum of what each adds, found in the table for how many bytes come after it.
 /// The four bytes of the state come in with the first four.
 fn with_sixteen(state: u32, sixteen: &[u8; 16]) -> u32
     ensures { result ≡ check_from state sixteen.now }
@@ -108,7 +108,7 @@ fn with_sixteen(state: u32, sixteen: &[u8; 16]) -> u32
         ^ found(15, a ^ sixteen[0])
 }
 
-/// The state after eight more bytes: the sum of what each adds, found in the table of how many bytes come behind it.
+/// The state after eight more bytes: the sum of what each adds, found in the table for how many bytes come after it.
 /// The four bytes of the state come in with the first four.
 fn with_eight(state: u32, eight: &[u8; 8]) -> u32
     ensures { result ≡ check_from state eight.now }
@@ -125,7 +125,7 @@ fn with_eight(state: u32, eight: &[u8; 8]) -> u32
         ^ found(7, a ^ eight[0])
 }
 
-/// What a byte adds to the state that so many bytes come behind.
+/// What a byte adds to the state if `behind` bytes come after it.
 fn found(behind: usize, byte: u8) -> u32
     requires { behind < 16 }
     ensures { result ≡ slice_index (slice_index_or TABLES behind []) byte }
@@ -140,7 +140,7 @@ fn with_byte(state: u32, byte: u8) -> u32
     (state >> 8) ^ TABLES[0][((state ^ u32::from(byte)) & 0xFF) as usize]
 }
 
-/// Whether the four bytes at a place are the check of all bytes before them.
+/// Whether the four bytes at a place are the CRC of all bytes before them.
 pub fn is_sealed(bytes: &[u8], at: usize) -> bool
     requires { at + 4 ≤ length bytes.now }
     ensures { result ≡ is_sealed at bytes.now }
@@ -148,7 +148,7 @@ pub fn is_sealed(bytes: &[u8], at: usize) -> bool
     BigEndian::read_u32(&bytes[at..at + 4]) == crc(&bytes[..at])
 }
 
-/// Writes the check of the bytes before a place into the four bytes from there on.
+/// Writes the CRC of the bytes before a place into the four bytes from there on.
 pub fn seal(bytes: &mut [u8], at: usize)
     requires { at + 4 ≤ length bytes.old }
     ensures { bytes.new ≡ overwrite at (big_bytes 4 (check (take at bytes.old))) bytes.old }

@@ -1,9 +1,9 @@
-//! The check of long messages, a piece at a time. As a polynomial, a message is first divided by a multiple of the
-//! generator that has six terms, x^(64 * 252) + x^(64 * 236) + x^(64 * 202) + x^(64 * 59) + x^(64 * 28) + 1. What
-//! remains has the same check and is 252 words of eight bytes, however long the message is. The division looks nothing
-//! up: a word is added to five words of the quotient so far, the nearest of which is sixteen places back, so that
-//! several can be under way at once. No word looks further back than 252 places, so the last 252 words of the quotient
-//! are all that a piece hands on to the next.
+//! The CRC of long messages, a piece at a time. As a polynomial, a message is first divided by a multiple of the
+//! generator that has six terms, x^(64 * 252) + x^(64 * 236) + x^(64 * 202) + x^(64 * 59) + x^(64 * 28) + 1. The
+//! remainder has the same CRC and is 252 words of eight bytes, however long the message is. The division needs no
+//! table: a word is added to five words of the quotient so far, the nearest of which is sixteen places back, so
+//! several can be computed at once. No word looks further back than 252 places, so a piece hands on only the last 252
+//! words of the quotient to the next.
 
 ghost use Rattle.std.specs.Prelude.{◌≡◌, ◌<◌, ◌≤◌, ℕ, length, slice_index};
 ghost use Rattle.std.specs.List.{concat, SameBelow};
@@ -12,19 +12,19 @@ ghost use Rattle.ubi_media.specs.inner.Division.{left_of, Carries, IsPieceRemain
 
 use crate::check::with_short;
 
-/// The bytes of a piece.
+/// The size of a piece in bytes.
 pub const PIECE: usize = 8 * WORDS;
 
-/// The words of a piece.
+/// The number of words of a piece.
 const WORDS: usize = 1536;
 
-/// The words of a remainder: the divisor has the degree 64 * 252.
+/// The number of words of a remainder: the divisor has the degree 64 * 252.
 const REMAINDER: usize = 252;
 
-/// The words of the last piece that become words of the quotient.
+/// How many words of the last piece become words of the quotient.
 const QUOTIENT: usize = WORDS - REMAINDER;
 
-/// The words of the quotient that are held at a time: the 252 before a piece, and one for each word of the piece.
+/// How many words of the quotient are held at a time: the 252 before a piece, and one for each word of the piece.
 const HELD: usize = REMAINDER + WORDS;
 
 /// The state after more bytes, a piece at a time. The state stands where only the first word looks for it.
@@ -51,7 +51,7 @@ fn carry(piece: &[u8; PIECE], quotient: &mut [u64; HELD])
     quotient.copy_within(WORDS.., 0);
 }
 
-/// The state after the last piece, of which there is a remainder.
+/// The state after the last piece, which leaves a remainder.
 fn with_last(piece: &[u8; PIECE], quotient: &mut [u64; HELD]) -> u32
     ensures { (state : ℕ) → Carries quotient.old state → result ≡ check_from state piece.now }
 {
@@ -62,7 +62,7 @@ fn with_last(piece: &[u8; PIECE], quotient: &mut [u64; HELD]) -> u32
     with_short(0, remainder.as_flattened())
 }
 
-/// Clears the words of the quotient behind those that the last piece has.
+/// Clears the words of the quotient after those that the last piece has.
 fn clear_end(quotient: &mut [u64; HELD])
     ensures same { SameBelow quotient.old quotient.new 1536 }
     ensures clear { (k : ℕ) → 1536 ≤ k → slice_index quotient.new k ≡ 0 }
@@ -95,8 +95,8 @@ fn remainder_of(words: &[[u8; 8]], quotient: &[u64; HELD]) -> [[u8; 8]; REMAINDE
     remainder
 }
 
-/// What is left of a word, once the divisor was taken off as often as the quotient says up to that place. Its terms but
-/// the highest say where.
+/// What is left of a word, once the divisor was taken off as often as the quotient says up to that place. The terms of
+/// the divisor, except the highest, say where.
 fn left_of(words: &[[u8; 8]], quotient: &[u64; HELD], k: usize) -> u64
     requires words { length words.now ≡ 1536 }
     requires place { k < 1536 }

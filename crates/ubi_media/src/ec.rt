@@ -13,7 +13,7 @@ use byteorder::{BigEndian, ByteOrder};
 use std::error::Error;
 use std::fmt;
 
-/// The text `UBI#`, with which an erase-counter header begins (`UBI_EC_HDR_MAGIC`).
+/// The bytes `UBI#`, with which an erase-counter header begins (`UBI_EC_HDR_MAGIC`).
 pub const EC_MAGIC: u32 = 0x5542_4923;
 
 /// The version of the format.
@@ -22,12 +22,12 @@ const VERSION: u8 = 1;
 /// The largest erase counter (`UBI_MAX_ERASECOUNTER`).
 const LARGEST_COUNTER: u64 = 0x7FFF_FFFF;
 
-/// The rule that a header with the right magic and the right check breaks. Of several, the first in this order.
+/// The rule that a header with the right magic and CRC breaks; if it breaks several, the first in this order.
 #[derive(Clone, Copy, Debug, PartialEq, Eq)]
 pub enum EcFault {
     /// The version isn't 1.
     Version,
-    /// The places of the volume-identifier header and of the data aren't both the geometry's.
+    /// The offsets of the volume-identifier header and of the data aren't both the geometry's.
     Offsets,
     /// The erase counter is above 0x7FFFFFFF.
     Counter,
@@ -70,15 +70,15 @@ pub struct EcHeader {
 pub enum EcRead {
     /// 0xFF throughout: the eraseblock is erased and has no header.
     Blank,
-    /// Not blank and without the magic, or with the magic and a wrong check.
+    /// Not blank; without the magic, or with it and a wrong CRC.
     Corrupt,
-    /// With the magic and the right check, and the rule that it breaks first.
+    /// With the magic and the right CRC; the rule that it breaks first.
     Fault(EcFault),
-    /// With the magic and the right check, and no rule broken.
+    /// With the magic and the right CRC, and without a fault.
     Valid(EcHeader),
 }
 
-/// The places of the volume-identifier header and of the data in an eraseblock.
+/// The offsets of the volume-identifier header and of the data in an eraseblock.
 #[derive(Clone, Copy, Debug, PartialEq, Eq)]
 pub struct EcOffsets {
     /// The byte of an eraseblock at which its volume-identifier header begins.
@@ -87,7 +87,7 @@ pub struct EcOffsets {
     pub data_offset: u32,
 }
 
-/// What 64 bytes are as an erase-counter header where no geometry is known.
+/// What 64 bytes are as an erase-counter header if no geometry is known.
 #[derive(Clone, Copy, Debug, PartialEq, Eq)]
 pub enum EcStart {
     /// 0xFF throughout.
@@ -98,7 +98,7 @@ pub enum EcStart {
     Other,
 }
 
-/// The fields behind the magic, as they stand.
+/// The fields after the magic, as they stand in the bytes.
 #[derive(Clone, Copy)]
 struct EcFields {
     version: u8,
@@ -176,7 +176,7 @@ pub fn read_ec(geometry: &Geometry, bytes: &[u8; 64]) -> EcRead
     }
 }
 
-/// What a sealed header is where no geometry is known.
+/// What a sealed header is if no geometry is known.
 #[tactic(auto, using(crate::proofs::Starts::own_fault), unfolding(crate::specs::Ec::judged))]
 fn start_of(fields: &EcFields) -> EcStart
     ensures { result ≡ start_by (offsets_of fields.now) (judged (sizes_naming (offsets_of fields.now)) fields.now) }
@@ -203,7 +203,7 @@ pub fn read_start(bytes: &[u8; 64]) -> EcStart
     }
 }
 
-/// The bytes of a header, with zeros in the place of its check.
+/// The bytes of a header, with zeros in place of its CRC.
 fn front_of(geometry: &Geometry, counter: u32, image_seq: u32) -> [u8; 64]
     ensures bytes { result ≡ ec_front geometry.now (record { counter = counter; image_seq = image_seq }) ++ replicate 4 0 }
     ensures limits { IsGeometry geometry.now }
@@ -218,9 +218,9 @@ fn front_of(geometry: &Geometry, counter: u32, image_seq: u32) -> [u8; 64]
     bytes
 }
 
-/// The bytes of a header: version 1, the geometry's two places, zero padding and the right check.
+/// The bytes of a header: version 1, the geometry's two offsets, zero padding and the right CRC.
 ///
-/// They read back as the header where its counter is at most 0x7FFFFFFF.
+/// They read back as the header if its counter is at most 0x7FFFFFFF.
 pub fn write_ec(geometry: &Geometry, header: &EcHeader) -> [u8; 64]
     ensures bytes { result ≡ ec_bytes geometry.now header.now }
     ensures read_back { header.now.counter < 2 ^ 31 → EcIs geometry.now result (EcRead.Valid header.now) }

@@ -1,4 +1,4 @@
-//! The geometry of a device: the sizes by which an image is cut, and the limits that they keep.
+//! The geometry of a device: the sizes and offsets by which an image is cut, and the limits that they keep.
 
 ghost use Rattle.std.specs.Prelude.{◌≡◌, Some, None, MatchResult};
 ghost use Rattle.ubi_media.specs.Geometry.{Sizes, IsGeometry, leb_size, slots};
@@ -15,22 +15,22 @@ pub const PAGE_SIZES: [u32; 11] = [
     64, 128, 256, 512, 1024, 2048, 4096, 8192, 16384, 32768, 65536,
 ];
 
-/// The bytes of the largest eraseblock.
+/// The size of the largest eraseblock in bytes.
 const LARGEST_PEB: u32 = 0x0100_0000;
 
-/// The bytes of a header of an eraseblock.
+/// The size of a header of an eraseblock in bytes.
 const HEADER_SIZE: u32 = 64;
 
-/// The bytes of a record of the volume table.
+/// The size of a record of the volume table in bytes.
 const RECORD_SIZE: u32 = record::RECORD_SIZE as u32;
 
-/// The records of the longest volume table (`UBI_MAX_VOLUMES`).
+/// The number of records of the longest volume table (`UBI_MAX_VOLUMES`).
 const MOST_SLOTS: u32 = 128;
 
-/// The eraseblocks of the smallest device: the two copies of its volume table.
+/// The number of eraseblocks of the smallest device: one for each copy of its volume table.
 const FEWEST_PEBS: u32 = 2;
 
-/// The eraseblocks of the largest device.
+/// The number of eraseblocks of the largest device.
 pub const MOST_PEBS: u32 = 0x0010_0000;
 
 /// The limit that the numbers of a geometry break.
@@ -40,14 +40,14 @@ pub enum GeometryError {
     Page,
     /// The eraseblock isn't a multiple of the page, or is above 2^24 bytes.
     PebSize,
-    /// The place of the volume-identifier header isn't a multiple of 64, or is below 64.
+    /// The offset of the volume-identifier header isn't a multiple of 64, or is below 64.
     VidOffset,
-    /// The place of the data isn't a multiple of the page, or is less than 64 bytes behind the volume-identifier
-    /// header's.
+    /// The offset of the data isn't a multiple of the page, or is less than 64 bytes after that of the
+    /// volume-identifier header.
     DataOffset,
-    /// The data of an eraseblock have no room for one record of the volume table, 172 bytes.
+    /// A logical eraseblock is too small for one record of the volume table, 172 bytes.
     LebTooSmall,
-    /// The device hasn't 2 to 1,048,576 eraseblocks.
+    /// The number of eraseblocks isn't from 2 to 1,048,576.
     Pebs,
 }
 
@@ -95,8 +95,8 @@ impl Model for Geometry {
 }
 
 impl Geometry {
-    /// The geometry of a device: the bytes of an eraseblock and of a page, the places of the volume-identifier header
-    /// and of the data in an eraseblock, and the number of eraseblocks.
+    /// The geometry of a device: the sizes of an eraseblock and of a page in bytes, the offsets of the
+    /// volume-identifier header and of the data in an eraseblock, and the number of eraseblocks.
     ///
     /// # Errors
     ///
@@ -142,7 +142,7 @@ impl Geometry {
         })
     }
 
-    /// The bytes of an eraseblock.
+    /// The size of an eraseblock in bytes.
     pub fn peb_size(&self) -> u32
         ensures value { result ≡ self.now.peb_size }
         ensures limits { IsGeometry self.now }
@@ -150,7 +150,7 @@ impl Geometry {
         self.peb_size
     }
 
-    /// The bytes of a page.
+    /// The size of a page in bytes.
     pub fn page(&self) -> u32
         ensures value { result ≡ self.now.page }
         ensures limits { IsGeometry self.now }
@@ -158,7 +158,7 @@ impl Geometry {
         self.page
     }
 
-    /// The byte of an eraseblock at which its volume-identifier header begins.
+    /// The offset of the volume-identifier header in an eraseblock.
     pub fn vid_offset(&self) -> u32
         ensures value { result ≡ self.now.vid_offset }
         ensures limits { IsGeometry self.now }
@@ -166,7 +166,7 @@ impl Geometry {
         self.vid_offset
     }
 
-    /// The byte of an eraseblock at which its logical eraseblock begins.
+    /// The offset of the logical eraseblock in an eraseblock.
     pub fn data_offset(&self) -> u32
         ensures value { result ≡ self.now.data_offset }
         ensures limits { IsGeometry self.now }
@@ -182,7 +182,7 @@ impl Geometry {
         self.pebs
     }
 
-    /// The bytes of a logical eraseblock: those of an eraseblock from the data offset on.
+    /// The size of a logical eraseblock in bytes: that of an eraseblock from the data offset on.
     pub fn leb_size(&self) -> u32
         ensures value { result ≡ leb_size self.now }
         ensures limits { IsGeometry self.now }
@@ -190,7 +190,7 @@ impl Geometry {
         self.peb_size - self.data_offset
     }
 
-    /// The number of records of the volume table: as many as a logical eraseblock has room for, but at most 128.
+    /// The number of records of the volume table: as many as fit into a logical eraseblock, but at most 128.
     pub fn slots(&self) -> u32
         ensures value { result ≡ slots self.now }
         ensures limits { IsGeometry self.now }

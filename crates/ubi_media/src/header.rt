@@ -1,5 +1,5 @@
 //! What the two headers of an eraseblock have in common: 64 bytes, of which the first four are a magic number and the
-//! last four the check of those before.
+//! last four the CRC of those before.
 
 ghost use Rattle.std.specs.Prelude.{◌≡◌};
 ghost use Rattle.ubi_media.specs.Fields.{form_of};
@@ -8,17 +8,17 @@ use crate::bytes::is_blank;
 use crate::check::is_sealed;
 use byteorder::{BigEndian, ByteOrder};
 
-/// The place of the check in a header.
+/// The offset of the CRC in a header.
 pub const CHECK: usize = 60;
 
-/// What 64 bytes are before the rules of their header are looked at.
+/// What 64 bytes are before the rules of their header are tried.
 #[derive(Clone, Copy)]
 pub enum Form {
     /// Without the magic, and 0xFF throughout.
     Blank,
-    /// Without the magic and not blank, or with the magic and a wrong check.
+    /// Not blank; without the magic, or with it and a wrong CRC.
     Corrupt,
-    /// With the magic and the right check.
+    /// With the magic and the right CRC.
     Sealed,
 }
 

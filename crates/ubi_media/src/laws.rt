@@ -26,17 +26,17 @@ ghost use Rattle.ubi_media.specs.declared.vid.VidFields.{VidFields};
 ghost use Rattle.ubi_media.specs.declared.vid.VidHeader.{VidHeader};
 ghost use Rattle.ubi_media.specs.declared.vid.VidRead.{VidRead};
 
-/// Numbers are those of a geometry exactly where they break no limit.
+/// Numbers are those of a geometry exactly if they break no limit.
 pub fn limits_of_geometry()
     ensures { (s : Sizes) → (first_broken s ≡ None) ↔ IsGeometry s }
 {}
 
-/// The division by the generator leaves a remainder, and there is no other.
+/// The division by the generator leaves a remainder, and only one.
 pub fn one_remainder()
     ensures { (k p r : ℕ) → p < 2 ^ (32 + k) → IsRemainder p r ↔ (r ≡ remainder k p) }
 {}
 
-/// The check of a message that goes on is that of the whole.
+/// The CRC of a message that goes on is that of the whole.
 pub fn check_goes_on()
     ensures { (state : ℕ) (xs ys : List ℕ) → state < 2 ^ 32 → check_from (check_from state xs) ys ≡ check_from state (xs ++ ys) }
 {}
@@ -61,8 +61,8 @@ pub fn one_ec_reading()
     ensures { (s : Sizes) (bytes : List ℕ) (read : EcRead) → EcIs s bytes read ↔ (read ≡ ec_reading s bytes) }
 {}
 
-/// What is Valid for some geometry starts with a header that names the offsets of this geometry, and what is blank is blank
-/// where no geometry is known, too.
+/// A header that is Valid for some geometry starts with a header that names the offsets of this geometry. What is blank is
+/// also blank if no geometry is known.
 pub fn start_of_any_geometry()
     ensures named { (s : Sizes) (bytes : List ℕ) (h : EcHeader) → ec_reading s bytes ≡ EcRead.Valid h → ec_start bytes ≡ EcStart.Header (offsets_in s) }
     ensures blank { (s : Sizes) (bytes : List ℕ) → ec_reading s bytes ≡ EcRead.Blank → ec_start bytes ≡ EcStart.Blank }

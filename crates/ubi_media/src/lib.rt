@@ -1,8 +1,8 @@
-//! The media of a UBI image, after Linux's `ubi-media.h`, version 1: the geometry of a device, the check that seals
-//! each structure, the two headers of an eraseblock, and the records of the volume table.
+//! The media of a UBI image, after Linux's `ubi-media.h`, version 1: the geometry of a device, the CRC of each
+//! structure, the two headers of an eraseblock, and the records of the volume table.
 //!
-//! A reader answers exactly what bytes are, a writer gives exactly the bytes of the format, and what is written reads
-//! back as what it was. Nothing here takes memory, and nothing here can fail but by the answer that says so.
+//! A reader says exactly what bytes are, a writer gives exactly the bytes of the format, and what is written reads
+//! back unchanged. Nothing here allocates memory, and nothing fails except with an answer that says so.
 //!
 //! A caller, proved from the contracts alone (`crates/ubi_uses`):
 //!

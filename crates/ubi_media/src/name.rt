@@ -7,16 +7,16 @@ ghost use Rattle.ubi_media.specs.Name.{is_name};
 use crate::bytes::put;
 use std::marker::Model;
 
-/// The bytes of the longest name (`UBI_VOL_NAME_MAX`).
+/// The length of the longest name in bytes (`UBI_VOL_NAME_MAX`).
 pub const LONGEST_NAME: usize = 127;
 
-/// The bytes that a record has for a name and at least one zero behind it.
+/// The bytes that a record has for a name and at least one zero after it.
 const ROOM: usize = 128;
 
-/// The name of a volume: 1 to 127 bytes, none of them zero. Seen as the list of its bytes.
+/// The name of a volume: 1 to 127 bytes, none of them zero. Its model is the list of its bytes.
 #[derive(Clone, Copy, Debug, PartialEq, Eq)]
 pub struct VolName {
-    /// The name, and zeros behind it.
+    /// The name, and zeros after it.
     bytes: [u8; ROOM],
     len: u8,
 }
@@ -38,7 +38,7 @@ impl Model for VolName {
 }
 
 impl VolName {
-    /// The name of these bytes. None where there are none or more than 127, or where one of them is zero.
+    /// The name of these bytes. `None` if there are none or more than 127, or if one of them is zero.
     pub fn new(name: &[u8]) -> Option<VolName>
         ensures { MatchOption result (is_name name.now ≡ false) (λ n. (is_name name.now ≡ true) × (n ≡ name.now)) }
     {
@@ -60,7 +60,7 @@ impl VolName {
     }
 }
 
-/// The bytes of a name as a record holds them, with zeros behind.
+/// The bytes of a name as a record holds them, with zeros after it.
 pub fn padded(name: &[u8]) -> [u8; ROOM]
     requires { length name.now ≤ 128 }
     ensures { result ≡ padded name.now }

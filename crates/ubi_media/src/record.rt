@@ -16,19 +16,19 @@ use byteorder::{BigEndian, ByteOrder};
 use std::error::Error;
 use std::fmt;
 
-/// The bytes of a record (`UBI_VTBL_RECORD_SIZE`).
+/// The size of a record in bytes (`UBI_VTBL_RECORD_SIZE`).
 pub const RECORD_SIZE: usize = 172;
 
-/// The place of the check in a record.
+/// The offset of the CRC in a record.
 const CHECK: usize = 168;
 
-/// The check of the empty record: that of 168 zeros.
+/// The CRC of the empty record: that of 168 zeros.
 const EMPTY_CHECK: u32 = 0xF116_C36B;
 
-/// The rule that a record with the right check breaks. Of several, the first in this order.
+/// The rule that a record with the right CRC breaks; if it breaks several, the first in this order.
 #[derive(Clone, Copy, Debug, PartialEq, Eq)]
 pub enum RecFault {
-    /// No eraseblock is reserved, and yet it isn't the empty record.
+    /// No eraseblock is reserved, but it isn't the empty record.
     NotEmpty,
     /// A number that has to be below 2^31 isn't.
     Negative,
@@ -46,7 +46,7 @@ pub enum RecFault {
     NameTooLong,
     /// The name begins with a zero byte.
     NameBlank,
-    /// The length of the name isn't the place of its first zero byte.
+    /// The length of the name isn't the offset of its first zero byte.
     NameLength,
 }
 
@@ -83,17 +83,17 @@ impl Error for RecFault {}
 /// What a record of the volume table says of its volume.
 #[derive(Clone, Copy, Debug, PartialEq, Eq)]
 pub struct VolumeRecord {
-    /// How many eraseblocks are kept for the volume, at least 1.
+    /// How many eraseblocks are reserved for the volume, at least 1.
     pub reserved: u32,
-    /// What the volume uses of a logical eraseblock is a multiple of so many bytes. 1, or a multiple of the page.
+    /// The volume uses a multiple of this many bytes of each logical eraseblock: 1, or a multiple of the page.
     pub alignment: u32,
     /// The kind of the volume.
     pub kind: VolKind,
-    /// Whether an update of the volume began that didn't end.
+    /// Whether an update of the volume began and didn't end.
     pub marker: bool,
     /// The name of the volume.
     pub name: VolName,
-    /// What else is set of the volume: 0x01 that it grows to the size of the device, 0x02 that its check is skipped.
+    /// The flags of the volume: 0x01 says that it grows to the size of the device, 0x02 that its CRC isn't checked.
     /// Other bits are kept as they are.
     pub flags: u8,
 }
@@ -101,17 +101,17 @@ pub struct VolumeRecord {
 /// What 172 bytes are as a record of the volume table.
 #[derive(Clone, Copy, Debug, PartialEq, Eq)]
 pub enum RecRead {
-    /// Zeros and their check: the slot has no volume.
+    /// Zeros and their CRC: the slot has no volume.
     Empty,
-    /// With a wrong check.
+    /// With a wrong CRC.
     BadCrc,
-    /// With the right check and not empty, and the rule that it breaks first.
+    /// With the right CRC and not empty; the rule that it breaks first.
     Fault(RecFault),
-    /// With the right check and not empty, and no rule broken.
+    /// With the right CRC, not empty, and without a fault.
     Valid(VolumeRecord),
 }
 
-/// The fields, as they stand.
+/// The fields, as they stand in the bytes.
 #[derive(Clone, Copy)]
 struct RecFields {
     reserved: u32,
@@ -142,7 +142,7 @@ fn fields_of(bytes: &[u8; RECORD_SIZE]) -> RecFields
     }
 }
 
-/// The place of the first zero byte.
+/// The offset of the first zero byte.
 fn first_zero(name: &[u8]) -> Option<usize>
     ensures { result ≡ position (λ byte. byte == 0) name.now }
 {
@@ -223,7 +223,7 @@ fn record_of(f: &RecFields) -> VolumeRecord
     }
 }
 
-/// What the fields of a sealed record are that isn't the empty one.
+/// What the fields of a sealed record are, if it isn't the empty one.
 #[tactic(auto, unfolding(crate::specs::Record::judged))]
 fn judged(geometry: &Geometry, fields: &RecFields) -> RecRead
     ensures { result ≡ judged geometry.now fields.now }
@@ -243,10 +243,10 @@ fn empty_record() -> [u8; RECORD_SIZE]
     bytes
 }
 
-/// What 172 bytes are as a record of the volume table. What stands behind the zero that ends the name isn't looked at,
-/// and neither is the padding, but in the empty record.
+/// What 172 bytes are as a record of the volume table. The bytes after the zero that ends the name aren't looked at,
+/// and neither is the padding, except in the empty record.
 ///
-/// A record that is Valid breaks no rule: [`rec_fault`] of it is None.
+/// A record that is Valid breaks no rule: [`rec_fault`] of it is `None`.
 pub fn read_rec(geometry: &Geometry, bytes: &[u8; RECORD_SIZE]) -> RecRead
     ensures is { RecIs geometry.now bytes.now result }
     ensures value { result ≡ rec_reading geometry.now bytes.now }
@@ -287,7 +287,7 @@ fn fields_from(geometry: &Geometry, volume: &VolumeRecord) -> RecFields
     }
 }
 
-/// The fault of the first rule that a record breaks: none, or one of the rules of the reserved eraseblocks and of the
+/// The fault of the first rule that a record breaks. `None`, or a rule of the reserved eraseblocks or of the
 /// alignment, since no value can break the others.
 pub fn rec_fault(geometry: &Geometry, volume: &VolumeRecord) -> Option<RecFault>
     ensures value { result ≡ rec_fault geometry.now volume.now }
@@ -297,9 +297,9 @@ pub fn rec_fault(geometry: &Geometry, volume: &VolumeRecord) -> Option<RecFault>
 }
 
 impl VolumeRecord {
-    /// The bytes at the end of each logical eraseblock that the volume leaves free, for its alignment.
+    /// How many bytes the volume leaves free at the end of each logical eraseblock, for its alignment.
     ///
-    /// The record has to break no rule: [`rec_fault`] is None.
+    /// The record has to break no rule: [`rec_fault`] is `None`.
     pub fn data_pad(&self, geometry: &Geometry) -> u32
         requires { rec_fault geometry.now self.now ≡ None }
         ensures { result ≡ data_pad geometry.now self.now }
@@ -307,9 +307,9 @@ impl VolumeRecord {
         geometry.leb_size() % self.alignment
     }
 
-    /// The bytes of a logical eraseblock that the volume uses: a multiple of its alignment, and some.
+    /// How many bytes of a logical eraseblock the volume uses: a multiple of its alignment, above 0.
     ///
-    /// The record has to break no rule: [`rec_fault`] is None.
+    /// The record has to break no rule: [`rec_fault`] is `None`.
     pub fn usable(&self, geometry: &Geometry) -> u32
         requires { rec_fault geometry.now self.now ≡ None }
         ensures value { result ≡ usable geometry.now self.now }
@@ -319,7 +319,7 @@ impl VolumeRecord {
     }
 }
 
-/// The bytes of a record, with zeros in the place of its check.
+/// The bytes of a record, with zeros in place of its CRC.
 fn front_of(geometry: &Geometry, volume: &VolumeRecord) -> [u8; RECORD_SIZE]
     requires { rec_fault geometry.now volume.now ≡ None }
     ensures { result ≡ rec_front geometry.now volume.now ++ replicate 4 0 }
@@ -337,10 +337,10 @@ fn front_of(geometry: &Geometry, volume: &VolumeRecord) -> [u8; RECORD_SIZE]
     bytes
 }
 
-/// The bytes of a slot of the volume table: of its record, zeros behind its name, zero padding and the right check; or
-/// of the empty record. They read back as what they were made of.
+/// The bytes of a slot of the volume table: of its record, with zeros after its name, zero padding and the right
+/// CRC; or of the empty record. They read back as what they were made from.
 ///
-/// The record has to break no rule: [`rec_fault`] is None.
+/// The record has to break no rule: [`rec_fault`] is `None`.
 pub fn write_rec(geometry: &Geometry, volume: Option<&VolumeRecord>) -> [u8; RECORD_SIZE]
     requires { ForSome (option_copied volume) (λ r. rec_fault geometry.now r ≡ None) }
     ensures bytes { result ≡ rec_bytes geometry.now (option_copied volume.entry) }

@@ -13,12 +13,12 @@ use std::fmt;
 
 /// The cause for which an image is refused, with the eraseblocks, slots and volumes that it names.
 ///
-/// The size comes first: `TooMany`, and else `Length`. Then the lowest eraseblock with a fault decides, there the first of
-/// `Ec` to `SameSqnum`; then the table, the first of `NoTable` to `NoSpace`; and last the lowest eraseblock with a
-/// `Mismatch`.
+/// The size comes first: `TooMany`, and else `Length`. Then the lowest eraseblock with a fault decides, with the first of
+/// its faults from `Ec` to `SameSqnum`; then the table, with the first of `NoTable` to `NoSpace`; and last the lowest
+/// eraseblock with a `Mismatch`.
 #[derive(Clone, Copy, Debug, PartialEq, Eq)]
 pub enum Refusal {
-    /// The image has no byte, or its bytes aren't whole eraseblocks.
+    /// The image is empty, or its bytes aren't whole eraseblocks.
     Length,
     /// The image has more bytes than the device.
     TooMany,
@@ -30,11 +30,11 @@ pub enum Refusal {
     Vid(u32, VidFault),
     /// An eraseblock belongs to an internal volume that may not be dropped: the eraseblock and the volume.
     Incompatible(u32, u32),
-    /// An eraseblock can't be one of the layout volume's, of which it says that it is.
+    /// An eraseblock says that it is one of the layout volume's, but can't be one.
     Layout(u32),
     /// An eraseblock has the logical eraseblock and the sequence number of an earlier one: both eraseblocks.
     SameSqnum(u32, u32),
-    /// No eraseblock holds a volume table, though some are in use.
+    /// No eraseblock holds a volume table, but some are in use.
     NoTable,
     /// Neither copy of the volume table can be read.
     BothCorrupt,

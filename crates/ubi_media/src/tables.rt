@@ -1,4 +1,4 @@
-//! What a byte makes of the register of the check, worked out.
+//! What a byte adds to the register of the CRC, worked out.
 
 /// `TABLES[k][byte]` is the state after that byte and k zeros, from a state of 0: the register after 8 * (k + 1) shifts.
 #[rattlefmt::skip]

@@ -14,24 +14,24 @@ use byteorder::{BigEndian, ByteOrder};
 use std::error::Error;
 use std::fmt;
 
-/// The text `UBI!`, with which a volume-identifier header begins (`UBI_VID_HDR_MAGIC`).
+/// The bytes `UBI!`, with which a volume-identifier header begins (`UBI_VID_HDR_MAGIC`).
 pub const VID_MAGIC: u32 = 0x5542_4921;
 
 /// The version of the format.
 const VERSION: u8 = 1;
 
 /// The number of the layout volume, which holds the volume table (`UBI_LAYOUT_VOLUME_ID`). Internal volumes have this
-/// number and those above.
+/// number and higher ones.
 pub const LAYOUT_VOLUME: u32 = 0x7FFF_EFFF;
 
-/// What a system that doesn't know an internal volume is to do: reject the image (`UBI_COMPAT_REJECT`). The layout volume
-/// has this.
+/// What a system that doesn't know an internal volume has to do: reject the image (`UBI_COMPAT_REJECT`). The layout
+/// volume says this.
 pub const REJECT: u8 = 5;
 
-/// Users' volumes have the numbers below (`UBI_MAX_VOLUMES`).
+/// Users' volumes have the numbers below this one (`UBI_MAX_VOLUMES`).
 pub const MOST_VOLUMES: u32 = 128;
 
-/// The least number that is negative where it is read with a sign.
+/// The least 32-bit number that is negative when it is read as signed.
 pub const NEGATIVE: u32 = 0x8000_0000;
 
 /// The number of the type of a dynamic volume (`UBI_VID_DYNAMIC`).
@@ -40,7 +40,7 @@ pub const DYNAMIC: u8 = 1;
 /// The number of the type of a static volume (`UBI_VID_STATIC`).
 pub const STATIC: u8 = 2;
 
-/// The rule that a header with the right magic and the right check breaks. Of several, the first in this order.
+/// The rule that a header with the right magic and CRC breaks; if it breaks several, the first in this order.
 #[derive(Clone, Copy, Debug, PartialEq, Eq)]
 pub enum VidFault {
     /// The copy flag is neither 0 nor 1.
@@ -49,7 +49,7 @@ pub enum VidFault {
     Negative,
     /// The volume is neither a user's nor an internal one: 128 to 0x7FFFEFFE.
     VolumeId,
-    /// The compatibility is not 0 in a user's volume, or not 1, 2, 4 or 5 in an internal one.
+    /// The compatibility isn't 0 in a user's volume, or isn't 1, 2, 4 or 5 in an internal one.
     Compat,
     /// The type is neither dynamic nor static.
     Kind,
@@ -62,7 +62,7 @@ pub enum VidFault {
     UsedEbs,
     /// The logical eraseblock isn't one of the used ones of its static volume.
     Lnum,
-    /// In a dynamic volume the size and the check of the data are there without the copy flag, or the size isn't there
+    /// In a dynamic volume the size and the CRC of the data are given without the copy flag, or the size isn't given
     /// with it.
     CopyFields,
 }
@@ -100,9 +100,9 @@ impl Error for VidFault {}
 /// How a volume keeps its contents.
 #[derive(Clone, Copy, Debug, PartialEq, Eq)]
 pub enum VolKind {
-    /// In logical eraseblocks that are written each by itself (`UBI_VID_DYNAMIC`).
+    /// In logical eraseblocks, each of which is written by itself (`UBI_VID_DYNAMIC`).
     Dynamic,
-    /// As one text, written at once and checked (`UBI_VID_STATIC`).
+    /// As a whole that is written at once, with CRCs (`UBI_VID_STATIC`).
     Static,
 }
 
@@ -134,24 +134,24 @@ impl VolKind {
 pub struct VidHeader {
     /// The kind of the volume.
     pub kind: VolKind,
-    /// Whether the data were copied here from another eraseblock, or changed by a copy.
+    /// Whether the data were copied here from another eraseblock, or changed in the copying.
     pub copy_flag: bool,
-    /// What is to be done with an internal volume that isn't known: 1 delete, 2 read only, 4 preserve, 5 reject. A
-    /// user's volume has 0.
+    /// What has to be done with an internal volume that isn't known: 1 delete, 2 read only, 4 preserve, 5 reject.
+    /// A user's volume has 0.
     pub compat: u8,
     /// The number of the volume.
     pub vol_id: u32,
     /// The number of the logical eraseblock in its volume.
     pub lnum: u32,
-    /// The bytes of data that `data_crc` is the check of. 0 in a dynamic volume without the copy flag.
+    /// How many bytes of data `data_crc` covers. 0 in a dynamic volume without the copy flag.
     pub data_size: u32,
-    /// The logical eraseblocks that a static volume uses. 0 in a dynamic one.
+    /// How many logical eraseblocks a static volume uses. 0 in a dynamic one.
     pub used_ebs: u32,
-    /// The bytes at the end of the logical eraseblock that the volume leaves free, for its alignment.
+    /// How many bytes the volume leaves free at the end of the logical eraseblock, for its alignment.
     pub data_pad: u32,
-    /// The check of the first `data_size` bytes of the logical eraseblock. 0 in a dynamic volume without the copy flag.
+    /// The CRC of the first `data_size` bytes of the logical eraseblock. 0 in a dynamic volume without the copy flag.
     pub data_crc: u32,
-    /// The number that this header was written as, counted over the whole device.
+    /// The sequence number: headers are numbered over the whole device, in the order in which they are written.
     pub sqnum: u64,
 }
 
@@ -180,15 +180,15 @@ impl VidHeader {
 pub enum VidRead {
     /// 0xFF throughout: the eraseblock belongs to no logical one.
     Blank,
-    /// Not blank and without the magic, or with the magic and a wrong check.
+    /// Not blank; without the magic, or with it and a wrong CRC.
     Corrupt,
-    /// With the magic and the right check, and the rule that it breaks first.
+    /// With the magic and the right CRC; the rule that it breaks first.
     Fault(VidFault),
-    /// With the magic and the right check, and no rule broken.
+    /// With the magic and the right CRC, and without a fault.
     Valid(VidHeader),
 }
 
-/// The fields behind the magic, as they stand.
+/// The fields after the magic, as they stand in the bytes.
 #[derive(Clone, Copy)]
 struct VidFields {
     kind: u8,
@@ -351,7 +351,7 @@ fn fields_from(header: &VidHeader) -> VidFields
     }
 }
 
-/// The bytes of a header, with zeros in the place of its check.
+/// The bytes of a header, with zeros in place of its CRC.
 fn front_of(fields: VidFields) -> [u8; 64]
     ensures { result ≡ vid_front fields ++ replicate 4 0 }
 {
@@ -371,9 +371,9 @@ fn front_of(fields: VidFields) -> [u8; 64]
     bytes
 }
 
-/// The bytes of a header: version 1, zero padding and the right check.
+/// The bytes of a header: version 1, zero padding and the right CRC.
 ///
-/// Under a geometry by whose rules the header has no fault they read back as it.
+/// They read back as the header under a geometry whose rules it keeps.
 pub fn write_vid(header: &VidHeader) -> [u8; 64]
     ensures bytes { result ≡ vid_bytes header.now }
     ensures read_back { (s : Sizes) → vid_fault s header.now ≡ None → VidIs s result (VidRead.Valid header.now) }

@@ -4,9 +4,9 @@ use Rattle.std.specs.Coded.{Coded, code_by, coded×, coded_ℕ, coded_list}
 use Rattle.std.proofs.Common.{ap}
 use Rattle.ubi_scan.specs.Source.{IsSource, Reads, Source, holds}
 
--- its bytes, how an eraseblock is cut, the read that fails (0 for none), how many reads were made and failed, where the last one
--- began that failed, and how many began in each eraseblock, began in the data of each, and went beyond the eraseblock in which
--- they began
+-- its bytes, the size and the data offset of its eraseblocks, the read that fails (0 for none), how many reads were made and
+-- failed, where the last failed read began, and how many reads began in each eraseblock, began in the data of each, and went
+-- beyond the eraseblock in which they began
 pub record Probed : Type 0 where
   pub bytes : List ℕ
   pub peb_size : ℕ
@@ -19,7 +19,7 @@ pub record Probed : Type 0 where
   pub data_reads : List ℕ
   pub crossing : ℕ
 
--- how that is stored
+-- how a source for tests is stored
 abbrev pub probed_code : Coded Probed
 probed_code =
     code_by (List ℕ × (ℕ × (ℕ × (ℕ × (ℕ × (ℕ × (ℕ × (List ℕ × (List ℕ × ℕ)))))))))
@@ -55,7 +55,7 @@ bumped_if b counts i = if b then bumped counts i else counts
 abbrev pub next_if : Bool → ℕ → ℕ
 next_if b n = if b then next n else n
 
--- what is known of it
+-- what is known of a source for tests
 abbrev pub probe_source : Probed → Source
 probe_source p = record { size = length p.bytes; failures = p.failures; held = Some p.bytes }
 
@@ -67,7 +67,7 @@ no_reads p = []
 pub probe_sized : (p : Probed) → IsSource (probe_source p) (holds p.bytes)
 probe_sized p = record { sized = λ held is. ap length is }
 
--- what a read of n bytes from a place on counts
+-- what changes by a read of n bytes from a place on
 pub record IsCounted (old new : Probed) (at n : ℕ) : Type 0 where
   pub made : new.made ≡ next old.made
   pub failures : new.failures ≡ next_if (next old.made == old.fail_at) old.failures
@@ -75,7 +75,7 @@ pub record IsCounted (old new : Probed) (at n : ℕ) : Type 0 where
   pub data_reads : new.data_reads ≡ bumped_if (nat_le old.data_offset (at % old.peb_size)) old.data_reads (at / old.peb_size)
   pub crossing : new.crossing ≡ next_if (nat_lt old.peb_size (at % old.peb_size + n)) old.crossing
 
--- what it leaves as it was
+-- what a read leaves as it was
 pub record IsSameProbe (old new : Probed) : Type 0 where
   pub bytes : new.bytes ≡ old.bytes
   pub peb_size : new.peb_size ≡ old.peb_size

@@ -5,14 +5,14 @@ use Rattle.ubi_probe.specs.declared.writer.Failure.{Failure}
 use Rattle.ubi_probe.specs.declared.writer.Failure.TheVariants as failure
 use Rattle.ubi_probe.specs.contracts.writer.Failure as failure_type
 
--- the bytes that it has taken, how many it takes in all and at once, and how it fails then
+-- the bytes that it has taken, how many it takes in all and at once, and how it fails after that
 pub record Probe : Type 0 where
   pub taken : List ℕ
   pub room : ℕ
   pub most : ℕ
   pub failure : Failure
 
--- the same as nested pairs
+-- a writer for tests as nested pairs
 abbrev pub probe_code : Coded Probe
 probe_code =
     code_by (List ℕ × (ℕ × (ℕ × Failure))) (coded× (coded_list coded_ℕ) (coded× coded_ℕ (coded× coded_ℕ failure_type.the_row.coded)))
@@ -28,7 +28,7 @@ is_error failure.Nothing = false
 abbrev pub fitting : Probe → ℕ → ℕ
 fitting p n = min (min n (p.room - length p.taken)) p.most
 
--- how many of n bytes it takes; none where it fails by an error
+-- how many of n bytes it takes; `None` if it fails by an error
 abbrev pub answer : Probe → ℕ → Option ℕ
 answer p n = if (fitting p n == 0) && (not (n == 0) && is_error p.failure) then None else Some (fitting p n)
 

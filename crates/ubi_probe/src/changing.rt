@@ -6,8 +6,8 @@ ghost use Rattle.ubi_scan.specs.Source.{file_owned, file_sized, known_by};
 
 use ubi_scan::{BlockSource, SourceFault, Trace};
 
-/// A source that answers the bytes of one image for some reads, and then those of another, so that maybe no bytes agree with all
-/// of its reads. What neither has is 0xFF.
+/// A source that answers the bytes of one image for some reads, and then those of another, so perhaps no bytes agree with all of
+/// its reads. What neither has is 0xFF.
 #[derive(Drop)]
 pub struct ChangingSource<'a> {
     first: &'a [u8],

@@ -9,11 +9,11 @@ use ubi_media::{Geometry, GeometryError};
 /// image 0x12345678.
 #[derive(Clone, Copy)]
 pub struct Chip {
-    /// The place of the volume-identifier header.
+    /// The offset of the volume-identifier header.
     pub vid: u32,
-    /// That of the data.
+    /// The offset of the data.
     pub data: u32,
-    /// The erase-counter header. Another program worked out its check.
+    /// The erase-counter header. Another program worked out its CRC.
     pub ec: &'static [u8; 64],
 }
 
@@ -46,8 +46,8 @@ impl Chip {
         Geometry::new(131_072, 2048, self.vid, self.data, 1024)
     }
 
-    /// The image of a dynamic volume 0, whose logical eraseblock 1 begins with two bytes `ab`, with a spare eraseblock behind
-    /// it. The geometry is the chip's.
+    /// The image of a dynamic volume 0, whose logical eraseblock 1 begins with two bytes `ab`, followed by a spare
+    /// eraseblock. The geometry is the chip's.
     ///
     /// # Errors
     ///

@@ -2,16 +2,16 @@
 
 use ubi_media::{LAYOUT_VOLUME, VidHeader, VolKind};
 
-/// The check of 384 bytes 0x41. This and the next ones were worked out by another program.
+/// The CRC of 384 bytes 0x41. Another program worked this and the next ones out.
 pub const CHECK_OF_41: u32 = 0xD6FB_3026;
 
-/// The check of 384 bytes 0x61.
+/// The CRC of 384 bytes 0x61.
 pub const CHECK_OF_61: u32 = 0x74A2_CBC2;
 
-/// The check of 64 bytes 0x37.
+/// The CRC of 64 bytes 0x37.
 pub const CHECK_OF_37: u32 = 0x6BFF_21BA;
 
-/// The check of 64 bytes 0x39, with its lowest bit turned.
+/// The CRC of 64 bytes 0x39, with its lowest bit flipped.
 pub const WRONG_CHECK_OF_39: u32 = 0xF1EC_52E6;
 
 /// The header of logical eraseblock 0 of volume 0 with sequence number 0, neither copied nor static.
@@ -97,7 +97,7 @@ pub const PIECE_1: VidHeader = VidHeader {
     ..PIECE_0
 };
 
-/// The header of the one eraseblock of a damaged volume in a normal image: one byte, whose check isn't 0.
+/// The header of the one eraseblock of a damaged volume in a normal image: one byte, whose CRC isn't 0.
 pub const DAMAGED: VidHeader = VidHeader {
     used_ebs: 1,
     data_size: 1,

@@ -1,8 +1,7 @@
-//! What the tests of several crates stand on: sources and writers that fail where they are told to, and count or keep what
-//! they are asked, a source that changes, and the eraseblocks, the headers, the records and the texts that images are made of.
+//! Support for the tests of several crates: sources and writers that fail where a test says, and count or keep what they are
+//! asked; a source that changes; and the eraseblocks, headers, records and texts that images are made of.
 //!
-//! What the sources and writers answer is said by contracts, so that a test may rest on it. No library stands on this crate,
-//! only tests do.
+//! Contracts say what the sources and writers answer, so a test may rest on it. Only tests use this crate; no library does.
 #![tactic(auto)]
 
 mod changing;

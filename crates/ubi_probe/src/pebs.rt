@@ -1,6 +1,6 @@
 //! Eraseblocks, and the images that are made of them.
 //!
-//! They are constants: a proof takes those as they stand, and pays for each loop and each call of a test.
+//! They are constants: a proof takes those as they stand, but pays for each loop and each call of a test.
 
 use crate::header_bytes::{EC, NAMED_EC};
 use crate::headers;
@@ -21,7 +21,7 @@ use ubi_media::{EcHeader, Geometry, GeometryError, VidHeader, crc, write_ec, wri
 /// The image sequence number of the image whose eraseblocks they are.
 pub const IMAGE: u32 = 0x1234_5678;
 
-/// What stands in the place of an erase-counter header.
+/// What stands in place of an erase-counter header.
 #[derive(Clone, Copy)]
 pub enum Ec {
     /// 0xFF throughout.
@@ -30,7 +30,7 @@ pub enum Ec {
     Corrupt,
     /// A header: its counter, and its image sequence number, 0 for no image.
     Of(u32, u32),
-    /// The same whose padding isn't zero, with the right check.
+    /// The same with padding that isn't zero, and with the right CRC.
     Padded(u32, u32),
     /// That of normal images of the image 0x12345678, as the format writes it for small eraseblocks.
     Normal,
@@ -40,7 +40,7 @@ pub enum Ec {
     Bytes(&'static [u8; 64]),
 }
 
-/// What stands in the place of a volume-identifier header.
+/// What stands in place of a volume-identifier header.
 #[derive(Clone, Copy)]
 pub enum Vid {
     /// 0xFF throughout.
@@ -49,9 +49,9 @@ pub enum Vid {
     Corrupt,
     /// The header of a logical eraseblock of a dynamic volume: the volume, the number, and the sequence number.
     Leb(u32, u32, u64),
-    /// That of a copy in dynamic volume 0: the number, how many bytes there are and their check, and the sequence number.
+    /// That of a copy in dynamic volume 0: the number, how many bytes there are and their CRC, and the sequence number.
     Copy(u32, u32, u32, u64),
-    /// That of a piece of static volume 0: the number, how many pieces there are, how many bytes it has, and their check.
+    /// That of a piece of static volume 0: the number, how many pieces there are, how many bytes it has, and their CRC.
     Static(u32, u32, u32, u32),
     /// That of a copy of the volume table: its number and its sequence number.
     Table(u32, u64),
@@ -59,20 +59,20 @@ pub enum Vid {
     Internal(u8, u64),
     /// Any header.
     Of(VidHeader),
-    /// A header with its check, which another program worked out.
+    /// A header with its CRC, which another program worked out.
     Sealed(VidHeader, u32),
     /// These bytes.
     Bytes(&'static [u8; 64]),
 }
 
-/// The data of an eraseblock, with 0xFF behind them.
+/// The data of an eraseblock, with 0xFF after them.
 #[derive(Clone, Copy)]
 pub enum Data {
     /// A volume table: records in its first slots, and none in the others.
     Table(&'static [Slot]),
-    /// A byte, so many times.
+    /// A byte, this many times.
     Fill(u8, usize),
-    /// Bytes that each stand so many times.
+    /// Bytes, each of which stands this many times.
     Runs(&'static [(&'static [u8], usize)]),
 }
 
@@ -100,7 +100,7 @@ impl Ec {
         bytes
     }
 
-    /// The same where it names no image.
+    /// The same without the name of an image.
     fn unnumbered(self) -> Ec {
         match self {
             Ec::Of(counter, _) => Ec::Of(counter, 0),
@@ -111,7 +111,7 @@ impl Ec {
 }
 
 impl Vid {
-    /// The header, where there is one that was built.
+    /// The header, if it is one that was built.
     pub fn header(&self) -> Option<VidHeader> {
         Some(match *self {
             Vid::Blank | Vid::Corrupt | Vid::Bytes(_) => return None,
@@ -228,7 +228,7 @@ pub fn small_image(alloc: Global, pebs: &[Peb]) -> Result<Vec<u8>, Fail> {
     Ok(image_of(alloc, &small()?, pebs)?)
 }
 
-/// Those of eraseblocks where they name no image.
+/// The bytes of eraseblocks without the name of an image.
 ///
 /// # Errors
 ///
@@ -277,7 +277,7 @@ pub const ERASED: Peb = Peb(Ec::Blank, Vid::Blank, NO_DATA);
 pub const FREE: Peb = Peb(NAMED, Vid::Blank, NO_DATA);
 /// The same in no image.
 pub const NEW_FREE: Peb = Peb(NEW, Vid::Blank, NO_DATA);
-/// One of which no header can be read.
+/// One whose headers can't be read.
 pub const TORN: Peb = Peb(Ec::Corrupt, Vid::Corrupt, NO_DATA);
 /// One whose volume-identifier header can't be read.
 pub const GARBAGE: Peb = Peb(NAMED, Vid::Corrupt, NO_DATA);
@@ -299,21 +299,21 @@ pub const EMPTY_D: Peb = Peb(NAMED, Vid::Leb(0, 3, 0), NO_DATA);
 pub const NEW_FIRST: Peb = Peb(NEW, Vid::Table(0, 0), Data::Table(&[ROOT]));
 /// Copy 1 in no image.
 pub const NEW_SECOND: Peb = Peb(NEW, Vid::Table(1, 0), Data::Table(&[ROOT]));
-/// Copy 0 with one bit of the record turned.
+/// Copy 0 with one bit of the record flipped.
 pub const FIRST_FLIPPED: Peb = Peb(NAMED, Vid::Table(0, 0), Data::Table(&[FLIPPED]));
-/// Copy 0 where the volume is updated.
+/// Copy 0 with the volume being updated.
 pub const FIRST_MARKED: Peb = Peb(NAMED, Vid::Table(0, 0), Data::Table(&[MARKED]));
-/// Copy 1 where it is.
+/// Copy 1 with it being updated.
 pub const SECOND_MARKED: Peb = Peb(NAMED, Vid::Table(1, 0), Data::Table(&[MARKED]));
-/// Copy 0 where the volume has alignment 0.
+/// Copy 0 with a volume of alignment 0.
 pub const FIRST_ALIGNMENT_0: Peb = Peb(NAMED, Vid::Table(0, 0), Data::Table(&[ALIGNMENT_0]));
-/// Copy 0 where it has one eraseblock more than there are.
+/// Copy 0 with a volume of one eraseblock more than there are.
 pub const FIRST_OVERFULL: Peb = Peb(NAMED, Vid::Table(0, 0), Data::Table(&[OVERFULL]));
 /// Copy 0 of a table with `root` and a volume `data` of one eraseblock.
 pub const FIRST_DATA: Peb = Peb(NAMED, Vid::Table(0, 0), Data::Table(&[ROOT, DATA]));
 /// Copy 1 of it.
 pub const SECOND_DATA: Peb = Peb(NAMED, Vid::Table(1, 0), Data::Table(&[ROOT, DATA]));
-/// Copy 0 where the volume has alignment 256, so that 128 bytes of each logical eraseblock are left.
+/// Copy 0 with a volume of alignment 256, which leaves 128 bytes of each logical eraseblock free.
 pub const FIRST_ALIGNED: Peb = Peb(NAMED, Vid::Table(0, 0), Data::Table(&[ALIGNMENT_256]));
 /// Copy 1 of that.
 pub const SECOND_ALIGNED: Peb = Peb(NAMED, Vid::Table(1, 0), Data::Table(&[ALIGNMENT_256]));
@@ -327,13 +327,13 @@ pub const ALIGNED_ZEROED: Peb = Peb(
 );
 /// Logical eraseblock 0 of `root` with sequence number 5.
 pub const OLD: Peb = Peb(NAMED, Vid::Leb(0, 0, 5), Data::Fill(b'5', 384));
-/// A copy with sequence number 7 whose check is right.
+/// A copy with sequence number 7 whose CRC is right.
 pub const RIGHT: Peb = Peb(
     NAMED,
     Vid::Copy(0, 64, CHECK_OF_37, 7),
     Data::Fill(b'7', 64),
 );
-/// A copy with sequence number 9 whose check is wrong.
+/// A copy with sequence number 9 whose CRC is wrong.
 pub const WRONG_9: Peb = Peb(
     NAMED,
     Vid::Copy(0, 64, WRONG_CHECK_OF_39, 9),
@@ -355,13 +355,13 @@ pub const STATIC_A: Peb = Peb(
 pub const FIRST_BOOT: Peb = Peb(NAMED, Vid::Table(0, 0), Data::Table(&[BOOT]));
 /// Copy 1 of it.
 pub const SECOND_BOOT: Peb = Peb(NAMED, Vid::Table(1, 0), Data::Table(&[BOOT]));
-/// The first piece of a text in that volume: 384 bytes 0x41.
+/// The first piece of contents of that volume: 384 bytes 0x41.
 pub const BOOT_0: Peb = Peb(NAMED, Vid::Of(PIECE_0), Data::Fill(b'A', 384));
 /// The second: a byte 0xFF.
 pub const BOOT_1: Peb = Peb(NAMED, Vid::Of(PIECE_1), NO_DATA);
-/// The first piece of another text: 384 bytes 0x61.
+/// The first piece of other contents: 384 bytes 0x61.
 pub const TEXT_0: Peb = Peb(NAMED, Vid::Of(STATIC_0), Data::Fill(b'a', 384));
-/// The second: a byte 0x62, and more of these behind it.
+/// The second: a byte 0x62, and more of these after it.
 pub const TEXT_1: Peb = Peb(NAMED, Vid::Of(STATIC_1), Data::Fill(b'b', 384));
 /// Copy 0 of a table with the static volume `boot` of 8 eraseblocks while it is updated.
 pub const FIRST_UPDATING: Peb = Peb(NAMED, Vid::Table(0, 0), Data::Table(&[MARKED_BOOT]));
@@ -447,7 +447,7 @@ pub const NORMAL_ALIGNED: Peb = Peb(
 pub const BOOT_FIRST: Peb = Peb(Ec::Normal, COPY_0, Data::Table(&[BOOT]));
 /// Copy 1 of it.
 pub const BOOT_SECOND: Peb = Peb(Ec::Normal, COPY_1, Data::Table(&[BOOT]));
-/// The first piece of its text, 384 bytes 0x41.
+/// The first piece of its contents, 384 bytes 0x41.
 pub const NORMAL_BOOT_0: Peb = Peb(
     Ec::Normal,
     Vid::Sealed(PIECE_0, 0xAAD6_692C),
@@ -455,7 +455,7 @@ pub const NORMAL_BOOT_0: Peb = Peb(
 );
 /// The second, a byte 0xFF.
 pub const NORMAL_BOOT_1: Peb = Peb(Ec::Normal, Vid::Sealed(PIECE_1, 0xB77E_48CF), NO_DATA);
-/// Its one piece where it is damaged: a byte whose check isn't 0.
+/// Its one piece when it is damaged: a byte whose CRC isn't 0.
 pub const NORMAL_DAMAGED: Peb = Peb(Ec::Normal, Vid::Sealed(DAMAGED, 0xA3B7_F98B), NO_DATA);
 /// Copy 0 of a table with that volume while it is updated.
 pub const UPDATING_FIRST: Peb = Peb(Ec::Normal, COPY_0, Data::Table(&[MARKED_BOOT]));

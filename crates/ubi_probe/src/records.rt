@@ -2,8 +2,7 @@
 
 use ubi_media::{VolKind, VolName, VolumeRecord};
 
-/// The fields of a record, as they stand, the first byte of its padding, and its check. The checks were worked out by another
-/// program.
+/// The fields of a record, as they stand, the first byte of its padding, and its CRC. Another program worked the CRCs out.
 #[derive(Clone, Copy)]
 pub struct Slot {
     pub reserved: u32,
@@ -102,7 +101,7 @@ pub const KIND_3: Slot = Slot {
     ..ROOT
 };
 
-/// One with a byte behind the zero of its name.
+/// One with a byte after the zero of its name.
 pub const BEHIND: Slot = Slot {
     name: b"root\0\x01",
     check: 0xA4DC_AEDB,
@@ -212,7 +211,7 @@ impl Slot {
         bytes
     }
 
-    /// The volume that the fields say. None where its name is no name.
+    /// The volume that the fields describe. `None` if its name isn't a name.
     pub fn volume(&self) -> Option<VolumeRecord> {
         let kind = if self.kind == 2 {
             VolKind::Static

@@ -1,8 +1,8 @@
-//! Headers as they stand, each with its check. The checks of what tests make of them were worked out by another program.
+//! Headers as they stand, each with its CRC. Another program worked out the CRCs of what tests make of them.
 
 use ubi_media::{VidHeader, VolKind};
 
-/// A volume-identifier header as it stands, with its check.
+/// A volume-identifier header as it stands, with its CRC.
 #[derive(Clone, Copy)]
 pub struct SealedVid(pub VidHeader, pub u32);
 

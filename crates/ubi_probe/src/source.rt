@@ -19,11 +19,11 @@ pub struct ProbeSource<'a> {
     fail_at: u64,
     made: u64,
     failures: u64,
-    /// Where the last read began that failed, 0 before one has.
+    /// Where the last failed read began, 0 if none has failed.
     failed_at: u64,
-    /// The reads that begin in each eraseblock.
+    /// How many reads began in each eraseblock.
     reads: Vec<u64>,
-    /// Those of them that begin in its data.
+    /// How many of them began in its data.
     data_reads: Vec<u64>,
     crossing: u64,
 }
@@ -51,7 +51,7 @@ fn bump(counts: &mut Vec<u64>, place: u64)
 }
 
 impl<'a> ProbeSource<'a> {
-    /// A source over bytes that fails at the read `fail_at`, counted from 1, or never where that is 0.
+    /// A source over bytes that fails at the read `fail_at`, counted from 1, or never if that is 0.
     ///
     /// # Errors
     ///

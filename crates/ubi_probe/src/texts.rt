@@ -1,4 +1,4 @@
-//! Texts as bytes that each stand so many times, and what some of them say.
+//! Texts as bytes that each stand a number of times, and what some of them say.
 
 use std::alloc::{AllocError, Global};
 
@@ -14,7 +14,7 @@ pub const ROOT_TEXT: &[(&[u8], usize)] = &[
     (b"\n", 1),
 ];
 
-/// Adds bytes that each stand so many times.
+/// Adds bytes that each stand a number of times.
 pub fn put_runs(bytes: &mut Vec<u8>, runs: &[(&[u8], usize)]) -> Result<(), AllocError> {
     for (run, count) in runs {
         for _ in 0..*count {
@@ -24,7 +24,7 @@ pub fn put_runs(bytes: &mut Vec<u8>, runs: &[(&[u8], usize)]) -> Result<(), Allo
     Ok(())
 }
 
-/// Bytes that each stand so many times.
+/// Bytes that each stand a number of times.
 ///
 /// # Errors
 ///

@@ -19,8 +19,8 @@ pub enum Failure {
     Nothing,
 }
 
-/// A writer in memory, for tests. It has room for so many bytes and then fails; at once it takes all that is written, or
-/// so many bytes of it.
+/// A writer in memory, for tests. It has room for a number of bytes and then fails. At once it takes all that is
+/// written, or up to a number of bytes.
 #[derive(Drop)]
 pub struct ProbeWriter {
     /// As many bytes as there is room for, the first `len` of them taken.
@@ -44,7 +44,7 @@ impl Model for ProbeWriter {
 }
 
 impl ProbeWriter {
-    /// A writer with room for so many bytes, which it reserves. It takes at most `most` of them at once.
+    /// A writer with room for `room` bytes, which it reserves. It takes at most `most` of them at once.
     ///
     /// # Errors
     ///

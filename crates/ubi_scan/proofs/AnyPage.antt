@@ -1,4 +1,4 @@
--- No header names a page: with another page eraseblocks have the same members and winners, no fault more, and the same
+-- No header names a page: with another page eraseblocks have the same members and winners, no more faults, and the same
 -- states and numbers.
 use Rattle.ubi_scan.proofs.Prelude.{◌≡◌, ℕ, inl, inr, List, refl, get, IfSome, MatchOption, None, Option, Some, slice_get, ec_reading, Sizes, with_page, vid_reading, Refusal, HasFault, NoFault, IsMember, Leb, NoMember, Wins, image_seq, Found, IsScan, StateIs, ScanState, breaks as vid_breaks, first_fault as first_vid_fault, judged as judged_vid}
 use Rattle.ubi_media.specs.Ec.{breaks as ec_breaks, first_fault as first_ec_fault, judged as judged_ec}

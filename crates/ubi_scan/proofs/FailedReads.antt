@@ -1,4 +1,4 @@
--- Which eraseblock is told where a read failed.
+-- Which eraseblock is named if a read failed.
 use Rattle.ubi_scan.proofs.Prelude.{◌≡◌, ℕ, ◌+◌, ◌*◌, ◌/◌, ◌<◌, ap, subst, sym, ◌∙◌, div-mul-add, IfErr, OnErr, Result, Ok, Err, Sizes, NamesBlock, StreamError}
 use Rattle.ubi_scan.specs.declared.errors.StreamError.TheVariants as stream
 

@@ -1,4 +1,4 @@
--- Bytes that are filled up with 0xFF: their parts, and what is written over them.
+-- Bytes that are filled up with 0xFF: their parts, and what overwrites them.
 use Rattle.ubi_scan.proofs.Prelude.{◌≡◌, ℕ, zero, suc, ◌+◌, ◌-◌, ◌≤◌, List, [], ◌∷◌, ◌++◌, append_assoc, length, take, drop, refl, ap, sym, ◌∙◌, arith, length-append, drop-drop, drop-replicate, drop_at, length-replicate, replicate-append-replicate, take-replicate, take_at, blank, filled, overwrite}
 use Rattle.std.specs.Prelude.{slice_range}
 use Rattle.std.proofs.Math.Path.{ap₂}

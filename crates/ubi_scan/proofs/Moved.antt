@@ -1,4 +1,4 @@
--- The eraseblocks in another order: each member and each winner moves with its eraseblock, and no fault comes.
+-- The eraseblocks in another order: each member and each winner moves with its eraseblock, and no fault is added.
 use Rattle.ubi_scan.proofs.Prelude.{◌≡◌, ◌≢◌, ℕ, ◌<◌, ◌≤◌, inl, inr, Bool, true, false, cond, eqb, List, [], ◌∷◌, length, set, refl, ap, sym, ◌∙◌, subst, arith, length-set, swap, IsPermutation, nat_tests, get_or_default, length-swap, IsPermutation-keeps, cases_eq, Sizes, IsClean, IsSound, NoFault, block, IsMember, Leb, NoMember, Wins, good_at, good_in, named_in, sqnum_at, sqnum_in, image_seq, seq_of, get_or-set_same, get_or-set_other}
 use Rattle.ubi_scan.proofs.Clean.{clean_from_none, none_from_clean}
 use Rattle.ubi_scan.proofs.Seq.{seq_agrees, seq_is}

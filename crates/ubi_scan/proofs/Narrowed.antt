@@ -1,4 +1,4 @@
--- What stands of all that a source may hold stands of what is left of it.
+-- What holds for all that a source may hold holds for what is left of it.
 use Rattle.ubi_scan.proofs.Prelude.{Sizes, Found, Agreed, IsSource, Narrows, Source, IsScanOf}
 
 pub narrows_more : (first then last : Agreed) → Narrows first then → Narrows then last → Narrows first last

@@ -1,4 +1,4 @@
--- A pass that puts a member in the place of the candidate of its LEB, and then keeps one of both, goes on over it.
+-- A pass that makes a member the candidate of its LEB, and then keeps one of both, goes on over it.
 use Rattle.ubi_scan.proofs.Prelude.{◌≡◌, ℕ, [], ◌∷◌, ◌++◌, refl, ap, sym, ◌∙◌, subst, Option, Some, None, MatchOption, if◌then◌else◌, BTreeMap, EcRead, VidHeader, VidRead, beaten, candidate, takes_over, AreCounted, IsEntered, IsNominated, IsPassed, IsPutAside, IsTaken, Puts, Stamp, beaten_in, quiet_state, stamp_cmp, Leb, leb_of, member_if, header_of, leb_cmp, Candidate, Meeting, Counts, Pass}
 use Rattle.std.specs.Prelude.{Bool, true}
 use Rattle.std.specs.BTreeMap as tree

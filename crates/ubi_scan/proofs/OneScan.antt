@@ -1,4 +1,4 @@
--- What a scan finds is one value.
+-- A scan finds one value.
 use Rattle.ubi_scan.proofs.Prelude.{◌≡◌, ℕ, ◌<◌, Bool, List, ap, ap₂, arith, false, get_or, inl, inr, length, refl, subst, sym, true, ◌∙◌, ◌⊎◌, same_lists, same_Some, slice_get-get_or, then_some, FinMap, IfSome, IsSome, MatchOption, None, Option, Some, option_map, slice_get, Sizes, EcRead, VidHeader, VidRead, NoFault, block, ec, vid, IsMember, Leb, NoMember, Wins, foreign_if, has_members, leb_of, member_if, valid_ec, AreStates, AreWinners, Found, IsHeader, IsScan, StateIs, header_of, leb_cmp, MemberHeader, ScanState}
 use Rattle.std.specs.Prelude.{not}
 use Rattle.std.specs.FinMap as finite

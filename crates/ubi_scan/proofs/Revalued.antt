@@ -1,4 +1,4 @@
--- Entries by number with other values: their order stays, and so does what is found among them but for the value.
+-- Entries by number with other values: their order stays, and so does what is found among them, except the value.
 use Rattle.ubi_scan.proofs.Prelude.{◌≡◌, ℕ, ◌+◌, inl, inr, T, cond, List, [], ◌∷◌, refl, ap, sym, ◌∙◌, subst, Some, option_map, nat_cmp_total, FinMap, from_entries, is_sorted, nat_cmp-IsAntisymmetric, below_all, sum_by, is_lt, nat_cmp, exact_unsigned, ◌&&◌, map, fold, find}
 use Rattle.std.specs.FinMap as finite
 use Rattle.ubi_scan.proofs.Entries.{sorted_entries}

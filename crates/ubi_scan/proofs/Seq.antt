@@ -1,4 +1,4 @@
--- The image sequence number of eraseblocks: the one that all those name that name one.
+-- The image sequence number of eraseblocks: the one that all eraseblocks that name one name.
 use Rattle.ubi_scan.proofs.Prelude.{◌≡◌, ◌≢◌, ℕ, ◌<◌, ◌⊎◌, inl, inr, List, length, sym, ◌∙◌, cases_eq, Sizes, IsClean, block, image_seq, seq_of}
 use Rattle.ubi_scan.proofs.Clean.{seq_from, seq_some}
 

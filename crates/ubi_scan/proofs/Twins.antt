@@ -1,5 +1,5 @@
--- The fault of an eraseblock by all that is known, in two parts: as far as the candidate that it meets tells, and else by the
--- other members.
+-- The fault of an eraseblock by all that is known, in two parts: as far as the candidate that it meets shows, and
+-- otherwise by the other members.
 use Rattle.ubi_scan.proofs.Prelude.{◌≡◌, ℕ, Bool, true, false, cond, refl, ap, sym, ◌∙◌, Option, Some, None, if◌then◌else◌, option_and_then, option_map, BTreeMap, then_some, option_or, EcRead, VidHeader, VidRead, Stamp, ec_fault, fault_if, header_fault, held_in, is_incompatible, is_mislaid, stamp_cmp, stamp_of, twin_by, twin_held, twin_in, Leb, has_members, member_if, Candidate, ◌==◌}
 use Rattle.std.specs.BTreeMap as tree
 use Rattle.ubi_media.specs.declared.ec.EcRead.TheVariants as ec_read

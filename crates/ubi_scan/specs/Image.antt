@@ -19,7 +19,7 @@ pub record Image : Type 0 where
 abbrev pub image_of : Sizes → List ℕ → Image
 image_of s bytes = record { sizes = s; bytes = bytes }
 
--- of the bytes of a file, those that are judged: all, or the first ones up to one more than the device has
+-- the bytes of a file that are judged: all of them, or the first ones, up to one more than the device has
 abbrev pub judged : Sizes → List ℕ → List ℕ
 judged s bytes = take (s.pebs * s.peb_size + 1) bytes
 
@@ -39,7 +39,7 @@ IsLengthFault s n refusal.TooMany = s.pebs * s.peb_size < n
 IsLengthFault s n refusal.Length = (n ≤ s.pebs * s.peb_size) × ((n ≡ 0) ⊎ (n % s.peb_size ≢ 0))
 IsLengthFault s n _ = ⊥
 
--- and why these bytes are none
+-- why these bytes are no image
 abbrev pub IsSizeFault : Image → Refusal → Type 0
 IsSizeFault image c = IsLengthFault image.sizes (length image.bytes) c
 
@@ -47,7 +47,7 @@ IsSizeFault image c = IsLengthFault image.sizes (length image.bytes) c
 abbrev pub eraseblocks : Image → List (List ℕ)
 eraseblocks image = first_chunks image.sizes.peb_size (length image.bytes / image.sizes.peb_size) image.bytes
 
--- of an image, what is defined over sizes and a list of eraseblocks
+-- what is defined over sizes and a list of eraseblocks, for an image
 abbrev pub in_image {ℓ} : {A : Type ℓ} → (Sizes → List (List ℕ) → A) → Image → A
 in_image f image = f image.sizes (eraseblocks image)
 
@@ -59,19 +59,19 @@ block bs p = slice_index_or bs p []
 abbrev pub ec_area : List ℕ → List ℕ
 ec_area b = take 64 b
 
--- what that header is
+-- what the erase-counter header of an eraseblock is
 abbrev pub ec : Sizes → List ℕ → EcRead
 ec s b = ec_reading s (ec_area b)
 
--- the bytes of its volume-identifier header (VID)
+-- the bytes of an eraseblock's volume-identifier header (VID)
 abbrev pub vid_area : Sizes → List ℕ → List ℕ
 vid_area s b = slice_range b s.vid_offset (s.vid_offset + 64)
 
--- what that header is
+-- what the volume-identifier header of an eraseblock is
 abbrev pub vid : Sizes → List ℕ → VidRead
 vid s b = vid_reading s (vid_area s b)
 
--- the bytes of its logical eraseblock (LEB)
+-- the bytes of the logical eraseblock (LEB) in an eraseblock
 abbrev pub leb : Sizes → List ℕ → List ℕ
 leb s b = drop s.data_offset b
 

@@ -10,7 +10,7 @@ StandsAt all at bytes = bytes ≡ take (length bytes) (drop at all)
 abbrev pub AllStand : List (ℕ × List ℕ) → List ℕ → Type 0
 AllStand reads all = All (λ read. StandsAt all read.0 read.1) reads
 
--- a file has as many bytes as a source over it says, and the reads answered what stands in it
+-- a file is as long as a source over it says, and the reads answered what stands in it
 pub record IsSourceOf (all : List ℕ) (len : ℕ) (reads : List (ℕ × List ℕ)) : Type 0 where
   pub sized : length all ≡ len
   pub answered : AllStand reads all

@@ -1,4 +1,4 @@
--- What a file holds that is known is among what a source over it may hold.
+-- If it is known what a file holds, a source over it may hold just that among others.
 use Rattle.std.proofs.Common.{◌≡◌, ◌∙◌, ℕ, ◌+◌, ◌-◌, List, [], ◌∷◌, ap, arith, length, refl}
 use Rattle.std.proofs.lemmas.List.Elements.{All-head, All-tail}
 use Rattle.std.specs.Option.{ForSome}

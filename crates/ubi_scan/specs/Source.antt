@@ -11,7 +11,7 @@ pub record Source : Type 0 where
   pub failures : ℕ
   pub held : Option (List ℕ)
 
--- which bytes a source may hold, as far as its reads have told
+-- which bytes a source may hold, as far as its reads have shown
 abbrev pub Agreed : Type 1
 Agreed = List ℕ → Type 0
 
@@ -19,15 +19,15 @@ Agreed = List ℕ → Type 0
 abbrev pub WhereHeld : Agreed → (List ℕ → Type 0) → Type 0
 WhereHeld agrees fact = (bytes : List ℕ) → agrees bytes → fact bytes
 
--- what a source may hold now it could hold before
+-- what a source may hold now, it could hold before
 abbrev pub Narrows : Agreed → Agreed → Type 0
 Narrows old new = WhereHeld new old
 
--- of each source: the bytes that it may hold are as many as its size says
+-- for each source: the bytes that it may hold are as many as its size says
 pub record IsSource (k : Source) (agrees : Agreed) : Type 0 where
   pub sized : WhereHeld agrees (λ bytes. length bytes ≡ k.size)
 
--- of each source: the bytes that it is promised to hold are among those that it may hold
+-- for each source: the bytes that it is promised to hold are among those that it may hold
 abbrev pub MayHold : Source → Agreed → Type 0
 MayHold k agrees = IfSome k.held agrees
 
@@ -35,7 +35,7 @@ MayHold k agrees = IfSome k.held agrees
 abbrev pub failed : Source → Source
 failed k = record k { failures = min (k.failures + 1) (2 ^ 64 - 1) }
 
--- what is known after a read: what was known before, with one failure more where it failed
+-- what is known after a read: what was known before, with one more failure if it failed
 abbrev pub after_read : {E : Type 0} → Source → Result (Unit {0}) E → Source
 after_read k (Ok _) = k
 after_read k (Err _) = failed k
@@ -44,7 +44,7 @@ after_read k (Err _) = failed k
 abbrev pub Reads : Type 0
 Reads = List (ℕ × List ℕ)
 
--- a read of these bytes is noted where it was answered; one that failed tells nothing
+-- a read of these bytes is noted if it was answered; a failed one shows nothing
 abbrev pub noted : {E : Type 0} → Reads → ℕ → List ℕ → Result (Unit {0}) E → Reads
 noted reads at bytes (Ok _) = (at, bytes) ∷ reads
 noted reads at bytes (Err _) = reads
@@ -57,11 +57,11 @@ blocks_in s k = k.size / s.peb_size
 abbrev pub blocks_of : Sizes → List ℕ → List (List ℕ)
 blocks_of s bytes = eraseblocks (image_of s bytes)
 
--- a source over bytes in memory: no read fails, and it holds these
+-- a source over bytes in memory: no read fails, and it holds these bytes
 abbrev pub memory : List ℕ → Source
 memory bytes = record { size = length bytes; failures = 0; held = Some bytes }
 
--- a source over bytes in memory holds these
+-- a source over bytes in memory holds these and no others
 abbrev pub holds : List ℕ → Agreed
 holds bytes = λ held. held ≡ bytes
 
@@ -82,7 +82,7 @@ known_by size reads = λ bytes. (length bytes ≡ size) × AgreesWith reads byte
 abbrev pub AreKnownBy : ℕ → Reads → Agreed → Type 0
 AreKnownBy size reads agrees = (bytes : List ℕ) → agrees bytes ↔ known_by size reads bytes
 
--- memory promises its bytes
+-- a source over memory promises its bytes
 pub memory_owned : (bytes : List ℕ) → Some bytes ≡ None → AreKnownBy (length bytes) [] (holds bytes)
 memory_owned bytes none = absurd (none-some bytes (sym none))
 

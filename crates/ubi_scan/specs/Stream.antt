@@ -1,4 +1,4 @@
--- What a call answers that scans, over bytes or over a source.
+-- What a call that scans answers, over bytes or over a source.
 use Rattle.std.specs.Prelude.{ℕ, List, ◌≡◌, ◌/◌, ◌<◌, ◌⊎◌, length, Result, Ok, Err, IfSome}
 use Rattle.std.specs.FinMap.{get}
 use Rattle.ubi_media.specs.Geometry.{Sizes}
@@ -12,17 +12,17 @@ use Rattle.ubi_scan.specs.Source.{Agreed, Source, WhereHeld, blocks_in, blocks_o
 use Rattle.ubi_scan.specs.declared.errors.StreamError.{StreamError}
 use Rattle.ubi_scan.specs.declared.errors.StreamError.TheVariants as stream
 
--- an error: memory ran out, or that the eraseblocks are refused for their cause
+-- an error: memory ran out, or the eraseblocks are refused for their cause
 abbrev pub IsScanError : Sizes → List (List ℕ) → AttachError → Type 0
 IsScanError s bs attach.Memory = Unit {0}
 IsScanError s bs (attach.Refused c) = IsScanFault s bs c
 
--- what is known of a source after a call that failed: one read failed where the answer is Read, none where it isn't
+-- what is known of a source after a call that failed: one read failed if the answer is Read, and none if it isn't
 abbrev pub after_error : Source → StreamError → Source
 after_error k (stream.Read _ _) = failed k
 after_error k _ = k
 
--- and after any call
+-- what is known of a source after any call
 abbrev pub after : {A : Type 0} → Source → Result A StreamError → Source
 after k (Ok _) = k
 after k (Err e) = after_error k e
@@ -32,24 +32,24 @@ abbrev pub IsReadFault : ℕ → StreamError → Type 0
 IsReadFault n (stream.Read p written) = (p < n) × (written ≡ 0)
 IsReadFault n _ = ⊥
 
--- the eraseblock of a read that failed, which began at a place, is that in which the place lies
+-- a failed read, which began at a place, names the eraseblock in which the place lies
 abbrev pub NamesBlock : Sizes → ℕ → StreamError → Type 0
 NamesBlock s at (stream.Read p written) = p ≡ at / s.peb_size
 NamesBlock s at _ = Unit {0}
 
--- each eraseblock that a scan tells of is one of n
+-- each eraseblock that a scan names is one of n
 pub record LiesWithin (n : ℕ) (found : Found) : Type 0 where
   pub winners : (of : Leb) → IfSome (get found.winners of) (λ p. p < n)
   pub states : length found.states ≡ n
 
--- what a scan of a source finds: it lies in the source, and it is that of the eraseblocks of whatever the source may hold
+-- what a scan of a source finds: it lies in the source, and it is right for the eraseblocks of whatever the source may hold
 pub record IsScanOf (s : Sizes) (k : Source) (agrees : Agreed) (found : Found) : Type 0 where
   pub whole : IsWholeSize s k.size
   pub within : LiesWithin (blocks_in s k) found
   pub held : WhereHeld agrees (λ bytes. IsScan s (blocks_of s bytes) found)
 
--- why it fails: the source's size isn't that of an image; or it is, and its eraseblocks are refused for their fault, or a
--- read failed; or memory ran out
+-- why a scan of a source fails: the source's size isn't that of an image; or it is, and the eraseblocks are refused for
+-- their fault; or a read failed; or memory ran out
 abbrev pub IsScanOfError : Sizes → Source → Agreed → StreamError → Type 0
 IsScanOfError s k agrees (stream.Refused c) =
     IsLengthFault s k.size c ⊎ (IsWholeSize s k.size × WhereHeld agrees (λ bytes. IsScanFault s (blocks_of s bytes) c))

@@ -9,14 +9,14 @@ use std::error::Error;
 use std::fmt;
 use ubi_media::Refusal;
 
-/// Why a call over a source fails. A count of bytes is what the call wrote before, 0 where it has no writer.
+/// Why a call over a source fails. A count is how many bytes the call wrote before, 0 if it has no writer.
 #[derive(Clone, Copy, Debug, PartialEq, Eq)]
 pub enum StreamError {
     /// The image is refused.
     Refused(Refusal),
-    /// A read failed: the eraseblock, and the count of bytes.
+    /// A read failed: the eraseblock, and the count.
     Read(u32, u64),
-    /// A write failed: the count of bytes.
+    /// A write failed: the count.
     Write(u64),
     /// Memory ran out.
     Memory,

@@ -15,28 +15,28 @@ use std::fs::{Files, OpenFile};
 use std::io::Seek;
 use std::os::unix::fs::FileExt;
 
-/// A source over a file, of the size that the file had when it was opened. Of the bytes of a file of the system no more is
-/// known than what the reads answered: another program may write to it at any time.
+/// A source over a file, of the size that the file had when it was opened. All that is known of a file of the system is what
+/// the reads answered: another program may write to it at any time.
 ///
-/// Where small reads follow each other closely, 16 KiB are read at once, and the next reads are answered from these. Where that
-/// fails, what was asked for is read alone.
+/// If small reads follow each other closely, 16 KiB are read at once, and the next reads are answered from these. If that
+/// fails, only what was asked for is read.
 #[derive(Drop)]
 pub struct FileSource<F: PlacedFile = SystemFile> {
     file: F,
     len: u64,
     failures: u64,
-    /// Where the last read began that failed, 0 before one has.
+    /// Where the last failed read began, 0 if none has failed.
     failed_at: u64,
     trace: Trace,
     window: Window,
-    // Of a file whose bytes are known, the reads answered those.
+    // If the bytes of a file are known, the reads answered those.
     pub ghost told: { ForSome (F.bytes file) (λ all. IsSourceOf all len trace.reads) },
-    // So does what was read ahead.
+    // What was read ahead is from those bytes, too.
     ghost ahead: { ForSome (F.bytes file) (λ all. StandsAt all window.start (take window.filled window.bytes)) },
 }
 
-/// Fills `out` with the bytes of a file that begin at the place `at`, and tells whether it could. A read that failed
-/// isn't tried again.
+/// Fills `out` with the bytes of a file from the place `at` on, and says whether it could. A read that failed isn't
+/// tried again.
 fn fill<F: PlacedFile>(file: &F, at: u64, out: &mut [u8]) -> bool
     requires { at + length out.old < 2 ^ 64 }
     ensures { result ≡ true → ForSome (F.bytes file.now) (λ all. StandsAt all at out.new) }
@@ -51,7 +51,7 @@ fn fill<F: PlacedFile>(file: &F, at: u64, out: &mut [u8]) -> bool
     true
 }
 
-/// Fills `out` with the bytes of a file that begin at the place `at`, from what was read ahead where that has them, and tells
+/// Fills `out` with the bytes of a file from the place `at` on, out of what was read ahead if that has them, and says
 /// whether it could.
 fn read_by<F: PlacedFile>(window: &mut Window, file: &F, at: u64, out: &mut [u8]) -> bool
     requires place { at + length out.old < 2 ^ 64 }
@@ -89,7 +89,7 @@ impl<F: FileExt + OpenFile + Seek + Drop> FileSource<SystemFile<F>> {
     ///
     /// # Errors
     ///
-    /// The file can't be opened, it is a folder, or its size can't be found out.
+    /// The file can't be opened, it is a folder, or its size can't be found.
     pub fn open<R: Files<File = F>>(
         rt: &R,
         path: &str,

@@ -1,11 +1,11 @@
 //! The eraseblocks of an image: which of them are members of which logical eraseblock (LEB), which member each LEB
 //! reads, and the first fault that refuses the image.
 //!
-//! A scan goes once over the eraseblocks, by rising number. What it finds is exactly what its definitions say of all
-//! eraseblocks together; only a scan takes memory, and what it found is asked without.
+//! A scan goes once over the eraseblocks, in ascending order. It finds exactly what its definitions say of all
+//! eraseblocks together. Only a scan allocates memory; asking what it found doesn't.
 //!
-//! An image may lie in memory ([`Blocks`], [`scan`]) or behind any [`BlockSource`], which is read at places
-//! ([`scan_from`]): a scan of a file holds the bytes of one eraseblock at a time.
+//! An image may lie in memory ([`Blocks`], [`scan`]), or be read at places from any [`BlockSource`] ([`scan_from`]):
+//! a scan of a file holds the bytes of one eraseblock at a time.
 //!
 //! A caller, proved from the contracts alone (`crates/ubi_uses`):
 //!

@@ -12,10 +12,10 @@ use std::os::unix::fs::FileExt;
 
 /// A file that is read at places.
 pub trait PlacedFile {
-    // What it holds, where that is known: then nobody else writes to it.
+    // What it holds, if that is known: then nobody else writes to it.
     ghost bytes: { Self → Option (List ℕ) };
 
-    /// Reads bytes from the place `at` on to the beginning of `out`, and tells how many.
+    /// Reads bytes from the place `at` on to the beginning of `out`, and returns how many.
     ///
     /// # Errors
     ///
@@ -25,25 +25,25 @@ pub trait PlacedFile {
         ensures read { IfOk result (λ n. ForSome (bytes self.now) (λ all. StandsAt all at (take n out.new))) };
 }
 
-/// How many bytes a file has: its position is at its end then.
+/// The size of a file in bytes. Its position is at its end afterwards.
 ///
 /// # Errors
 ///
-/// It has no end, or it can't be told where that is.
+/// It has no end, or its end can't be found.
 pub fn file_len<F: Seek>(file: &mut F) -> io::Result<u64>
     ensures { IfSome (F.stream_position file.old) (λ _. IfSome (F.stream_bytes file.old) (λ all. IfOk result (λ len. len ≡ length all))) }
 {
     file.seek(SeekFrom::End(0))
 }
 
-/// A file of the system: other programs may write to it, so that nobody knows what it holds.
+/// A file of the system. Other programs may write to it, so nobody knows what it holds.
 #[derive(Drop)]
 pub struct SystemFile<F = File> {
     file: F,
 }
 
 impl<F> SystemFile<F> {
-    /// A file that is open.
+    /// An open file.
     pub fn new(file: F) -> SystemFile<F>
         ensures { result.file ≡ file }
     {

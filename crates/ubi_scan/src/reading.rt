@@ -13,7 +13,7 @@ use crate::header::member_of;
 use crate::source::BlockSource;
 use ubi_media::{EcRead, Geometry, VidHeader, VidRead, read_ec, read_vid};
 
-/// Fills `out` with the bytes of an eraseblock that begin at its byte `start`.
+/// Fills `out` with the bytes of an eraseblock from its byte `start` on.
 ///
 /// # Errors
 ///
@@ -73,7 +73,7 @@ pub fn read_headers<S: BlockSource>(
 }
 
 /// Reads the header by which an eraseblock is a member of a logical eraseblock, into a buffer of the size of an
-/// eraseblock. None where it is no member.
+/// eraseblock. `None` if it is no member.
 ///
 /// # Errors
 ///

@@ -23,7 +23,7 @@ use crate::source::{BlockSource, MemorySource};
 use std::alloc::Global;
 use ubi_media::{AttachError, EcRead, Geometry, Refusal, VidHeader, VidRead, crc};
 
-/// Whether the data that a header speaks of are in the logical eraseblock. They are read into the buffer.
+/// Whether the logical eraseblock holds the data that a header describes. They are read into the buffer.
 fn is_right<S: BlockSource>(
     source: &mut S,
     geometry: &Geometry,
@@ -47,7 +47,7 @@ fn is_right<S: BlockSource>(
     Ok(crc(data) == header.data_crc)
 }
 
-/// Whether an eraseblock with these headers is a good member: it is no copy, or its copied data are right.
+/// Whether an eraseblock with these headers is a good member: it isn't a copy, or its copied data are right.
 fn is_good<S: BlockSource>(
     source: &mut S,
     geometry: &Geometry,
@@ -72,7 +72,7 @@ fn is_good<S: BlockSource>(
     }
 }
 
-/// Whether a candidate is good. Where that isn't known yet, its eraseblock is asked.
+/// Whether a candidate is good. If that isn't known yet, its eraseblock is asked.
 fn is_held_good<S: BlockSource>(
     source: &mut S,
     geometry: &Geometry,
@@ -98,8 +98,8 @@ fn is_held_good<S: BlockSource>(
     }
 }
 
-/// The meeting of an eraseblock that has these headers with a candidate, None where it meets none. Only here copied
-/// data are checked.
+/// The meeting of an eraseblock that has these headers with a candidate, `None` if it meets none. Only here is the
+/// CRC of copied data checked.
 fn meeting<S: BlockSource>(
     source: &mut S,
     geometry: &Geometry,
@@ -167,14 +167,14 @@ fn scan_blocks<S: BlockSource>(
     Ok(Scan::of(pass))
 }
 
-/// Finds in a source which member wins each logical eraseblock, and what else a [`Scan`] tells. It reads the headers of
-/// the eraseblocks by rising number, and the data of a copy only where it meets another member.
+/// Finds in a source which member wins each logical eraseblock, and what else a [`Scan`] holds. It reads the headers of
+/// the eraseblocks in ascending order, and the data of a copy only if it meets another member.
 ///
 /// # Errors
 ///
-/// Refused with `TooMany` or `Length` where the source doesn't have the size of an image, before any read. Read where a read
-/// failed, with the count 0. Refused with the first fault of the lowest eraseblock that has one: `Ec`, `ImageSeq`,
-/// `Vid`, `Incompatible`, `Layout` or `SameSqnum`, tried in this order. Memory where it ran out.
+/// `Refused` with `TooMany` or `Length` if the source doesn't have the size of an image, before any read. `Read` if a read
+/// failed, with the count 0. `Refused` with the first fault of the lowest eraseblock that has one: `Ec`, `ImageSeq`, `Vid`,
+/// `Incompatible`, `Layout` or `SameSqnum`, tried in this order. `Memory` if memory ran out.
 pub fn scan_from<S: BlockSource>(
     alloc: Global,
     geometry: &Geometry,
@@ -192,12 +192,12 @@ pub fn scan_from<S: BlockSource>(
     scan_blocks(alloc, geometry, source, count, buffer.as_mut_slice())
 }
 
-/// Finds which member wins each logical eraseblock, and what else a [`Scan`] tells.
+/// Finds which member wins each logical eraseblock, and what else a [`Scan`] holds.
 ///
 /// # Errors
 ///
-/// Refused with the first fault of the lowest eraseblock that has one: `Ec`, `ImageSeq`, `Vid`, `Incompatible`,
-/// `Layout` or `SameSqnum`, tried in this order. Memory where it ran out.
+/// `Refused` with the first fault of the lowest eraseblock that has one: `Ec`, `ImageSeq`, `Vid`,
+/// `Incompatible`, `Layout` or `SameSqnum`, tried in this order. `Memory` if memory ran out.
 pub fn scan(alloc: Global, blocks: &Blocks<'_>) -> Result<Scan, AttachError>
     ensures found { IfOk result (in_image IsScan blocks.now) }
     ensures refused { IfErr result (in_image IsScanError blocks.now) }

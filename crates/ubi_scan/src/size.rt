@@ -9,7 +9,7 @@ use ubi_media::{Geometry, Refusal};
 ///
 /// # Errors
 ///
-/// `TooMany` where they are more than the device has, and else `Length` where there are none or they aren't whole
+/// `TooMany` if they are more than the device has. Otherwise `Length` if there are none, or if they aren't whole
 /// eraseblocks.
 pub fn block_count(geometry: &Geometry, len: u64) -> Result<u32, Refusal>
     ensures { MatchResult result (λ n. (n ≡ len / geometry.now.peb_size) × IsWholeSize geometry.now len) (IsLengthFault geometry.now len) }

@@ -26,21 +26,21 @@ pub trait BlockSource {
     // Its size, how many of its reads failed, and what it is promised to hold.
     ghost known: { Self → Source };
 
-    // The reads that it has answered, the last one first, where it promises no bytes.
+    // The reads that it has answered, the last one first, if it promises no bytes.
     ghost reads: { Self → Reads };
 
-    // Where the last of its reads began that failed.
+    // Where the last of its failed reads began.
     ghost failed_at: { Self → ℕ };
 
-    // Which bytes it may hold: those with which each read agrees that it has answered.
+    // Which bytes it may hold: those that agree with each read that it has answered.
     ghost agrees: { Self → Agreed };
 
     /// Its size in bytes. No read changes it.
     fn len(&self) -> u64
         ensures { result ≡ (known self.now).size };
 
-    /// Fills `out` with the bytes that begin at the place `at`. What the source may hold afterwards is what it could hold
-    /// before and agrees with what was read; a read that failed tells nothing.
+    /// Fills `out` with the bytes from the place `at` on. Afterwards the source may hold what it could hold before, as
+    /// far as that agrees with what was read. A read that failed shows nothing.
     ///
     /// # Errors
     ///
@@ -60,7 +60,7 @@ pub trait BlockSource {
     // The bytes that it is promised to hold are among those that it may hold.
     ghost promised: { (s : Self) → MayHold (known s) (agrees s) };
 
-    // Where it promises none it has no choice: it may hold whatever has its size and agrees with the reads.
+    // If it promises none, it has no choice: it may hold whatever has its size and agrees with the reads.
     ghost owned: { (s : Self) → (known s).held ≡ None → AreKnownBy (known s).size (reads s) (agrees s) };
 }
 

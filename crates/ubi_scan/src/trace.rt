@@ -5,11 +5,11 @@ ghost use Rattle.std.specs.Borrow.{ftrue};
 
 use std::marker::{Model, PhantomData};
 
-/// The reads that a source has answered, the last one first: the place of each, and the bytes that it answered. It takes
-/// no memory, and its methods do nothing at run time.
+/// The reads that a source has answered, the last one first: the place of each, and the bytes that it answered. It takes no
+/// memory, and its methods do nothing at run time.
 ///
-/// Only `new` and `note` are proved by hand (`proofs/trace`). No other proof by hand may speak of a trace: one that wrote
-/// reads into it that contradict each other would leave no bytes that the source may hold, and each clause about them empty.
+/// Only `new` and `note` are proved by hand (`proofs/trace`). No other proof by hand may speak of a trace. If one wrote
+/// reads into it that contradict each other, the source could hold no bytes, and each clause about them would be empty.
 #[derive(Drop)]
 pub struct Trace {
     marker: PhantomData<u8>,

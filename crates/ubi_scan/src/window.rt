@@ -7,28 +7,27 @@ ghost use Rattle.ubi_scan.specs.Placed.{StandsAt};
 
 use crate::placed::PlacedFile;
 
-/// The bytes that are read ahead at once.
+/// How many bytes are read ahead at once.
 const SIZE: usize = 16_384;
 
-/// The greatest gap between two reads that are taken for one after the other.
+/// The greatest gap between two reads that count as following each other.
 const GAP: u64 = 4096;
 
-/// Bytes of a file from some place on. Where small reads follow each other closely, as those of the headers of small
-/// eraseblocks do, the next ones are answered from it; a read that goes back is none of them, so that no place is answered twice
-/// from it.
+/// Bytes of a file from some place on. If small reads follow each other closely, as those of the headers of small eraseblocks
+/// do, the next ones are answered from it. A read that goes back isn't, so no place is answered twice from it.
 #[derive(Drop)]
 pub struct Window {
     bytes: [u8; SIZE],
-    /// The place of the first of them.
+    /// The place of the first of the bytes.
     start: u64,
-    /// How many there are.
+    /// How many bytes there are.
     filled: usize,
-    /// Where the last of the reads ended that didn't go back.
+    /// Where the last read that didn't go back ended.
     next: u64,
 }
 
 impl Window {
-    /// None yet.
+    /// No bytes yet.
     pub fn new() -> Window
         ensures { result.filled ≡ 0 }
     {
@@ -40,7 +39,7 @@ impl Window {
         }
     }
 
-    /// Fills `out` with the bytes that begin at the place `at`, where all of them were read ahead, and tells whether it could.
+    /// Fills `out` with the bytes from the place `at` on, if all of them were read ahead, and says whether it could.
     fn answer(&self, at: u64, out: &mut [u8]) -> bool
         ensures { result ≡ true → HoldsAt self.now at out.new }
     {
@@ -55,7 +54,7 @@ impl Window {
         true
     }
 
-    /// Reads ahead from the place `at` on, and tells whether it could.
+    /// Reads ahead from the place `at` on, and says whether it could.
     fn fill<F: PlacedFile>(&mut self, file: &F, at: u64) -> bool
         ensures start { result ≡ true → self.new.start ≡ at }
         ensures told { ForSome (F.bytes file.now) (λ all. StandsAt all self.new.start (take self.new.filled self.new.bytes)) }
@@ -78,8 +77,8 @@ impl Window {
         len as u64 <= GAP && at >= self.next && at - self.next < GAP
     }
 
-    /// Fills `out` with the bytes of a file that begin at the place `at`, where they follow the last read and were read ahead, or
-    /// are read ahead now, and tells whether it could.
+    /// Fills `out` with the bytes of a file from the place `at` on, if they follow the last read and were read ahead, or are read
+    /// ahead now. It says whether it could.
     pub fn give<F: PlacedFile>(&mut self, file: &F, at: u64, out: &mut [u8]) -> bool
         requires { ForSome (F.bytes file.now) (λ all. StandsAt all self.old.start (take self.old.filled self.old.bytes)) }
         ensures held { result ≡ true → HoldsAt self.new at out.new }
@@ -92,7 +91,7 @@ impl Window {
         self.answer(at, out) || self.fill(file, at) && self.answer(at, out)
     }
 
-    /// Takes note of where a read began and ended.
+    /// Notes where a read began and ended.
     pub fn passed(&mut self, at: u64, end: u64)
         ensures bytes { self.new.bytes ≡ self.old.bytes }
         ensures start { self.new.start ≡ self.old.start }

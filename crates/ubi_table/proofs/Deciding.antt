@@ -1,4 +1,4 @@
--- Which copy decides, where those before it can't.
+-- Which copy decides, if those before it can't.
 use Rattle.ubi_table.proofs.Prelude.{◌≡◌, ℕ, ◌+◌, ◌<◌, inl, inr, true, List, refl, ap, sym, ◌∙◌, subst, arith, MatchOption, None, Some, cases_order, Sizes, Refusal, NoMember, Wins, layout, Found, IsScan, IsCopyFault, IsCopyTable, Records, CopyIs, Decides, IsTable, IsTableFault, can_decide, CopyRead}
 use Rattle.std.specs.FinMap as finite
 use Rattle.ubi_media.specs.declared.refusal.Refusal.TheVariants as refusal

@@ -1,6 +1,6 @@
 -- A copy of the table that is good with some page is good with a page of which that one is a multiple, with the same
 -- records, and a corrupt one is corrupt: all that a greater page can do to a copy is to put it at fault. A copy at
--- fault decides, and then there is no table; so where there is one, the same copy decides with both pages.
+-- fault decides, and then there is no table; so if there is one, the same copy decides with both pages.
 use Rattle.ubi_table.proofs.Prelude.{◌≡◌, ℕ, ◌+◌, ◌⊎◌, inl, inr, Bool, false, true≢false, cond, List, [], ◌∷◌, map, refl, ap, sym, ◌∙◌, subst, ◌∣◌, from_entries, enumerate_from, Option, Some, None, find, ec_reading, Sizes, with_page, rec_reading, RecFault, RecRead, found_passes, reading_kept, block, leb, slots_in, Wins, layout, no_member_of_page, wins_of_page, HasSpace, Records, entries_of, is_faulty, readings, records_in, twice, CopyIs, Decides, IsTable, IsTableFault, can_decide, copy_by, copy_of, named_copy, CopyRead}
 use Rattle.ubi_media.specs.Ec.{breaks as ec_breaks, first_fault as first_ec_fault, judged as judged_ec}
 use Rattle.ubi_media.specs.declared.record.RecFault.TheVariants as fault

@@ -1,4 +1,4 @@
--- The table of no volume: each device has the eraseblocks that it reserves.
+-- The table of no volume: each device has the eraseblocks that this table reserves.
 use Rattle.ubi_table.proofs.Prelude.{◌≡◌, ℕ, T, List, [], ◌∷◌, refl, ap, sym, ◌∙◌, arith, None, is_sorted, sum_by, nat_cmp, IsGeometry, Sizes, VolumeRecord, find_at, HasSpace, no_records}
 use Rattle.std.specs.Prelude.{map}
 use Rattle.std.specs.Cmp.{nat_cmp_total}

@@ -1,4 +1,4 @@
--- What a table keeps of its records, and how they are stored.
+-- What holds for the records that a table keeps, and how they are stored.
 use Rattle.std.specs.Prelude.{◌≡◌, ℕ, ◌<◌, IsTrue, List, All, None, refl}
 use Rattle.std.specs.Coded.{Coded, code_by, coded×, coded_ℕ}
 use Rattle.std.specs.FinMap.{is_sorted, FinMap, code}
@@ -9,8 +9,8 @@ use Rattle.ubi_media.specs.declared.record.VolumeRecord.{VolumeRecord}
 use Rattle.ubi_media.specs.contracts.record.VolumeRecord as record_type
 use Rattle.ubi_table.specs.Records.{twice, Records}
 
--- what a table keeps of its records: they stand by rising number, below that of the slots, and break no rule, and no
--- name comes again
+-- what holds for the records that a table keeps: their numbers ascend and are below that of the slots, they break no
+-- rule, and no name comes twice
 pub record AreKept (s : Sizes) (es : List (ℕ × VolumeRecord)) : Type 0 where
   pub sorted : IsTrue (is_sorted nat_cmp es)
   pub slot : All (λ e. e.0 < slots s) es
@@ -25,7 +25,7 @@ sizes_code =
     (λ p. record { peb_size = p.0; page = p.1.0; vid_offset = p.1.1.0; data_offset = p.1.1.1.0; pebs = p.1.1.1.1 })
     (λ _. refl)
 
--- and records with their sizes
+-- records are stored with their sizes
 abbrev pub records_code : Coded Records
 records_code =
     code_by (Sizes × FinMap nat_cmp VolumeRecord) (coded× sizes_code (code coded_ℕ record_type.the_row.coded))

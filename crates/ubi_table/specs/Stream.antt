@@ -1,4 +1,4 @@
--- Why a table can't be had, and the table of a source.
+-- Why there is no table, and the table of a source.
 use Rattle.std.specs.Prelude.{ℕ, List, ◌≡◌}
 use Rattle.ubi_media.specs.Geometry.{Sizes}
 use Rattle.ubi_media.specs.declared.refusal.AttachError.{AttachError}
@@ -17,15 +17,15 @@ abbrev pub IsTableError : Sizes → List (List ℕ) → AttachError → Type 0
 IsTableError s bs attach.Memory = Unit {0}
 IsTableError s bs (attach.Refused c) = IsTableFault s bs c
 
--- the table of a source: it has these sizes, its volumes fit the device, and it is that of the eraseblocks of whatever the
--- source may hold
+-- the table of a source: it has these sizes, its volumes fit the device, and it is right for the eraseblocks of whatever
+-- the source may hold
 pub record IsTableOf (s : Sizes) (agrees : Agreed) (t : Records) : Type 0 where
   pub sizes : t.sizes ≡ s
   pub space : HasSpace s t
   pub held : WhereHeld agrees (λ bytes. IsTable s (blocks_of s bytes) t)
 
--- why it has none: the eraseblocks of whatever the source may hold have none for this cause; or a read failed, or memory
--- ran out
+-- why a source has no table: the eraseblocks of whatever the source may hold have none for this cause; or a read failed;
+-- or memory ran out
 abbrev pub IsTableOfError : Sizes → Source → Agreed → StreamError → Type 0
 IsTableOfError s k agrees (stream.Refused c) = WhereHeld agrees (λ bytes. IsTableFault s (blocks_of s bytes) c)
 IsTableOfError s k agrees (stream.Read p written) = IsReadFault (blocks_in s k) (stream.Read p written)

@@ -33,12 +33,12 @@ fn is_erased(count: u32, scan: &Scan) -> bool
     true
 }
 
-/// The table that a copy decides on. None where it can't decide, since it is absent or corrupt.
+/// The table that a copy decides on. `None` if it can't decide, since it is absent or corrupt.
 ///
 /// # Errors
 ///
-/// Refused with `Record`, `SameName` or `NoSpace`, where it decides against a table. Read where the read of the copy
-/// failed. Memory where it ran out.
+/// `Refused` with `Record`, `SameName` or `NoSpace`, if it decides against a table. `Read` if the read of the copy
+/// failed. `Memory` if memory ran out.
 fn decided<S: BlockSource>(
     alloc: Global,
     geometry: &Geometry,
@@ -73,12 +73,12 @@ fn decided<S: BlockSource>(
     }
 }
 
-/// The table of the first copy that decides, where the layout volume has a winner. The buffer has the size of a logical
+/// The table of the first copy that decides, if the layout volume has a winner. The buffer has the size of a logical
 /// eraseblock.
 ///
 /// # Errors
 ///
-/// Those of [`choose_from`], but for `NoTable`.
+/// Those of [`choose_from`], except `NoTable`.
 fn first_decided<S: BlockSource>(
     alloc: Global,
     geometry: &Geometry,
@@ -104,15 +104,15 @@ fn first_decided<S: BlockSource>(
     Err(Refusal::BothCorrupt.into())
 }
 
-/// Finds the volume table of a source that was scanned: none but empty slots where no eraseblock is in use, else that
-/// of copy 0, or of copy 1 where copy 0 is absent or corrupt.
+/// Finds the volume table of a source that was scanned. If no eraseblock is in use, all its slots are empty.
+/// Otherwise it is that of copy 0, or of copy 1 if copy 0 is absent or corrupt.
 ///
 /// # Errors
 ///
-/// Refused with `NoTable` where some eraseblock is in use and none holds a copy, with `BothCorrupt` where neither copy
-/// can decide, and else by the copy that decides: with `Record` for its first record at fault, with `SameName` for the
-/// first name that comes again, with `NoSpace` where the volumes reserve more eraseblocks than the device has. Read
-/// where a read failed, with the count 0. Memory where it ran out.
+/// `Refused` with `NoTable` if some eraseblock is in use and none holds a copy, and with `BothCorrupt` if neither copy
+/// can decide. Otherwise the copy that decides is refused: with `Record` for its first record at fault, with
+/// `SameName` for the first name that comes again, or with `NoSpace` if the volumes reserve more eraseblocks than the
+/// device has. `Read` if a read failed, with the count 0. `Memory` if memory ran out.
 pub fn choose_from<S: BlockSource>(
     alloc: Global,
     geometry: &Geometry,
@@ -139,12 +139,12 @@ pub fn choose_from<S: BlockSource>(
     first_decided(alloc, geometry, source, scan, buffer.as_mut_slice())
 }
 
-/// Finds the volume table of an image that was scanned: none but empty slots where no eraseblock is in use, else that
-/// of copy 0, or of copy 1 where copy 0 is absent or corrupt.
+/// Finds the volume table of an image that was scanned. If no eraseblock is in use, all its slots are empty.
+/// Otherwise it is that of copy 0, or of copy 1 if copy 0 is absent or corrupt.
 ///
 /// # Errors
 ///
-/// Refused as by [`choose_from`]. Memory where it ran out.
+/// `Refused` as by [`choose_from`]. `Memory` if memory ran out.
 pub fn choose(alloc: Global, blocks: &Blocks<'_>, scan: &Scan) -> Result<Table, AttachError>
     requires { in_image IsScan blocks.now scan.now }
     ensures table { IfOk result (in_image IsTable blocks.now) }

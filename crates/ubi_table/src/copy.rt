@@ -20,17 +20,17 @@ use ubi_scan::{BlockSource, Blocks, Scan, StreamError, read_leb};
 pub enum CopyRead {
     /// No eraseblock holds it.
     Absent,
-    /// Its first record at fault has a wrong check.
+    /// Its first record at fault has a wrong CRC.
     Corrupt,
-    /// Its first record at fault has the right check: the slot, and the fault.
+    /// Its first record at fault has the right CRC: the slot, and the fault.
     Faulty(u32, RecFault),
     /// No record is at fault, but a name comes again: the first slot whose name does, and the next that has it.
     Twice(u32, u32),
-    /// Its table, where none of this stands.
+    /// Its table, if none of this applies.
     Good(Table),
 }
 
-/// The slots of the first record whose name comes again and of the next that has it.
+/// The slot of the first record whose name comes again, and that of the next that has it.
 fn twice(records: &[(u32, VolumeRecord)]) -> Option<(u32, u32)>
     ensures { result ≡ twice records.now }
 {
@@ -43,7 +43,7 @@ fn twice(records: &[(u32, VolumeRecord)]) -> Option<(u32, u32)>
     None
 }
 
-/// What the bytes of a logical eraseblock are as a copy of the volume table. Never absent.
+/// What the bytes of a logical eraseblock are as a copy of the volume table. Never `Absent`.
 pub fn copy_in(alloc: Global, geometry: &Geometry, leb: &[u8]) -> Result<CopyRead, AllocError>
     requires { length leb.now ≡ leb_size geometry.now }
     ensures { IfOk result (λ what. what ≡ copy_of geometry.now leb.now) }
@@ -69,7 +69,7 @@ pub fn copy_in(alloc: Global, geometry: &Geometry, leb: &[u8]) -> Result<CopyRea
 ///
 /// # Errors
 ///
-/// Read where the read failed. Memory where it ran out.
+/// `Read` if the read failed. `Memory` if memory ran out.
 pub fn read_copy_from<S: BlockSource>(
     alloc: Global,
     geometry: &Geometry,

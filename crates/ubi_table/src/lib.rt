@@ -1,9 +1,9 @@
 //! The volume table of an image: what each of its two copies is, which one decides, and the records of its volumes.
 //!
-//! A table is chosen from what a scan found, or refused with the first cause that stands: from an image in memory
-//! ([`choose`]), or from any source that was scanned ([`choose_from`]). What one copy is, whether or not it decides, is
-//! asked too ([`read_copy`]). What a table says of volumes is asked without taking memory; its bytes read back as it, and a
-//! volume of it may get another name ([`Table::renamed`]).
+//! A table is chosen from what a scan found, or refused with the first cause that applies: from an image in memory
+//! ([`choose`]), or from any source that was scanned ([`choose_from`]). [`read_copy`] says what one copy is, whether or not
+//! it decides. Asking a table about volumes allocates no memory. The bytes of a table read back as that table, and
+//! [`Table::renamed`] gives a volume another name.
 //!
 //! A caller, proved from the contracts alone (`crates/ubi_uses`):
 //!

@@ -9,7 +9,7 @@ use crate::table::Table;
 use std::alloc::{AllocError, Global};
 use ubi_media::{VolName, VolumeRecord};
 
-/// An entry of a table with another name, if it is that of the volume.
+/// An entry of a table, with another name if it is that of the volume.
 fn entry_named(entry: &(u32, VolumeRecord), id: u32, name: &VolName) -> (u32, VolumeRecord)
     ensures { result ≡ entry_named id name.now entry.now }
 {
@@ -38,7 +38,7 @@ impl Table {
         requires free { IsFreeName self.now id name.now }
         ensures { IfOk result (λ t. t ≡ records_named self.now id name.now) }
     {
-        // The new name is one, so the records break no rule.
+        // The new name is a name, so the records break no rule.
         prove!(!name.as_bytes().is_empty());
         let mut records = Vec::new(alloc);
         for entry in self.entries() {

@@ -1,7 +1,7 @@
 //! The tests of the libraries: what no contract says, or what bytes from outside say again.
 //!
-//! They stand in a crate above all libraries, by layers, so that a library is proved once and not a second time with its
-//! tests, and so that a layer's tests can name what the layers below it are tested with. They use public calls alone.
+//! They stand in a crate above all libraries, so a library is proved once and not a second time with its tests. They are
+//! ordered by layers, so a layer's tests can name what the layers below it are tested with. They use public calls alone.
 
 #![tactic(auto)]
 

@@ -1,6 +1,6 @@
-//! The command `ubi_tool`: it reads its words and files, runs one command and prints what that answers.
+//! The command `ubi_tool`: it reads its words and files, runs one command and prints the answer.
 //!
-//! It only reaches the terminal. The command itself is `ubi_commands::run_words`, over files.
+//! This crate only reaches the terminal. The command itself is `ubi_commands::run_words`, over files.
 #![tactic(auto)]
 
 ghost use Rattle.std.specs.IoError.{error_kind};
@@ -38,7 +38,7 @@ fn words_of<R: Env + AllocGlobal>(rt: &R) -> io::Result<Vec<String>> {
     Ok(words)
 }
 
-/// The status to end with where the words can't be had: memory ran out, which is printed, or they aren't text.
+/// The exit status if the words can't be read: memory ran out, which is printed, or they aren't text.
 fn unread_words<R: Eprint, W: Write>(rt: &R, writer: &mut W, error: &io::Error) -> u8
     ensures memory { error_kind error.now ≡ ErrorKind.OutOfMemory → result ≡ 1 }
     ensures told { error_kind error.now ≡ ErrorKind.OutOfMemory → IsReported (W.contents writer.old) (W.contents writer.new) (Err alloc_error) result }

@@ -1,4 +1,4 @@
--- The meaning of volumes that have no cause against them.
+-- The meaning of volumes with no cause against them.
 use Rattle.ubi_volume.proofs.Prelude.{◌≡◌, ◌≢◌, ℕ, zero, suc, ◌+◌, ◌^◌, ◌<◌, ◌≤◌, ◌⊎◌, inl, inr, Bool, true, false, cond, not, T, List, [], ◌∷◌, length, map, get_or, refl, ap, sym, ◌∙◌, subst, arith, unwrap_or, IfSome, IsTrue, None, Option, Some, fold, option_map, slice_get, eq_by_cmp_equiv, nat_cmp_total, tied_itself, find, from_entries, is_sorted, nat_cmp-IsAntisymmetric, below_all, AllByRecursion, IsDistinct, list_all, IsNonDecreasingBy, keys_of, values_of, eq_by_cmp, is_eq, is_lt, nat_cmp, nat_tests, Contains-permutation, IsPermutation-map, IsPermutation-sym, sum_by_values_permutation, IsDistinct-IsPermutation, IsDistinct-from_apart, IsDistinct-head, IsDistinct-tail, exact_unsigned, get_or_from_slice_get, slice_get-get_or, slice_get-map, slice_get_within, same_Some, cases_order, blank, is_blank, Sizes, slots, rec_fault, usable, RecFault, VolumeRecord, VolKind, within_or_past, sorted_entries, place_of, told, both_are, true_is, leb_fits, IsItem, Items, NoCause, item_without_blank, without_blank, Fits, HasDistinctNames, IsVolume, KeepsNoBlank, AreVolumes, Content, Volume}
 use Rattle.std.specs.Prelude.{◌*◌, IsPermutation, sum_by}
 use Rattle.std.specs.FinMap as finite

@@ -1,4 +1,4 @@
--- What is gathered of a dynamic volume.
+-- What is gathered for a dynamic volume.
 use Rattle.ubi_volume.proofs.Prelude.{◌≡◌, ◌≢◌, ℕ, ◌+◌, ◌<◌, inl, inr, false, cond, List, length, refl, ap, sym, ◌∙◌, subst, arith, IfSome, Option, Some, None, nat_cmp_total, FinMap, nat_cmp, cases_eq, blank, Sizes, usable, VolumeRecord, below_or_last, apart_test, same_test, AreGathered, AreTexts, ContentIs, LebReads, leb_text}
 use Rattle.std.specs.FinMap as finite
 use Rattle.ubi_media.specs.declared.vid.VolKind.TheVariants as kind

@@ -1,4 +1,4 @@
--- What is extracted of a volume by the places of its LEBs.
+-- What is extracted from a volume by the places of its LEBs.
 use Rattle.ubi_volume.proofs.Prelude.{◌≡◌, ℕ, zero, suc, ◌+◌, ◌-◌, ◌*◌, ◌<◌, ◌≤◌, inl, inr, false, List, ◌++◌, length, take, refl, ap, sym, ◌∙◌, subst, arith, zero-add, Err, None, Ok, Option, Result, Some, MatchOption, flat_map, slice_index, unwrap_or, FinMap, range_with_len, option_map_or, nat_cmp, result_map_both, flat_map-append, mul-le, IfSome_then, blank, Sizes, rec_fault, usable, VolumeRecord, usable_some, Image, block, image_of, leb, NoMember, Wins, Agreed, Source, blocks_of, StreamError, Wins-unique, Records, table_records, pieces_more, extent_in, extent_len, extent_of, leb_bytes, read_text, share_len, leb_at, lebs_at, lebs_bytes, SlotMeans, AreWhole, LebReads, StaticReads, VolumeReads, piece, Fits, pieces, share, ArePlaces, Placed, case_of, leb_text, lebs_text, volume_len, volume_read, All, IsWroteError, Wrote, Content, Volume, ReadError, Extent, PlaceContent}
 use Rattle.std.specs.FinMap as finite
 use Rattle.ubi_media.specs.declared.vid.VolKind.TheVariants as kind

@@ -1,4 +1,4 @@
--- What a file means, or why it is refused, is told by its first bytes up to one more than the device has.
+-- The first bytes of a file, up to one more than the device has, decide what it means, or why it is refused.
 use Rattle.ubi_volume.proofs.Prelude.{◌≡◌, ℕ, ◌+◌, ◌*◌, ◌<◌, inl, inr, List, length, sym, subst, arith, take_all, Sizes, Refusal, within_or_past, Image, judged, Accepts, Refuses, JudgedAlone, Meant}
 use Rattle.std.proofs.lemmas.List.{length-take-le}
 use Rattle.ubi_media.specs.declared.refusal.Refusal.TheVariants as refusal

@@ -1,5 +1,5 @@
--- What is known of all that a source may hold is known of what is left of it: its places, what its volumes read, and what
--- a writer received of it.
+-- What is known for all that a source may hold is known for what is left of it: its places, what its volumes read, and
+-- what a writer received of it.
 use Rattle.ubi_volume.proofs.Prelude.{ℕ, List, Option, Sizes, VolumeRecord, scan_narrowed, source_narrowed, Found, Agreed, Narrows, Source, StreamError, table_narrowed, Records, Volume, AreContents, IsContentOf, AreChecked, ArePlacesOf, Placed, IsWroteError, Wanted, Wrote}
 use Rattle.ubi_scan.specs.declared.errors.StreamError.TheVariants as stream
 

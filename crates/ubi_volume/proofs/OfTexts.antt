@@ -1,4 +1,4 @@
--- What a text that was read piece by piece says of the volume of a surveyed image.
+-- What contents that were read piece by piece say about the volume of a surveyed image.
 use Rattle.ubi_volume.proofs.Prelude.{◌≡◌, ◌∙◌, ◌<◌, ℕ, List, false, refl, sym, length, None, Some, Sizes, rec_fault, usable, VolumeRecord, usable_some, image_of, blocks_of, leb_bytes, share_len, pieces, case_of, Volume, IsSurvey, Seen, TextLebs, SizeIsRead}
 use Rattle.std.specs.FinMap as finite
 use Rattle.ubi_media.specs.declared.vid.VolKind.TheVariants as kind

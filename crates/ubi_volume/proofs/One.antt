@@ -1,4 +1,4 @@
--- An image has one meaning at most, and isn't refused where it has one.
+-- An image has at most one meaning, and isn't refused if it has one.
 use Rattle.ubi_volume.proofs.Prelude.{◌≡◌, ◌≢◌, ℕ, ◌<◌, ◌≤◌, inl, inr, List, length, take, refl, ap, sym, ◌∙◌, subst, arith, Option, Some, None, IfSome, unwrap_or, slice_index, flat_map, nat_cmp_total, nat_cmp-IsAntisymmetric, same_number_lists, cases_order, cases_lt, blank, Sizes, usable, VolumeRecord, Refusal, Image, IsWhole, IsSizeFault, eraseblocks, block, leb, NoMember, NoFault, Wins-unique, Records, table_unique, never_table_and_fault, AcceptsBlocks, RefusesBlocks, Accepts, Refuses, NoMismatch, IsVolumeFault, SlotMeans, Means, LebReads, AreWhole, StaticReads, VolumeReads, piece, Meant, Fits, KeepsNoBlank, IsVolume, Content, Volume}
 use Rattle.std.specs.FinMap as finite
 use Rattle.ubi_media.specs.declared.refusal.Refusal.TheVariants as refusal

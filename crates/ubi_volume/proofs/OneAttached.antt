@@ -1,4 +1,4 @@
--- What attaching an image gives is one value.
+-- Attaching an image gives one value.
 use Rattle.ubi_volume.proofs.Prelude.{◌≡◌, ℕ, ◌<◌, List, ap, arith, refl, subst, sym, ◌∙◌, Sizes, Image, block, ec, eraseblocks, vid, Leb, Wins, layout, Found, blank_sort, corrupt_sort, dropped_sort, each_alike, free_sort, garbage_sort, one_leb, one_scan, sort_at, sort_of_member, Records, AreStates, IsAttached, IsOutside, StateIs, Whole, Meant, records_of, BlockState}
 use Rattle.ubi_volume.specs.declared.attached.BlockState.TheVariants as state
 use Rattle.ubi_volume.proofs.One.{Accepts-unique}

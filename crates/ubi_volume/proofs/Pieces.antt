@@ -1,4 +1,4 @@
--- The pieces of a static text.
+-- The pieces of a static volume's contents.
 use Rattle.ubi_volume.proofs.Prelude.{◌≡◌, ℕ, suc, ◌+◌, ◌-◌, ◌*◌, ◌%◌, ◌<◌, ◌≤◌, List, [], ◌∷◌, ◌++◌, length, take, drop, sym, ap, ◌∙◌, arith, length-append, length-take, length-drop, flat_map, slice_index, div-add-mod, mod-lt, take-add, take_all, div_below, mul-le, pieces, share}
 use Rattle.std.proofs.Common.{min}
 

@@ -1,4 +1,4 @@
--- The records of a meaning are those of the table that it was made of.
+-- The records of a meaning are those of the table that it was made from.
 use Rattle.ubi_volume.proofs.Prelude.{◌≡◌, ℕ, ◌+◌, List, refl, ap, sym, ◌∙◌, Option, Some, None, option_map, sum_by, Sizes, VolumeRecord, get_revalued, revalued_is, sum_revalued, Records, space, IsTable, Means, SlotMeans, Meant, records_of, Volume, table_records}
 use Rattle.std.specs.FinMap as finite
 use Rattle.ubi_volume.proofs.Gathered.{record_at}

@@ -1,4 +1,4 @@
--- The shares of a static text stand at the places of its LEBs.
+-- The shares of a static volume's contents stand at the places of its LEBs.
 use Rattle.ubi_volume.proofs.Prelude.{◌≡◌, ℕ, zero, suc, ◌+◌, ◌*◌, ◌<◌, ◌≤◌, false, List, [], ◌∷◌, ◌++◌, length, take, drop, refl, ap, sym, ◌∙◌, subst, arith, append-nil, Some, flat_map, slice_index, drop-append-add, take-append_seam, take_all, check, Sizes, usable, VolumeRecord, VidHeader, NoFault, block, leb, Wins, member, Wins-unique, Records, NoMismatch, AreWhole, IsPiece, piece, share}
 use Rattle.std.specs.FinMap as finite
 use Rattle.std.proofs.lemmas.Bool.{eqb-true}

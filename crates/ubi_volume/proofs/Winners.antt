@@ -1,4 +1,4 @@
--- What a scan's answers say of members and winners.
+-- What a scan's answers say about members and winners.
 use Rattle.ubi_volume.proofs.Prelude.{◌≡◌, ℕ, ◌≤◌, Bool, true, false, not, inl, inr, List, refl, ap, sym, ◌∙◌, subst, IfSome, IsSome, MatchOption, Option, Some, None, is_some, option_and_then, option_map, slice_get, then_some, same_Some, Sizes, EcRead, VidHeader, VidRead, block, ec, vid, IsMember, Leb, NoMember, Wins, has_members, header, leb_of, member, member_if, Found, IsNextWinner, IsScan, ScanState, WinnerHeaderIs, header_in}
 use Rattle.std.specs.FinMap as finite
 use Rattle.ubi_media.specs.declared.ec.EcRead.TheVariants as ec_read

@@ -1,4 +1,4 @@
--- What is left of LEBs where those that are 0xFF throughout are dropped.
+-- What is left of LEBs if those that are 0xFF throughout are dropped.
 use Rattle.ubi_volume.proofs.Prelude.{◌≡◌, ℕ, Bool, cond, not, List, [], ◌++◌, ◌+◌, ◌<◌, length, filter, get_or, set, take, drop, map, refl, ap, sym, ◌∙◌, None, Option, Some, unwrap_or, BTreeMap, eq_by_cmp_equiv, nat_cmp_total, FinMap, nat_cmp-IsAntisymmetric, keys_of, lookup, eq_by_cmp, nat_cmp, map_over_more, lookup-filter-values, option_filter, IsDistinct-from_sorted, is_blank, get_tree, Items, item_without_blank, lebs_without_blank, without_blank, Content, Volume}
 use Rattle.std.specs.BTreeMap as tree
 use Rattle.std.specs.FinMap as finite

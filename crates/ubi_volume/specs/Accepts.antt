@@ -18,7 +18,7 @@ use Rattle.ubi_table.specs.Table.{IsTable, IsTableFault}
 use Rattle.ubi_volume.specs.Means.{Means}
 use Rattle.ubi_volume.specs.Meant.{Meant}
 
--- a LEB is within a volume: every one of a static volume is
+-- a LEB is within a volume; each LEB of a static volume is
 abbrev pub IsWithin : VolumeRecord → ℕ → Type 0
 IsWithin r lnum = r.kind ≡ kind.Dynamic → lnum < r.reserved
 
@@ -40,16 +40,16 @@ IsMismatched s bs t p =
     (r : VolumeRecord) × (h : VidHeader) × IsCounted s bs t r p × (r.marker ≡ false)
     × (member s (block bs p) ≡ Some h) × IsUnlike s r h
 
--- no eraseblock is
+-- no eraseblock is mismatched
 abbrev pub NoMismatch : Sizes → List (List ℕ) → Records → Type 0
 NoMismatch s bs t = (p : ℕ) → IsMismatched s bs t p → ⊥
 
--- the refusal for it names the least such eraseblock
+-- the refusal names the least mismatched eraseblock
 abbrev pub IsVolumeFault : Sizes → List (List ℕ) → Records → Refusal → Type 0
 IsVolumeFault s bs t (refusal.Mismatch p) = IsMismatched s bs t p × ((q : ℕ) → q < p → IsMismatched s bs t q → ⊥)
 IsVolumeFault s bs t _ = ⊥
 
--- eraseblocks are accepted with the meaning m: no fault stands, and m is that of their table
+-- eraseblocks are accepted with the meaning m: there is no fault, and m is the meaning of their table
 pub record AcceptsBlocks (s : Sizes) (bs : List (List ℕ)) (m : Meant) : Type 0 where
   pub clean : NoFault s bs
   pub records : Records

@@ -10,14 +10,14 @@ use Rattle.ubi_volume.specs.declared.content.Content.{Content}
 use Rattle.ubi_volume.specs.declared.content.Content.TheVariants as content
 use Rattle.ubi_volume.specs.declared.content.Volume.{Volume}
 
--- how much a content is: the size of a text, or how many LEBs are kept
+-- how much a content is: the size of a static volume's contents, or how many LEBs are kept
 abbrev pub amount_of : Content → Amount
 amount_of content.Updating = amount.Updating
 amount_of content.Damaged = amount.Damaged
 amount_of (content.Static text) = amount.Bytes (length text)
 amount_of (content.Dynamic lebs) = amount.Lebs (length (entries lebs))
 
--- how much a volume reads, of the meaning of an image whose places these are
+-- how much a volume reads in the meaning of an image whose places these are
 abbrev pub AmountIs : Sizes → Placed → ℕ → List ℕ → Amount → Type 0
 AmountIs s p id image a =
     (h : ArePlaces (image_of s image) p) (v : Volume) → get h.meaning.volumes id ≡ Some v

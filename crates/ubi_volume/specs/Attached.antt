@@ -1,4 +1,4 @@
--- What an attach gives, and what it says of an eraseblock.
+-- What attaching an image gives, and the state of each eraseblock.
 use Rattle.std.specs.Prelude.{◌≡◌, ◌≢◌, ℕ, ◌<◌, ◌≤◌, ◌⊎◌, List, Some, None, IsSome, length, slice_get, IfSome}
 use Rattle.std.specs.FinMap.{get}
 use Rattle.ubi_media.specs.Geometry.{Sizes}
@@ -16,7 +16,7 @@ use Rattle.ubi_volume.specs.Meant.{Meant, records_of}
 use Rattle.ubi_volume.specs.declared.attached.BlockState.{BlockState}
 use Rattle.ubi_volume.specs.declared.attached.BlockState.TheVariants as state
 
--- a LEB of a user's volume that has no record, or beyond what its dynamic volume reserves
+-- a LEB of a user's volume without a record, or beyond what its dynamic volume reserves
 abbrev pub IsOutside : Records → Leb → Type 0
 IsOutside t of =
     (of.0 < 128)
@@ -45,7 +45,7 @@ pub record Whole : Type 0 where
   pub scan : Found
   pub states : List BlockState
 
--- it is that of the image
+-- what attaching gives is right for the image
 pub record IsAttached (image : Image) (a : Whole) : Type 0 where
   pub accepted : Accepts image a.meaning
   pub scan : in_image IsScan image a.scan

@@ -16,7 +16,7 @@ same_meaning a b =
     && (a.image_seq == b.image_seq)
     && pointwise (λ p q. (p.0 == q.0) && (volume_eq.ghosts).eq p.1 q.1) (entries a.volumes) (entries b.volumes)
 
--- that is symmetric and transitive
+-- this equality is symmetric and transitive
 pub same_meaning_per : IsPartialEquivalence same_meaning
 same_meaning_per =
     and_per (and_per (on_per (λ m. m.sizes) geometry_laws.laws-law)

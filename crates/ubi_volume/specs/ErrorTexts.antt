@@ -1,4 +1,4 @@
--- What is printed of a volume that isn't read, and of volumes that have no meaning together.
+-- The texts that are printed for a volume that isn't read, and for volumes that have no meaning together.
 use Rattle.std.specs.Prelude.{ℕ, List, ◌++◌, codes, decimal}
 use Rattle.ubi_media.specs.ErrorTexts.{rec_fault_name}
 use Rattle.ubi_volume.specs.declared.errors.MeaningCause.{MeaningCause}
@@ -6,7 +6,7 @@ use Rattle.ubi_volume.specs.declared.errors.MeaningCause.TheVariants as cause
 use Rattle.ubi_volume.specs.declared.errors.ReadError.{ReadError}
 use Rattle.ubi_volume.specs.declared.errors.ReadError.TheVariants as error
 
--- the text of why a volume isn't read
+-- the text that says why a volume isn't read
 abbrev pub read_error_text : ReadError → List ℕ
 read_error_text error.NoVolume = codes "L1 NoVolume"
 read_error_text error.Updating = codes "L2 Updating"
@@ -15,7 +15,7 @@ read_error_text error.OutOfRange = codes "L4 OutOfRange"
 read_error_text (error.Write n) = codes "a write failed written=" ++ decimal n
 read_error_text error.Memory = codes "out of memory"
 
--- the text of why volumes have no meaning together
+-- the text that says why volumes have no meaning together
 abbrev pub meaning_cause_text : MeaningCause → List ℕ
 meaning_cause_text (cause.IdRange item) = codes "M1 IdRange item=" ++ decimal item
 meaning_cause_text (cause.SameId item) = codes "M2 SameId item=" ++ decimal item

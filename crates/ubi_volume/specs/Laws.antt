@@ -11,7 +11,7 @@ use Rattle.ubi_volume.specs.Meant.{Meant}
 abbrev pub NeverBoth : Type 0
 NeverBoth = (image : Image) (m : Meant) (c : Refusal) → Accepts image m → Refuses image c → ⊥
 
--- an image is refused for one cause at most
+-- an image is refused for at most one cause
 abbrev pub OneCause : Type 0
 OneCause = (image : Image) (c d : Refusal) → Refuses image c → Refuses image d → c ≡ d
 

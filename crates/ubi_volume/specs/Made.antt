@@ -1,4 +1,4 @@
--- Why volumes have no meaning together, and the meaning that they have.
+-- Why volumes have no meaning together, or which meaning they have.
 use Rattle.std.specs.Prelude.{◌≡◌, ℕ, ◌+◌, ◌<◌, ◌≤◌, ◌⊎◌, not, List, [], map, Some, slice_get, sum_by, unwrap_or}
 use Rattle.std.specs.FinMap.{FinMap, get, from_entries, retain_keys}
 use Rattle.std.specs.Ordering.{nat_cmp}
@@ -20,7 +20,7 @@ Items = List (ℕ × Volume)
 abbrev pub IsItem : Items → ℕ → ℕ × Volume → Type 0
 IsItem items i e = slice_get items i ≡ Some e
 
--- the cause stands
+-- the cause applies
 abbrev pub Stands : Sizes → Items → MeaningCause → Type 0
 Stands s items (cause.IdRange i) = (e : ℕ × Volume) × IsItem items i e × (slots s ≤ e.0)
 Stands s items (cause.SameId i) =
@@ -55,12 +55,12 @@ item (cause.ContentRange i) = i
 abbrev pub IsBefore : MeaningCause → MeaningCause → Type 0
 IsBefore c d = (rank c < rank d) ⊎ ((rank c ≡ rank d) × (item c < item d))
 
--- the first cause that stands
+-- the first cause that applies
 pub record IsFirst (s : Sizes) (items : Items) (c : MeaningCause) : Type 0 where
   pub stands : Stands s items c
   pub first : (d : MeaningCause) → IsBefore d c → Stands s items d → ⊥
 
--- no cause stands
+-- no cause applies
 abbrev pub NoCause : Sizes → Items → Type 0
 NoCause s items = (c : MeaningCause) → Stands s items c → ⊥
 
@@ -68,12 +68,12 @@ NoCause s items = (c : MeaningCause) → Stands s items c → ⊥
 abbrev pub lebs_without_blank : FinMap nat_cmp (List ℕ) → FinMap nat_cmp (List ℕ)
 lebs_without_blank lebs = retain_keys lebs (λ lnum. not (is_blank (unwrap_or (get lebs lnum) [])))
 
--- a content without them
+-- a content without the LEBs that are 0xFF throughout
 abbrev pub without_blank : Content → Content
 without_blank (content.Dynamic lebs) = content.Dynamic (lebs_without_blank lebs)
 without_blank other = other
 
--- an item without them
+-- an item without the LEBs that are 0xFF throughout
 abbrev pub item_without_blank : ℕ × Volume → ℕ × Volume
 item_without_blank e = (e.0, record { entry = e.1.entry; content = without_blank e.1.content })
 

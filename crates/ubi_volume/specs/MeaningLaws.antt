@@ -13,7 +13,7 @@ use Rattle.ubi_volume.specs.declared.errors.MeaningCause.{MeaningCause}
 abbrev pub OneMeaning : Type 0
 OneMeaning = (image : Image) (m n : Meant) → Accepts image m → Accepts image n → m ≡ n
 
--- what attaching an image gives is one value
+-- attaching an image gives one value
 abbrev pub OneAttached : Type 0
 OneAttached = (image : Image) (a b : Whole) → IsAttached image a → IsAttached image b → a ≡ b
 
@@ -26,7 +26,7 @@ abbrev pub Reorder : Type 0
 Reorder = (image other : Image) (m : Meant) → other.sizes ≡ image.sizes → IsWhole other
     → IsPermutation (eraseblocks image) (eraseblocks other) → Accepts image m → Accepts other m
 
--- what a file means, or why it is refused, is told by those of its bytes that are judged
+-- those bytes of a file that are judged decide what it means, or why it is refused
 abbrev pub JudgedAlone : Type 0
 JudgedAlone = (s : Sizes) (bytes : List ℕ) →
     let all : Image = image_of s bytes in

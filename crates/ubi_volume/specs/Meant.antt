@@ -1,5 +1,5 @@
--- A meaning: the image sequence number, and volumes by their number, each with its record and what it reads. And how a text
--- is cut into LEBs.
+-- A meaning: the image sequence number, and the volumes by their numbers, each with its record and what it reads. And how a
+-- static volume's contents are cut into LEBs.
 use Rattle.std.specs.Prelude.{◌≡◌, ◌≢◌, ℕ, ◌+◌, ◌*◌, ◌^◌, ◌<◌, ◌≤◌, true, false, map, Some, None, IfSome, sum_by, length, ◌-◌, ◌/◌, List, take, drop}
 use Rattle.std.specs.FinMap.{FinMap, get, entries, from_entries, values}
 use Rattle.std.specs.Ordering.{nat_cmp}
@@ -48,12 +48,12 @@ pub record IsVolume (s : Sizes) (id : ℕ) (v : Volume) : Type 0 where
   pub fits : Fits s v.entry v.content
   pub kept : KeepsNoBlank s v.entry v.content
 
--- two volumes of one name are one
+-- two volumes with one name are the same volume
 abbrev pub HasDistinctNames : VolumeMap → Type 0
 HasDistinctNames volumes =
     (i j : ℕ) (v w : Volume) → get volumes i ≡ Some v → get volumes j ≡ Some w → v.entry.name ≡ w.entry.name → i ≡ j
 
--- just such values are meanings
+-- the values that are meanings
 pub record IsMeaning (m : Meant) : Type 0 where
   pub image_seq : m.image_seq < 2 ^ 32
   pub each : (id : ℕ) → IfSome (get m.volumes id) (IsVolume m.sizes id)
@@ -64,6 +64,6 @@ pub record IsMeaning (m : Meant) : Type 0 where
 abbrev pub pieces : ℕ → ℕ → ℕ
 pieces size n = (n + (size - 1)) / size
 
--- the share of a text that stands in a LEB
+-- the share of a static volume's contents that stands in a LEB
 abbrev pub share : ℕ → List ℕ → ℕ → List ℕ
 share size text lnum = take size (drop (lnum * size) text)

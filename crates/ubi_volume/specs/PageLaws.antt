@@ -14,15 +14,15 @@ use Rattle.ubi_volume.specs.Meant.{Meant}
 abbrev pub image_with_page : Image → ℕ → Image
 image_with_page image page = record { sizes = with_page image.sizes page; bytes = image.bytes }
 
--- the same meaning but for the page in its sizes
+-- the same meaning, with another page in its sizes
 abbrev pub meaning_with_page : Meant → ℕ → Meant
 meaning_with_page m page = record m { sizes = with_page m.sizes page }
 
--- of two pages of which one divides the other, all other sizes being equal: an image that is accepted with the greater
--- one is accepted with the lesser one, with the same meaning but for the page, and nothing else that attaching it
--- gives differs; one that is refused with the lesser one isn't accepted with the greater one; where both accept it,
--- the meanings are the same but for the page; and one that is accepted with the lesser one is accepted with the
--- greater one too, or refused for a record whose alignment isn't a multiple of that
+-- two pages, one of which divides the other, with all other sizes equal: an image that is accepted with the greater one
+-- is accepted with the lesser one, with the same meaning except for the page, and the rest of what attaching it gives
+-- is the same; an image that is refused with the lesser one isn't accepted with the greater one; if both accept it, the
+-- meanings are the same except for the page; an image that is accepted with the lesser one is accepted with the greater
+-- one, or refused for a record whose alignment isn't a multiple of the greater one
 pub record LesserPage : Type 0 where
   pub accepted : (image : Image) (m : Meant) (page : ℕ) → page ∣ image.sizes.page → Accepts image m
       → Accepts (image_with_page image page) (meaning_with_page m page)

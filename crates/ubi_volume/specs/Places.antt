@@ -23,15 +23,15 @@ use Rattle.ubi_volume.specs.declared.content.Volume.{Volume}
 use Rattle.ubi_volume.specs.declared.places.PlaceContent.{PlaceContent}
 use Rattle.ubi_volume.specs.declared.places.PlaceContent.TheVariants as place
 
--- the value of places: the records of the table, the winner of each LEB, the case and size of what each volume reads, and
--- the image sequence number
+-- places: the records of the table, the winner of each LEB, the case and size of what each volume reads, and the image
+-- sequence number
 pub record Placed : Type 0 where
   pub records : Records
   pub winners : FinMap leb_cmp ℕ
   pub contents : FinMap nat_cmp PlaceContent
   pub image_seq : ℕ
 
--- the case of a content, and the size of a text
+-- the case of a content, and the size of a static volume's contents
 abbrev pub case_of : Sizes → VolumeRecord → Content → PlaceContent
 case_of s r content.Updating = place.Updating
 case_of s r content.Damaged = place.Damaged
@@ -52,8 +52,8 @@ IsNextPlace p vol from next = MatchOption next
 abbrev pub AreListed : Records → List (ℕ × PlaceContent) → Type 0
 AreListed t contents = (id : ℕ) → IsSome (get t.of id) → IsSome (find (λ e. e.0 == id) contents)
 
--- a case is one that the volume's record allows: the LEBs of a text are no more than the volume reserves, and each has
--- a winner
+-- a case is one that the volume's record allows: static contents take no more LEBs than the volume reserves, and each
+-- of these has a winner
 abbrev pub CaseFits : FinMap leb_cmp ℕ → ℕ → VolumeRecord → PlaceContent → Type 0
 CaseFits winners vol r place.Updating = r.marker ≡ true
 CaseFits winners vol r place.Damaged = (r.marker ≡ false) × (r.kind ≡ kind.Static)
@@ -61,8 +61,8 @@ CaseFits winners vol r (place.Static lebs bytes) = (r.marker ≡ false) × (r.ki
     × ((lnum : ℕ) → lnum < lebs → IsSome (get winners (vol, lnum)))
 CaseFits winners vol r place.Dynamic = (r.marker ≡ false) × (r.kind ≡ kind.Dynamic)
 
--- what holds of places in n eraseblocks, whatever these hold: each place is one of them, the volumes fit the device,
--- and each has a case that its record allows
+-- what holds for places in n eraseblocks, whatever these hold: each place is one of them, the volumes fit the device,
+-- and each volume has a case that its record allows
 pub record AreWithin (n : ℕ) (p : Placed) : Type 0 where
   pub winners : (of : Leb) → IfSome (get p.winners of) (λ at. at < n)
   pub space : HasSpace p.records.sizes p.records
@@ -84,7 +84,7 @@ pub record ArePlacesOf (s : Sizes) (k : Source) (agrees : Agreed) (p : Placed) :
   pub within : AreWithin (blocks_in s k) p
   pub held : WhereHeld agrees (λ bytes. ArePlaces (image_of s bytes) p)
 
--- why it fails
+-- why attaching a source fails
 abbrev pub ArePlacesError : Sizes → Source → Agreed → StreamError → Type 0
 ArePlacesError s k agrees (stream.Refused c) =
     IsLengthFault s k.size c ⊎ (IsWholeSize s k.size × WhereHeld agrees (λ bytes. RefusesBlocks s (blocks_of s bytes) c))
@@ -92,7 +92,7 @@ ArePlacesError s k agrees (stream.Read p written) = IsWholeSize s k.size × IsRe
 ArePlacesError s k agrees (stream.Write _) = ⊥
 ArePlacesError s k agrees stream.Memory = Unit {0}
 
--- why what places show can't be told: a read of one of n eraseblocks failed, or memory ran out
+-- why a question about places has no answer: a read of one of n eraseblocks failed, or memory ran out
 abbrev pub IsReadFailure : ℕ → StreamError → Type 0
 IsReadFailure n stream.Memory = Unit {0}
 IsReadFailure n e = IsReadFault n e

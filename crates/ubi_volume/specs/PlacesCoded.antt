@@ -10,7 +10,7 @@ use Rattle.ubi_volume.specs.Places.{Placed}
 use Rattle.ubi_volume.specs.contracts.places.PlaceContent as place_type
 use Rattle.ubi_volume.specs.declared.places.PlaceContent.{PlaceContent}
 
--- as the tuple of their fields
+-- places as the tuple of their fields
 abbrev pub placed_code : Coded Placed
 placed_code =
     code_by (Records × (FinMap leb_cmp ℕ × (FinMap nat_cmp PlaceContent × ℕ)))

@@ -1,4 +1,4 @@
--- What is read of a meaning: a LEB of a volume, or the whole volume.
+-- What a LEB of a meaning's volume reads, and what the whole volume reads.
 use Rattle.std.specs.Prelude.{◌≡◌, ℕ, ◌++◌, List, Option, Result, Ok, Err, if◌then◌else◌, nat_lt, unwrap_or, drop, length, flat_map}
 use Rattle.std.specs.FinMap.{FinMap, get}
 use Rattle.std.specs.List.{range_with_len}
@@ -51,11 +51,11 @@ read_volume m id = option_map_or (λ v. volume_read m.sizes v.entry v.content) (
 abbrev pub volume_len : Meant → ℕ → Result ℕ ReadError
 volume_len m id = result_map_both length (λ e. e) (read_volume m id)
 
--- n bytes were read into what was old: those of the LEB stand in front, and what is behind them stays
+-- n bytes were read into what was old: those of the LEB stand in front, and what stands after them stays
 abbrev pub IsLebRead : Meant → ℕ → ℕ → List ℕ → List ℕ → ℕ → Type 0
 IsLebRead m id lnum old new n = (text : List ℕ) × (read_leb m id lnum ≡ Ok text) × (n ≡ length text) × (new ≡ text ++ drop n old)
 
--- why a volume isn't read: memory ran out for its text, or it has none
+-- why a volume isn't read: memory ran out for its contents, or it has none
 abbrev pub IsReadError : Meant → ℕ → ReadError → Type 0
 IsReadError m id error.Memory = (text : List ℕ) × (read_volume m id ≡ Ok text)
 IsReadError m id e = read_volume m id ≡ Err e

@@ -1,4 +1,4 @@
--- What is known of an image without what its volumes read.
+-- What is known of an image, except what its volumes read.
 use Rattle.std.specs.Prelude.{◌≡◌, ◌≤◌, ℕ, List, Some, length, refl}
 use Rattle.std.specs.FinMap.{get}
 use Rattle.std.specs.Coded.{Coded, code_by, coded×, coded_list}
@@ -24,21 +24,21 @@ pub record Seen : Type 0 where
   pub scan : Found
   pub states : List BlockState
 
--- the same as nested pairs
+-- a survey as nested pairs
 abbrev pub seen_code : Coded Seen
 seen_code =
     code_by (Records × (Found × List BlockState)) (coded× records_code (coded× found_code (coded_list state_type.the_row.coded)))
     (λ a. (a.records, (a.scan, a.states))) (λ p. record { records = p.0; scan = p.1.0; states = p.1.1 }) (λ _. refl)
 
--- it is that of the image, which is accepted: with a meaning, it is what attaching gives, and the records are those of
+-- a survey of the image, which is accepted: with a meaning, it is what attaching gives, and the records are those of
 -- the meaning
 pub record IsSurvey (image : Image) (v : Seen) : Type 0 where
   pub meaning : Meant
   pub attached : IsAttached image (record { meaning = meaning; scan = v.scan; states = v.states })
   pub records : v.records ≡ records_of meaning
 
--- what surveying a source gives: a scan of it, records by its geometry, a mean that is a counter, and a state for each
--- eraseblock; and it is that of the image, whatever the source may hold
+-- what surveying a source gives: a scan of it, records by its geometry, a mean that is an erase counter, and a state
+-- for each eraseblock; and it is the survey of the image, whatever the source may hold
 pub record IsSurveyOf (s : Sizes) (k : Source) (agrees : Agreed) (v : Seen) : Type 0 where
   pub scan : IsScanOf s k agrees v.scan
   pub sizes : v.records.sizes ≡ s
@@ -46,7 +46,7 @@ pub record IsSurveyOf (s : Sizes) (k : Source) (agrees : Agreed) (v : Seen) : Ty
   pub count : length v.states ≡ blocks_in s k
   pub held : WhereHeld agrees (λ bytes. IsSurvey (image_of s bytes) v)
 
--- what attaching a source gives is that of the image, whatever the source may hold
+-- what attaching a source gives is right for the image, whatever the source may hold
 abbrev pub IsAttachedOf : Sizes → Agreed → Whole → Type 0
 IsAttachedOf s agrees a = WhereHeld agrees (λ bytes. IsAttached (image_of s bytes) a)
 

@@ -6,11 +6,11 @@ use Rattle.ubi_volume.specs.Reading.{read_volume}
 use Rattle.ubi_volume.specs.declared.errors.ReadError.{ReadError}
 use Rattle.ubi_volume.specs.declared.errors.ReadError.TheVariants as error
 
--- the writer received the whole text, of n bytes
+-- the writer received all the volume's bytes, n in number
 abbrev pub IsWritten : Meant → ℕ → Option (List ℕ) → Option (List ℕ) → ℕ → Type 0
 IsWritten m id old new n = (text : List ℕ) × (read_volume m id ≡ Ok text) × (n ≡ length text) × Appends old new text
 
--- the writer failed, with the first n bytes of the text and not all of it, or the volume can't be read, and it received nothing
+-- the writer failed after the first n of the volume's bytes, but not all; or the volume can't be read, and the writer received nothing
 abbrev pub IsNotWritten : Meant → ℕ → Option (List ℕ) → Option (List ℕ) → ReadError → Type 0
 IsNotWritten m id old new (error.Write n) =
     (text : List ℕ) × (read_volume m id ≡ Ok text) × (n < length text) × Appends old new (take n text)

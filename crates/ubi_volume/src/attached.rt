@@ -27,20 +27,20 @@ use std::marker::Model;
 use ubi_media::{AttachError, Geometry, VolumeRecord};
 use ubi_scan::{BlockSource, MemorySource, StreamError};
 
-/// What an attach says of an eraseblock.
+/// The state that attaching finds for an eraseblock.
 #[derive(Clone, Copy, Debug, PartialEq, Eq)]
 pub enum BlockState {
     /// The erase-counter header is blank.
     Blank,
-    /// The erase-counter header can be read, the volume-identifier header is blank.
+    /// The erase-counter header can be read, and the volume-identifier header is blank.
     Free,
-    /// The erase-counter header can be read, the volume-identifier header is corrupt.
+    /// The erase-counter header can be read, and the volume-identifier header is corrupt.
     Garbage,
-    /// The erase-counter header is corrupt, and so is the volume-identifier header, or it is blank.
+    /// The erase-counter header is corrupt, and the volume-identifier header is corrupt or blank.
     Corrupt,
     /// It belongs to an internal volume that may be dropped.
     Dropped,
-    /// It is a member of a volume without a record, or of a dynamic one beyond what that reserves.
+    /// It is a member of a volume without a record, or is beyond what its dynamic volume reserves.
     Orphan,
     /// It wins a logical eraseblock of the layout volume.
     Table,
@@ -76,14 +76,14 @@ impl Attached {
         &self.meaning
     }
 
-    /// What is said of each eraseblock, by rising number.
+    /// The state of each eraseblock, in ascending order.
     pub fn states(&self) -> &[BlockState]
         ensures { result.now ≡ self.now.states }
     {
         self.surveyed.states()
     }
 
-    /// What is said of an eraseblock.
+    /// The state of an eraseblock.
     pub fn state(&self, p: u32) -> BlockState
         requires { p < length self.now.states }
         ensures { slice_get self.now.states p ≡ Some result }
@@ -91,7 +91,7 @@ impl Attached {
         self.surveyed.state(p)
     }
 
-    /// The eraseblock that wins a logical eraseblock of a volume, None where it has no member.
+    /// The eraseblock that wins a logical eraseblock of a volume, `None` if that has no member.
     pub fn winner(&self, vol: u32, lnum: u32) -> Option<u32>
         ensures { result ≡ finite.get self.now.scan.winners (vol, lnum) }
     {
@@ -112,7 +112,7 @@ impl Attached {
         self.surveyed.image_seq()
     }
 
-    /// The number of carriers: of the eraseblocks whose erase-counter header can be read and has an image sequence number
+    /// The number of carriers: the eraseblocks whose erase-counter header can be read and has an image sequence number
     /// that isn't zero.
     pub fn carriers(&self) -> u32
         ensures { result ≡ self.now.scan.carriers }
@@ -128,8 +128,8 @@ impl Attached {
     }
 }
 
-/// Attaches the image of a source: finds what it means, and the state of each of its eraseblocks. It is surveyed, its
-/// places are found, and then each logical eraseblock is read by its place.
+/// Attaches the image of a source: finds what it means, and the state of each of its eraseblocks. It surveys the
+/// image and finds its places, and then reads each logical eraseblock by its place.
 ///
 /// # Errors
 ///
@@ -168,8 +168,8 @@ pub fn attach_from<S: BlockSource>(
 ///
 /// # Errors
 ///
-/// Refused with the first cause that stands: `TooMany` or `Length` for its size, then the first fault of its lowest
-/// eraseblock that has one, then the fault of its volume table, then `Mismatch`. Memory where it ran out.
+/// `Refused` with the first cause that applies: `TooMany` or `Length` for its size, then the first fault of its
+/// lowest eraseblock that has one, then the fault of its volume table, then `Mismatch`. `Memory` if memory ran out.
 pub fn attach(alloc: Global, geometry: &Geometry, image: &[u8]) -> Result<Attached, AttachError>
     ensures attached { IfOk result (IsAttached (image_of geometry.now image.now)) }
     ensures refused { IfErr result (IsAttachError (image_of geometry.now image.now)) }
@@ -214,7 +214,7 @@ fn static_text<S: BlockSource>(
     }
 }
 
-/// What a dynamic volume without update marker reads.
+/// What a dynamic volume without the update marker reads.
 fn dynamic_content<S: BlockSource>(
     alloc: Global,
     geometry: &Geometry,
@@ -281,12 +281,12 @@ fn content_from<S: BlockSource>(
 }
 
 impl Places {
-    /// What the image of a source means. The places are those that were found in the source, and each logical eraseblock
-    /// is read once at most, into a buffer of the size of an eraseblock.
+    /// What the image of a source means. The places are those that were found in the source. Each logical eraseblock is
+    /// read at most once, into a buffer of the size of an eraseblock.
     ///
     /// # Errors
     ///
-    /// Read where a read failed, with the count 0. Memory where it ran out.
+    /// `Read` if a read failed, with the count 0. `Memory` if memory ran out.
     pub fn meaning_from<S: BlockSource>(
         &self,
         alloc: Global,

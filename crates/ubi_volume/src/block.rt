@@ -1,4 +1,4 @@
-//! What the eraseblock of a logical eraseblock holds, read at its place.
+//! What a logical eraseblock holds, read at the place of its eraseblock.
 
 ghost use Rattle.std.specs.FinMap as finite;
 ghost use Rattle.std.specs.Prelude.{◌≡◌, ◌≢◌, ◌+◌, ◌<◌, ◌≤◌, IfErr, IfOk, IfSome, IsTrue, OnOk, Some, if◌then◌else◌, length, not, slice_range, ℕ, IsSome, None};
@@ -17,15 +17,15 @@ use crate::places::{PlaceContent, Places};
 use ubi_media::{Geometry, VolumeRecord, is_blank};
 use ubi_scan::{BlockSource, StreamError, read_leb, read_part};
 
-/// The bytes that are looked at first: where there is anything but 0xFF, most often there is some among them.
+/// The bytes that are looked at first: if there is anything but 0xFF, there is most often some among them.
 const FRONT: usize = 4096;
 
-/// Fills `out` with the first bytes of a logical eraseblock, by its place ([`crate::Places::place`]): with 0xFF where it
+/// Fills `out` with the first bytes of a logical eraseblock, by its place ([`crate::Places::place`]), or with 0xFF if it
 /// has none.
 ///
 /// # Errors
 ///
-/// Read where the read failed, with the count 0.
+/// `Read` if the read failed, with the count 0.
 pub fn read_place<S: BlockSource>(
     geometry: &Geometry,
     source: &mut S,
@@ -50,12 +50,12 @@ pub fn read_place<S: BlockSource>(
     }
 }
 
-/// Reads the first bytes of a logical eraseblock, by its place, as many as `text` has: whether it has a place, and they
-/// aren't 0xFF throughout. `text` holds them then.
+/// Reads the first bytes of a logical eraseblock into `text`, by its place: whether it has a place, and the bytes
+/// aren't 0xFF throughout. If so, `text` holds them.
 ///
 /// # Errors
 ///
-/// Read where the read failed, with the count 0.
+/// `Read` if the read failed, with the count 0.
 pub fn is_kept<S: BlockSource>(
     geometry: &Geometry,
     source: &mut S,
@@ -79,12 +79,12 @@ pub fn is_kept<S: BlockSource>(
     Ok(!is_blank(text))
 }
 
-/// Whether the bytes of an eraseblock that begin at its byte `start`, as many as the buffer has, are 0xFF throughout. They are
-/// read until that is known: the rest only where the first 4,096 are.
+/// Whether the bytes of an eraseblock from its byte `start` on, as many as the buffer has, are 0xFF throughout. The rest is
+/// read only if the first 4,096 are.
 ///
 /// # Errors
 ///
-/// Read where a read failed, with the count 0.
+/// `Read` if a read failed, with the count 0.
 pub fn is_blank_part<S: BlockSource>(
     source: &mut S,
     geometry: &Geometry,
@@ -119,7 +119,7 @@ pub fn is_blank_part<S: BlockSource>(
 ///
 /// # Errors
 ///
-/// Read where a read failed, with the count 0.
+/// `Read` if a read failed, with the count 0.
 fn holds_bytes<S: BlockSource>(
     geometry: &Geometry,
     source: &mut S,
@@ -151,7 +151,7 @@ pub enum Amount {
     Updating,
     /// A static volume that isn't whole: it can't be read.
     Damaged,
-    /// The size of the text of a static volume, in bytes.
+    /// The size of the contents of a static volume, in bytes.
     Bytes(u64),
     /// How many logical eraseblocks of a dynamic volume aren't 0xFF throughout.
     Lebs(u32),
@@ -186,12 +186,12 @@ fn count_kept<S: BlockSource>(
     Ok(count)
 }
 
-/// How much a volume of the table reads, or why it can't be read. The places are those that were found in the source. Of
-/// a dynamic volume each logical eraseblock is read once, of others nothing.
+/// How much a volume of the table reads, or why it can't be read. The places are those that were found in the source.
+/// Each logical eraseblock of a dynamic volume is read once; for other volumes nothing is read.
 ///
 /// # Errors
 ///
-/// Read where a read failed, with the count 0.
+/// `Read` if a read failed, with the count 0.
 pub fn amount_of<S: BlockSource>(
     geometry: &Geometry,
     source: &mut S,

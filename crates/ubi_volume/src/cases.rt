@@ -1,4 +1,4 @@
-//! What the volumes of an image read, without their bytes. The texts of static volumes are checked.
+//! What the volumes of an image read, without their bytes. The CRCs of static volumes are checked.
 
 ghost use Rattle.std.specs.FinMap as finite;
 ghost use Rattle.std.specs.Prelude.{◌≡◌, ◌↔◌, ◌≤◌, IfErr, IfOk, IfSome, IsSome, IsTrue, Some, None, false, length, option_map, take};
@@ -23,8 +23,8 @@ use ubi_media::{Geometry, VolKind, VolumeRecord, crc};
 use ubi_scan::{BlockSource, Scan, StreamError, read_leb, read_member};
 use ubi_table::Table;
 
-/// How many logical eraseblocks the first winner of a volume says that the volume uses. 0 where it has none. The buffer
-/// has the size of an eraseblock, here and below.
+/// How many logical eraseblocks a volume uses, by its first winner. 0 if it has none. The buffer has the size of an
+/// eraseblock, here and below.
 fn used_ebs<S: BlockSource>(
     geometry: &Geometry,
     source: &mut S,
@@ -49,17 +49,17 @@ fn used_ebs<S: BlockSource>(
     }
 }
 
-/// A piece of a text as its eraseblock holds it, unchecked.
+/// A piece of a static volume's contents as its eraseblock holds it, unchecked.
 #[derive(Clone, Copy)]
 pub struct RawPiece {
     /// Its size in bytes.
     pub size: u32,
-    /// The check that its header says that it has (`data_crc` of `struct ubi_vid_hdr`).
+    /// The CRC that its header names (`data_crc` of `struct ubi_vid_hdr`).
     pub data_crc: u32,
 }
 
-/// The piece that the winner of a logical eraseblock holds of a text of `used` of them, unchecked. None where there is no winner, or it
-/// says that the volume uses another number of them. The buffer begins with the piece then.
+/// The piece that the winner of a logical eraseblock holds of contents of `used` of them, unchecked. `None` if there is no winner, or
+/// its header says that the volume uses another number. Otherwise the buffer begins with the piece.
 fn raw_piece<S: BlockSource>(
     geometry: &Geometry,
     source: &mut S,
@@ -97,8 +97,9 @@ fn raw_piece<S: BlockSource>(
     }
 }
 
-/// The size in bytes of the piece that the winner of a logical eraseblock holds of a text of `used` of them. None where
-/// there is no winner, where it says that the volume uses another number of them, or where its data have another check. The buffer begins with the piece then.
+/// The size in bytes of the piece that the winner of a logical eraseblock holds of contents of `used` of them. `None` if there is
+/// no winner, if its header says that the volume uses another number, or if its data have another CRC. Otherwise the buffer
+/// begins with the piece.
 fn piece_size<S: BlockSource>(
     geometry: &Geometry,
     source: &mut S,
@@ -131,8 +132,8 @@ fn piece_size<S: BlockSource>(
     }
 }
 
-/// In how many logical eraseblocks the text of a static volume without update marker lies, if all its pieces are there. None where it isn't
-/// whole: since its first winner says that it uses more of them than it reserves, or there is a winner behind them.
+/// How many logical eraseblocks hold the contents of a static volume without the update marker, if all pieces are there. `None` if the
+/// contents aren't whole: the first winner says that the volume uses more than it reserves, or there is a winner after them.
 fn text_lebs<S: BlockSource>(
     geometry: &Geometry,
     source: &mut S,
@@ -160,8 +161,8 @@ fn text_lebs<S: BlockSource>(
     Ok(Some(used))
 }
 
-/// What a static volume without update marker reads: nothing where it has no winner, its text where its winners hold
-/// all of it, and else it is damaged.
+/// What a static volume without the update marker reads: no bytes if it has no winner, its contents if its winners
+/// hold all of them; otherwise it is damaged.
 fn static_case<S: BlockSource>(
     geometry: &Geometry,
     source: &mut S,
@@ -233,7 +234,7 @@ fn case_of<S: BlockSource>(
 ///
 /// # Errors
 ///
-/// Read where a read failed. Memory where it ran out.
+/// `Read` if a read failed. `Memory` if memory ran out.
 pub fn cases_from<S: BlockSource>(
     alloc: Global,
     geometry: &Geometry,
@@ -263,12 +264,12 @@ pub fn cases_from<S: BlockSource>(
     Ok(cases)
 }
 
-/// What a volume of a surveyed source reads, without its bytes. Of the volume no more is known than its record; the text of a static
-/// one is checked. The buffer has the size of an eraseblock.
+/// What a volume of a surveyed source reads, without its bytes. Only its record is known of the volume; the CRCs of a static one are
+/// checked. The buffer has the size of an eraseblock.
 ///
 /// # Errors
 ///
-/// Read where a read failed.
+/// `Read` if a read failed.
 pub fn case_from<S: BlockSource>(
     geometry: &Geometry,
     source: &mut S,
@@ -291,12 +292,12 @@ pub fn case_from<S: BlockSource>(
     case_of(geometry, source, scan, table, id, entry, buffer)
 }
 
-/// In how many logical eraseblocks the text of a static volume of a surveyed source lies, if all its pieces are there. None where it isn't
-/// whole. No piece is read. The buffer has the size of an eraseblock.
+/// How many logical eraseblocks hold the contents of a static volume of a surveyed source, if all pieces are there. `None` if the
+/// contents aren't whole. No piece is read. The buffer has the size of an eraseblock.
 ///
 /// # Errors
 ///
-/// Read where a read failed.
+/// `Read` if a read failed.
 pub fn text_lebs_from<S: BlockSource>(
     geometry: &Geometry,
     source: &mut S,
@@ -316,12 +317,13 @@ pub fn text_lebs_from<S: BlockSource>(
     text_lebs(geometry, source, survey.scan(), id, entry, buffer)
 }
 
-/// The size in bytes of a piece of the text of a static volume of a surveyed source, which the buffer then begins with. The text lies in
-/// `used` logical eraseblocks, and the piece in the one with this number. None where the piece isn't there: then the text isn't whole.
+/// The size in bytes of a piece of the contents of a static volume of a surveyed source; the buffer then begins with the piece.
+/// The contents take `used` logical eraseblocks, and the piece is in the one with this number. `None` if the piece isn't there:
+/// then the contents aren't whole.
 ///
 /// # Errors
 ///
-/// Read where a read failed.
+/// `Read` if a read failed.
 pub fn text_piece_from<S: BlockSource>(
     geometry: &Geometry,
     source: &mut S,
@@ -343,12 +345,12 @@ pub fn text_piece_from<S: BlockSource>(
     piece_size(geometry, source, survey.scan(), id, used, lnum, buffer)
 }
 
-/// The piece of the text of a static volume of a surveyed source, as [`text_piece_from`] gives it, but unchecked: it isn't there if its bytes
-/// have another check than it says.
+/// The piece of the contents of a static volume of a surveyed source, as [`text_piece_from`] gives it, but unchecked: if its
+/// bytes have another CRC than its header names, it isn't there.
 ///
 /// # Errors
 ///
-/// Read where a read failed.
+/// `Read` if a read failed.
 pub fn raw_piece_from<S: BlockSource>(
     geometry: &Geometry,
     source: &mut S,

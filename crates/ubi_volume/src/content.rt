@@ -117,7 +117,7 @@ fn all_fit(held: &BTreeMap<u32, Bytes>, reserved: u32, size: u32) -> bool
 }
 
 impl Lebs {
-    /// None yet.
+    /// No logical eraseblock yet.
     pub fn new(alloc: Global) -> Lebs
         ensures { result ≡ finite.empty }
     {
@@ -126,14 +126,14 @@ impl Lebs {
         }
     }
 
-    /// The bytes of a logical eraseblock, where it is kept.
+    /// The bytes of a logical eraseblock, if it is kept.
     pub fn get(&self, lnum: u32) -> Option<&Bytes>
         ensures { option_copied result ≡ finite.get self.now lnum }
     {
         self.held.get(&lnum)
     }
 
-    /// Each that is kept, behind its number, by rising number.
+    /// Each logical eraseblock that is kept, after its number, in ascending order.
     pub fn iter(&self) -> Iter<'_, u32, Bytes>
         ensures rest { result ≡ finite.entries self.now }
         ensures runs { ShowsInOrder (deref_pair {K = ℕ} {X = List ℕ}) }
@@ -152,7 +152,7 @@ impl Lebs {
     ///
     /// # Errors
     ///
-    /// Memory ran out; nothing has changed then.
+    /// Memory ran out; then nothing has changed.
     pub fn insert(&mut self, lnum: u32, bytes: Bytes) -> Result<(), AllocError>
         ensures ok { OnOk result (self.new ≡ finite.insert self.old lnum bytes) }
         ensures err { OnErr result (self.new ≡ self.old) }
@@ -187,14 +187,14 @@ impl Lebs {
 /// What a volume reads.
 #[derive(Drop, PartialEq)]
 pub enum Content {
-    /// An update of the volume began that didn't end: it can't be read.
+    /// An update of the volume began and didn't end: it can't be read.
     Updating,
     /// A static volume that isn't whole: it can't be read.
     Damaged,
-    /// The text of a static volume.
+    /// The contents of a static volume.
     Static(Bytes),
-    /// The logical eraseblocks of a dynamic volume, each of as many bytes as the volume uses. One that isn't there reads
-    /// 0xFF throughout.
+    /// The logical eraseblocks of a dynamic volume, each with as many bytes as the volume uses. One that isn't there
+    /// reads 0xFF throughout.
     Dynamic(Lebs),
 }
 

@@ -15,13 +15,13 @@ use ubi_media::RecFault;
 pub enum ReadError {
     /// No volume has the number.
     NoVolume,
-    /// An update of the volume began that didn't end.
+    /// An update of the volume began and didn't end.
     Updating,
     /// The volume is static, and isn't whole.
     Damaged,
     /// The volume has no such logical eraseblock.
     OutOfRange,
-    /// A write failed, after so many bytes were written.
+    /// A write failed, after this many bytes were written.
     Write(u64),
     /// Memory ran out.
     Memory,
@@ -52,23 +52,23 @@ impl From<AllocError> for ReadError {
     }
 }
 
-/// Why volumes have no meaning together. Of several causes the first in this order, and of its items the least; items are
-/// counted from 0.
+/// Why volumes have no meaning together. If several causes apply, it is the first in this order, with the least of its
+/// items; items are counted from 0.
 #[derive(Clone, Copy, Debug, PartialEq, Eq)]
 pub enum MeaningCause {
     /// The number of the item isn't below the slots of the volume table.
     IdRange(usize),
-    /// The number of the item stands earlier in the list.
+    /// The number of the item is also that of an earlier item.
     SameId(usize),
-    /// The record of the item breaks a rule, and the first that it breaks.
+    /// The record of the item breaks a rule: the item, and the first rule that it breaks.
     Record(usize, RecFault),
-    /// The name of the item stands earlier in the list, and the item where it does.
+    /// The name of the item is also that of an earlier item: both items.
     SameName(usize, usize),
     /// The volumes and the two copies of the volume table need more eraseblocks than the device has.
     NoSpace,
-    /// The content of the item isn't one that its record allows: it is of the other kind, or isn't `Updating` exactly where
-    /// the update marker is set; a logical eraseblock isn't below those that are reserved, or hasn't as many bytes as the
-    /// volume uses; or the text of a static volume has more bytes than its eraseblocks hold.
+    /// The content of the item isn't one that its record allows: it is of the other kind, or is `Updating` without the
+    /// update marker, or isn't with it; a logical eraseblock isn't below those that are reserved, or hasn't as many bytes
+    /// as the volume uses; or the contents of a static volume have more bytes than its eraseblocks hold.
     ContentRange(usize),
 }
 

@@ -1,4 +1,4 @@
-//! What a volume of a source reads, from the places of its logical eraseblocks to a writer.
+//! What a volume of a source reads, written from the places of its logical eraseblocks.
 
 ghost use Rattle.std.specs.Prelude.{◌≡◌, ◌+◌, ◌*◌, ◌<◌, ◌≤◌, ◌^◌, IfErr, IfOk, IfSome, Ok, length};
 ghost use Rattle.ubi_media.specs.Geometry.{leb_size};
@@ -17,12 +17,12 @@ use std::io::Write;
 use ubi_media::Geometry;
 use ubi_scan::{BlockSource, StreamError};
 
-/// Writes the first bytes of a logical eraseblock, by its place, as many as the buffer has: 0xFF where it has none. Gives
-/// how many bytes are written then; `done` of them were written before.
+/// Writes the first bytes of a logical eraseblock, by its place, as many as the buffer has: 0xFF if it has no place.
+/// Returns how many bytes are now written; `done` of them were written before.
 ///
 /// # Errors
 ///
-/// The read failed, or a write.
+/// The read failed, or a write did.
 fn write_leb<S: BlockSource, W: Write>(
     geometry: &Geometry,
     source: &mut S,
@@ -53,14 +53,14 @@ fn write_leb<S: BlockSource, W: Write>(
     }
 }
 
-/// Writes what a volume reads, by its extent ([`Places::extent`]), and gives how many bytes that are. The places are
-/// those that were found in the source. One logical eraseblock is held at a time, in a buffer of the size of an
-/// eraseblock; no other memory is taken, and each eraseblock is read at most once.
+/// Writes what a volume reads, by its extent ([`Places::extent`]), and returns how many bytes that is. The places
+/// are those that were found in the source. One logical eraseblock is held at a time, in a buffer of the size of an
+/// eraseblock. No other memory is allocated, and each eraseblock is read at most once.
 ///
 /// # Errors
 ///
-/// Read where a read failed, and Write where a write failed: the writer received the first of the bytes then, and they
-/// say how many.
+/// `Read` if a read failed, and `Write` if a write failed: the writer then received the first of the bytes, and the
+/// error says how many.
 pub fn write_places<S: BlockSource, W: Write>(
     geometry: &Geometry,
     source: &mut S,

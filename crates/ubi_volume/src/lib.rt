@@ -1,11 +1,11 @@
 //! What an image means: its volumes with what they read, and the state of each of its eraseblocks.
 //!
-//! An image is attached, and is then accepted with its one meaning or refused with the first cause that stands. A meaning
-//! is read volume by volume, or one logical eraseblock at a time.
+//! Attaching an image accepts it with its one meaning, or refuses it with the first cause that applies. A meaning is read
+//! volume by volume, or one logical eraseblock at a time.
 //!
-//! An image behind a source is attached without its contents ([`attach_places`]): what is found then is its table, the
-//! eraseblock of each logical eraseblock, and what kind of content each volume has. A volume is then written from the
-//! source ([`write_places`]).
+//! [`attach_places`] attaches an image in a source without holding its contents. It finds the table, the eraseblock of
+//! each logical eraseblock, and what kind of contents each volume has. [`write_places`] then writes a volume from the
+//! source.
 //!
 //! A caller, proved from the contracts alone (`crates/ubi_uses`):
 //!

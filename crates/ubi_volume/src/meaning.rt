@@ -1,4 +1,4 @@
-//! Meanings, and how one is made of volumes.
+//! Meanings, and how one is made from volumes.
 
 ghost use Rattle.std.specs.FinMap as finite;
 ghost use Rattle.std.specs.List.Sorted.{IsNonDecreasingBy};
@@ -22,7 +22,7 @@ use ubi_media::{Geometry, VolKind, VolName, rec_fault};
 pub struct Meaning {
     geometry: Geometry,
     image_seq: u32,
-    /// Each volume behind its number, by rising number.
+    /// Each volume after its number, in ascending order.
     volumes: Vec<(u32, Volume)>,
 }
 
@@ -48,7 +48,7 @@ fn numbered(volumes: &[(u32, Volume)], id: u32) -> Option<&(u32, Volume)>
 }
 
 impl Meaning {
-    /// The meaning of volumes by rising number.
+    /// The meaning of volumes in ascending order.
     pub(crate) fn of(geometry: Geometry, image_seq: u32, volumes: Vec<(u32, Volume)>) -> Meaning
         requires { AreVolumes geometry image_seq volumes.items }
         ensures { result ≡ record { sizes = geometry; image_seq = image_seq; volumes = finite.from_entries volumes.items } }
@@ -61,12 +61,12 @@ impl Meaning {
     }
 
     /// The meaning of an image sequence number and volumes, each with its number. The logical eraseblocks of a dynamic volume
-    /// that are 0xFF throughout are taken out. It takes no memory.
+    /// that are 0xFF throughout are dropped. It allocates no memory.
     ///
     /// # Errors
     ///
-    /// The first cause for which the volumes have none together, in the order of [`MeaningCause`](crate::MeaningCause),
-    /// with the volumes as they were.
+    /// The first cause for which the volumes have no meaning together, in the order of
+    /// [`MeaningCause`](crate::MeaningCause), with the volumes as they were.
     pub fn new(
         geometry: &Geometry,
         image_seq: u32,
@@ -93,7 +93,7 @@ impl Meaning {
         self.geometry
     }
 
-    /// The image sequence number, 0 where no eraseblock names an image.
+    /// The image sequence number, 0 if no eraseblock names an image.
     pub fn image_seq(&self) -> u32
         ensures value { result ≡ self.now.image_seq }
         ensures meaning { IsMeaning self.now }
@@ -101,7 +101,7 @@ impl Meaning {
         self.image_seq
     }
 
-    /// The volume with a number, None where there is none.
+    /// The volume with a number, `None` if there is none.
     pub fn get(&self, id: u32) -> Option<&Volume>
         ensures value { option_copied result ≡ finite.get self.now.volumes id }
         ensures meaning { IsMeaning self.now }
@@ -109,7 +109,7 @@ impl Meaning {
         numbered(self.volumes.as_slice(), id).map(|entry| &entry.1)
     }
 
-    /// The number and the volume of each, by rising number.
+    /// The number and the volume of each, in ascending order.
     pub fn volumes(&self) -> &[(u32, Volume)]
         ensures value { result.now ≡ finite.entries self.now.volumes }
         ensures meaning { IsMeaning self.now }
@@ -118,8 +118,8 @@ impl Meaning {
     }
 }
 
-/// Two meanings are equal if their geometries, their image sequence numbers, the records of their volumes and what these
-/// read are.
+/// Two meanings are equal if their geometries and image sequence numbers are, and the records of their volumes and what
+/// these read.
 impl PartialEq for Meaning {
     ghost eq = { same_meaning };
 
@@ -155,7 +155,7 @@ fn place_of_id(volumes: &[(u32, Volume)], id: u32) -> Option<usize>
     volumes.iter().position(|item| item.0 == id)
 }
 
-/// The first item whose number stands earlier.
+/// The first item whose number is also that of an earlier item.
 fn same_id(geometry: &Geometry, volumes: &[(u32, Volume)]) -> Option<MeaningCause>
     ensures { IsFirstOf geometry.now volumes.now 2 result }
 {
@@ -190,7 +190,7 @@ fn place_of_name(volumes: &[(u32, Volume)], name: &VolName) -> Option<usize>
         .position(|item| item.1.entry.name.as_bytes() == name.as_bytes())
 }
 
-/// The first item whose name stands earlier.
+/// The first item whose name is also that of an earlier item.
 fn same_name(geometry: &Geometry, volumes: &[(u32, Volume)]) -> Option<MeaningCause>
     ensures { IsFirstOf geometry.now volumes.now 4 result }
 {
@@ -203,7 +203,7 @@ fn same_name(geometry: &Geometry, volumes: &[(u32, Volume)]) -> Option<MeaningCa
     None
 }
 
-/// NoSpace where the volumes and the two copies of the volume table need more eraseblocks than the device has.
+/// `NoSpace` if the volumes and the two copies of the volume table need more eraseblocks than the device has.
 fn no_space(geometry: &Geometry, volumes: &[(u32, Volume)]) -> Option<MeaningCause>
     ensures { IsFirstOf geometry.now volumes.now 5 result }
 {
@@ -251,7 +251,7 @@ fn content_range(geometry: &Geometry, volumes: &[(u32, Volume)]) -> Option<Meani
     None
 }
 
-/// The first cause for which volumes have no meaning together. None where they have one.
+/// The first cause for which volumes have no meaning together. `None` if they have one.
 fn first_cause(geometry: &Geometry, volumes: &[(u32, Volume)]) -> Option<MeaningCause>
     ensures { MatchOption result (NoCause geometry.now volumes.now) (IsFirst geometry.now volumes.now) }
 {
@@ -282,7 +282,7 @@ fn drop_blank(volumes: &mut [(u32, Volume)])
     }
 }
 
-/// The volumes by rising number, without the logical eraseblocks that are 0xFF throughout. It takes no memory.
+/// The volumes in ascending order, without the logical eraseblocks that are 0xFF throughout. It allocates no memory.
 fn arranged(mut volumes: Vec<(u32, Volume)>) -> Vec<(u32, Volume)>
     ensures permutation { IsPermutation (map item_without_blank volumes.items) result.items }
     ensures sorted { IsNonDecreasingBy (λ e. e.0) result.items }

@@ -27,11 +27,11 @@ pub enum PlaceContent {
     Updating,
     /// A static volume that isn't whole: it can't be read.
     Damaged,
-    /// The text of a static volume.
+    /// The contents of a static volume.
     Static {
-        /// In how many logical eraseblocks it lies.
+        /// How many logical eraseblocks hold them.
         lebs: u32,
-        /// Its size in bytes.
+        /// Their size in bytes.
         bytes: u64,
     },
     /// The logical eraseblocks of a dynamic volume.
@@ -51,7 +51,7 @@ fn numbered(contents: &[(u32, PlaceContent)], id: u32) -> Option<PlaceContent>
 pub struct Places {
     pub(crate) table: Table,
     pub(crate) scan: Scan,
-    /// What each volume reads, by rising number.
+    /// What each volume reads, in ascending order.
     pub(crate) contents: Vec<(u32, PlaceContent)>,
 }
 
@@ -77,23 +77,23 @@ impl Places {
         &self.table
     }
 
-    /// The image sequence number, 0 where no eraseblock names an image.
+    /// The image sequence number, 0 if no eraseblock names an image.
     pub fn image_seq(&self) -> u32
         ensures { result ≡ self.now.image_seq }
     {
         self.scan.image_seq()
     }
 
-    /// The winner of a logical eraseblock, where it has one.
+    /// The winner of a logical eraseblock, if it has one.
     pub fn place(&self, id: u32, lnum: u32) -> Option<u32>
         ensures { result ≡ finite.get self.now.winners (id, lnum) }
     {
         self.scan.winner(id, lnum)
     }
 
-    /// The first logical eraseblock of a volume from `from` on that counts and has a winner, and that winner. Of a
-    /// static volume all count, of a dynamic one those below what it reserves. None where the volume isn't in the
-    /// table.
+    /// The first logical eraseblock of a volume from `from` on that counts and has a winner, and that winner. All
+    /// of a static volume count, and those of a dynamic one below what it reserves. `None` if there is none, or if
+    /// the volume isn't in the table.
     pub fn next_place(&self, id: u32, from: u32) -> Option<(u32, u32)>
         ensures { IsNextPlace self.now id from result }
     {
@@ -119,13 +119,13 @@ impl Places {
 }
 
 /// Attaches the image of a source: finds its volume table, the eraseblock of each logical eraseblock, and what its
-/// volumes read. The texts of static volumes are checked here. At most one eraseblock of contents is held, and each
+/// volumes read. The CRCs of static volumes are checked here. At most one eraseblock of contents is held, and each
 /// eraseblock is read at most 7 times.
 ///
 /// # Errors
 ///
-/// Read where a read failed, with the count 0. Refused with the first cause that stands, as [`crate::attach`] says.
-/// Memory where it ran out.
+/// `Read` if a read failed, with the count 0. `Refused` with the first cause that applies, as [`crate::attach`]
+/// says. `Memory` if memory ran out.
 pub fn attach_places<S: BlockSource>(
     alloc: Global,
     geometry: &Geometry,
@@ -148,20 +148,20 @@ pub fn attach_places<S: BlockSource>(
     })
 }
 
-/// The bytes that a volume reads, in the order of its logical eraseblocks: as many in each as there is room for, and in
-/// the last what is left.
+/// The bytes that a volume reads, in the order of its logical eraseblocks: each holds as many as fit, and the last what
+/// is left.
 #[derive(Debug, Clone, Copy)]
 pub struct Extent {
     /// How many logical eraseblocks hold them.
     pub lebs: u32,
-    /// How many bytes there is room for in each.
+    /// How many bytes fit into each.
     pub size: u32,
     /// How many bytes there are in all.
     pub bytes: u64,
 }
 
 impl Extent {
-    /// The extent of what a volume with this record reads, by its case.
+    /// The extent of what a volume with this record reads, by the case of its contents.
     ///
     /// # Errors
     ///
@@ -202,7 +202,7 @@ impl Places {
     ///
     /// # Errors
     ///
-    /// The first of these that stands: `NoVolume`, `Updating`, `Damaged`.
+    /// The first of these that applies: `NoVolume`, `Updating`, `Damaged`.
     pub fn extent(&self, geometry: &Geometry, id: u32) -> Result<Extent, ReadError>
         requires { self.now.records.sizes ≡ geometry.now }
         ensures value { result ≡ extent_in self.now id }

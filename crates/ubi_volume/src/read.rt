@@ -18,7 +18,7 @@ use ubi_media::Geometry;
 ///
 /// # Errors
 ///
-/// `NoVolume` where there is none.
+/// `NoVolume` if there is none.
 pub fn volume_of(meaning: &Meaning, id: u32) -> Result<&Volume, ReadError>
     ensures found { IfOk result (λ volume. finite.get meaning.now.volumes id ≡ Some volume.now) }
     ensures volume { IfOk result (λ volume. IsVolume meaning.now.sizes id volume.now) }
@@ -28,7 +28,7 @@ pub fn volume_of(meaning: &Meaning, id: u32) -> Result<&Volume, ReadError>
     meaning.get(id).ok_or(ReadError::NoVolume)
 }
 
-/// The share of a static text that stands in a logical eraseblock of so many bytes. None where the text ends before it.
+/// The share of a static volume's contents that stands in a logical eraseblock of `size` bytes. `None` if the contents end before it.
 fn share_of(text: &[u8], size: u32, lnum: u32) -> Option<&[u8]>
     requires { 1 ≤ size }
     ensures inside { MatchOption result (pieces size (length text.now) ≤ lnum) (λ _. lnum < pieces size (length text.now)) }
@@ -42,11 +42,11 @@ fn share_of(text: &[u8], size: u32, lnum: u32) -> Option<&[u8]>
     Some(&rest[..rest.len().min(size as usize)])
 }
 
-/// What a logical eraseblock of a volume reads, where bytes are kept of it. None where it reads 0xFF throughout.
+/// What a logical eraseblock of a volume reads, if bytes are kept of it. `None` if it reads 0xFF throughout.
 ///
 /// # Errors
 ///
-/// `Updating` and `Damaged` where the volume is, then `OutOfRange`.
+/// `Updating` or `Damaged` if the volume is, then `OutOfRange`.
 fn leb_of<'a>(
     geometry: &Geometry,
     volume: &'a Volume,
@@ -76,15 +76,15 @@ fn leb_of<'a>(
     }
 }
 
-/// Reads a logical eraseblock of a volume into the front of `out`, and gives how many bytes that are; what stands behind
-/// them stays. Of a dynamic volume they are as many as the volume uses, of a static one its share of the text.
+/// Reads a logical eraseblock of a volume into the front of `out`, and returns how many bytes that is; what stands after
+/// them stays. For a dynamic volume they are as many as the volume uses, for a static one its share of the contents.
 ///
 /// `out` has to have room for a logical eraseblock.
 ///
 /// # Errors
 ///
-/// The first of these that stands, with `out` as it was: `NoVolume`, `Updating`, `Damaged`, and `OutOfRange` where a
-/// dynamic volume doesn't reserve it or a static text ends before it.
+/// The first of these that applies, with `out` as it was: `NoVolume`, `Updating`, `Damaged`, and `OutOfRange` if a
+/// dynamic volume doesn't reserve it or a static volume's contents end before it.
 pub fn read_leb(meaning: &Meaning, id: u32, lnum: u32, out: &mut [u8]) -> Result<usize, ReadError>
     requires { leb_size meaning.now.sizes ≤ length out.old }
     ensures read { IfOk result (IsLebRead meaning.now id lnum out.old out.new) }
@@ -110,7 +110,7 @@ pub fn read_leb(meaning: &Meaning, id: u32, lnum: u32, out: &mut [u8]) -> Result
 ///
 /// # Errors
 ///
-/// The first of these that stands: `NoVolume`, `Updating`, `Damaged`.
+/// The first of these that applies: `NoVolume`, `Updating`, `Damaged`.
 pub fn volume_len(meaning: &Meaning, id: u32) -> Result<u64, ReadError>
     ensures { result ≡ volume_len meaning.now id }
 {

@@ -1,4 +1,4 @@
-//! A survey of an image, which copies no contents: its winners against their records, and the states of its eraseblocks.
+//! A survey of an image, which copies no contents: it compares winners with their records, and finds the states of the eraseblocks.
 
 ghost use Rattle.std.specs.FinMap as finite;
 ghost use Rattle.std.specs.Prelude.{◌≡◌, ◌<◌, IfErr, IfOk, Some, length, slice_get, ◌↔◌, ℕ, IsTrue, List, OnOk, None};
@@ -27,7 +27,7 @@ use ubi_scan::{
 };
 use ubi_table::{Table, choose_from};
 
-/// What is known of an image without what its volumes read.
+/// What is known of an image, except what its volumes read.
 #[derive(Drop)]
 pub struct Surveyed {
     pub(crate) scan: Scan,
@@ -60,14 +60,14 @@ impl Surveyed {
         &self.scan
     }
 
-    /// What is said of each eraseblock, by rising number.
+    /// The state of each eraseblock, in ascending order.
     pub fn states(&self) -> &[BlockState]
         ensures { result.now ≡ self.now.states }
     {
         self.states.as_slice()
     }
 
-    /// What is said of an eraseblock.
+    /// The state of an eraseblock.
     pub fn state(&self, p: u32) -> BlockState
         requires { p < length self.now.states }
         ensures { slice_get self.now.states p ≡ Some result }
@@ -75,7 +75,7 @@ impl Surveyed {
         self.states[p as usize]
     }
 
-    /// The eraseblock that wins a logical eraseblock of a volume, None where it has no member.
+    /// The eraseblock that wins a logical eraseblock of a volume, `None` if that has no member.
     pub fn winner(&self, vol: u32, lnum: u32) -> Option<u32>
         ensures { result ≡ finite.get self.now.scan.winners (vol, lnum) }
     {
@@ -96,7 +96,7 @@ impl Surveyed {
         self.scan.image_seq()
     }
 
-    /// The number of carriers: of the eraseblocks whose erase-counter header can be read and has an image sequence number
+    /// The number of carriers: the eraseblocks whose erase-counter header can be read and has an image sequence number
     /// that isn't zero.
     pub fn carriers(&self) -> u32
         ensures { result ≡ self.now.scan.carriers }
@@ -112,7 +112,7 @@ impl Surveyed {
     }
 }
 
-/// Surveys the image of a source: finds the state of each of its eraseblocks, without what its volumes read.
+/// Surveys the image of a source: finds its table and the state of each of its eraseblocks, without what its volumes read.
 ///
 /// # Errors
 ///
@@ -137,7 +137,7 @@ pub fn survey_from<S: BlockSource>(
     })
 }
 
-/// Surveys an image: finds the state of each of its eraseblocks, without what its volumes read.
+/// Surveys an image: finds its table and the state of each of its eraseblocks, without what its volumes read.
 ///
 /// # Errors
 ///
@@ -168,7 +168,7 @@ fn is_outside(table: &Table, vol: u32, lnum: u32) -> bool
     }
 }
 
-/// The state of a member of a logical eraseblock, by whether it wins that.
+/// The state of a member of a logical eraseblock, by whether it wins.
 fn member_state(table: &Table, leb: Leb, wins: bool) -> BlockState
     ensures { MemberStateIs table.now leb wins result }
 {
@@ -224,7 +224,7 @@ pub fn states_of(
     Ok(states)
 }
 
-/// What is kept of the header of a winner.
+/// What a scan keeps of the header of a winner.
 fn header_in(state: ScanState) -> Option<MemberHeader>
     ensures { result ≡ header_in state }
 {
@@ -234,7 +234,7 @@ fn header_in(state: ScanState) -> Option<MemberHeader>
     }
 }
 
-/// What is kept of the header of an eraseblock that wins its logical eraseblock. None where it wins none.
+/// What a scan keeps of the header of an eraseblock that wins its logical eraseblock. `None` if it wins none.
 fn winner_header(scan: &Scan, p: u32) -> Option<MemberHeader>
     requires { p < length scan.now.states }
     ensures { (s : Sizes) (bs : List (List ℕ)) → IsScan s bs scan.now → WinnerHeaderIs s bs p result }
@@ -242,7 +242,7 @@ fn winner_header(scan: &Scan, p: u32) -> Option<MemberHeader>
     header_in(scan.state(p))
 }
 
-/// Whether an eraseblock is a winner that counts for a volume without update marker, and is unlike its record.
+/// Whether an eraseblock is a winner that counts for a volume without the update marker, and is unlike its record.
 fn is_mismatched(geometry: &Geometry, scan: &Scan, table: &Table, p: u32) -> bool
     requires sizes { table.now.sizes ≡ geometry.now }
     requires inside { p < length scan.now.states }
@@ -283,7 +283,7 @@ pub struct Checked {
     pub scan: Scan,
     /// The volume table.
     pub table: Table,
-    /// The eraseblocks.
+    /// The number of eraseblocks.
     pub count: u32,
 }
 
@@ -313,7 +313,7 @@ pub fn checked_from<S: BlockSource>(
     Ok(Checked { scan, table, count })
 }
 
-/// Whether a logical eraseblock is within its volume. Of a static volume each is.
+/// Whether a logical eraseblock is within its volume. Each one of a static volume is.
 pub fn is_within(entry: &VolumeRecord, lnum: u32) -> bool
     ensures { IsTrue result ↔ IsWithin entry.now lnum }
 {
@@ -331,7 +331,7 @@ fn is_unlike(geometry: &Geometry, entry: &VolumeRecord, header: &MemberHeader) -
     header.kind != entry.kind || header.data_pad != entry.data_pad(geometry)
 }
 
-/// Whether the header of a winner counts for a volume without update marker, and is unlike its record.
+/// Whether the header of a winner counts for a volume without the update marker, and is unlike its record.
 fn disagrees(geometry: &Geometry, entry: &VolumeRecord, header: &MemberHeader) -> bool
     requires { rec_fault geometry.now entry.now ≡ None }
     ensures { IsTrue result ↔ Disagrees geometry.now entry.now header.now }

@@ -32,7 +32,7 @@ fn write_leb<W: Write>(writer: &mut W, size: u32, kept: Option<&Bytes>) -> Resul
     }
 }
 
-/// Writes what a dynamic volume reads, and gives how many bytes that are.
+/// Writes what a dynamic volume reads, and returns how many bytes that is.
 ///
 /// # Errors
 ///
@@ -53,11 +53,11 @@ fn write_lebs<W: Write>(writer: &mut W, lebs: &Lebs, reserved: u32, size: u32) -
     Ok(u64::from(reserved) * u64::from(size))
 }
 
-/// Writes what a volume reads, and gives how many bytes that are. It takes no memory of its own.
+/// Writes what a volume reads, and returns how many bytes that is. It allocates no memory of its own.
 ///
 /// # Errors
 ///
-/// The first of these that stands: `NoVolume`, `Updating`, `Damaged`; nothing is written then. `Write` where a write
+/// The first of these that applies: `NoVolume`, `Updating`, `Damaged`; then nothing is written. `Write` if a write
 /// failed, with how many bytes were written before. No write is tried again.
 pub fn write_volume<W: Write>(meaning: &Meaning, id: u32, writer: &mut W) -> Result<u64, ReadError>
     ensures written { IfOk result (IsWritten meaning.now id (W.contents writer.old) (W.contents writer.new)) }
@@ -82,7 +82,7 @@ pub fn write_volume<W: Write>(meaning: &Meaning, id: u32, writer: &mut W) -> Res
 ///
 /// # Errors
 ///
-/// The first of these that stands: `NoVolume`, `Updating`, `Damaged`. `Memory` where none does and it ran out.
+/// The first of these that applies: `NoVolume`, `Updating`, `Damaged`. `Memory` if none does and memory ran out.
 pub fn read_volume(alloc: Global, meaning: &Meaning, id: u32) -> Result<Vec<u8>, ReadError>
     ensures read { IfOk result (λ text. read_volume meaning.now id ≡ Ok text.items) }
     ensures refused { IfErr result (IsReadError meaning.now id) }
@@ -120,7 +120,7 @@ pub fn write_all<W: Write>(writer: &mut W, bytes: &[u8]) -> Result<(), usize>
     Ok(())
 }
 
-/// Writes so many bytes 0xFF.
+/// Writes `len` bytes 0xFF.
 ///
 /// # Errors
 ///

@@ -12,7 +12,7 @@ fn place_of(text: &[u8], at: u8) -> Option<usize>
     text.iter().position(|byte| *byte == at)
 }
 
-/// What stands before the first byte `at`, and what follows it where there is one.
+/// What stands before the first byte `at`, and what follows it, if there is one.
 pub fn cut(text: &[u8], at: u8) -> (&[u8], Option<&[u8]>)
     ensures pieces { slice_split (λ b. b == at) text.now ≡ result.0.now ∷ option_map_or (λ rest. slice_split (λ b. b == at) rest.now) result.1 [] }
     ensures shorter { IfSome result.1 (λ rest. length rest.now < length text.now) }

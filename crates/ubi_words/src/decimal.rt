@@ -3,7 +3,7 @@
 ghost use Rattle.std.specs.Prelude.{◌≡◌, ◌≤◌, IfSome};
 ghost use Rattle.ubi_words.specs.Words.{decimal_within, most_number, number_within};
 
-/// The number that decimal digits write. None where another byte stands among them, or where it is above the largest.
+/// The number that decimal digits stand for. `None` if one of the bytes isn't a digit, or if the number is above `largest`.
 pub fn decimal_within(largest: u64, digits: &[u8]) -> Option<u64>
     ensures value { result ≡ decimal_within largest digits.now }
     ensures within { IfSome result (λ n. n ≤ largest) }
@@ -22,7 +22,7 @@ pub fn decimal_within(largest: u64, digits: &[u8]) -> Option<u64>
     Some(value)
 }
 
-/// The number that decimal digits write. None where another byte stands among them, or where it is above 4294967295.
+/// The number that decimal digits stand for. `None` if one of the bytes isn't a digit, or if the number is above 4294967295.
 pub fn decimal_of(digits: &[u8]) -> Option<u32>
     ensures { result ≡ decimal_within most_number digits.now }
 {
@@ -30,8 +30,8 @@ pub fn decimal_of(digits: &[u8]) -> Option<u32>
     Some(number as u32)
 }
 
-/// The number that a word writes in decimal digits, without leading zeros. None where it isn't one, or is above the
-/// largest.
+/// The number that a word stands for in decimal digits, without leading zeros. `None` if it isn't one, or is above
+/// `largest`.
 #[tactic(auto, unfolding(crate::specs::Words::number_within, crate::specs::Words::is_number))]
 pub fn number_within(largest: u64, word: &[u8]) -> Option<u64>
     ensures value { result ≡ number_within largest word.now }
@@ -43,8 +43,8 @@ pub fn number_within(largest: u64, word: &[u8]) -> Option<u64>
     decimal_within(largest, word)
 }
 
-/// The number that a word writes in decimal digits, without leading zeros. None where it isn't one, or is above
-/// 4294967295.
+/// The number that a word stands for in decimal digits, without leading zeros. `None` if it isn't one, or is
+/// above 4294967295.
 pub fn number_of(word: &[u8]) -> Option<u32>
     ensures { result ≡ number_within most_number word.now }
 {

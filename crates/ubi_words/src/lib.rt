@@ -1,4 +1,4 @@
-//! Words of a text: where bytes are cut, and the numbers that decimal digits write.
+//! Words of a text: where bytes are cut, and the numbers that decimal digits stand for.
 //!
 //! The config, the composer's text and the words of a command line are read with them.
 //!

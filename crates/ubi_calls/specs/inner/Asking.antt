@@ -1,4 +1,4 @@
--- What is answered to a question of images of one geometry.
+-- What is answered to a question about images of one geometry.
 use Rattle.ubi_media.specs.Geometry.{Sizes}
 use Rattle.ubi_scan.specs.Image.{image_of}
 use Rattle.ubi_files.specs.declared.outcome.Outcome.{Outcome}
@@ -11,7 +11,7 @@ use Rattle.ubi_commands.specs.declared.format.Format.TheVariants as format
 use Rattle.ubi_calls.specs.declared.lines.Question.{Question}
 use Rattle.ubi_calls.specs.declared.lines.Question.TheVariants as question
 
--- what a command answers of them
+-- what a command answers to the question
 abbrev pub answers : Question → Sizes → Outcome → Type 0
 answers (question.Check image) s = Checks format.Text (image_of s image.now)
 answers (question.List image) s = Lists format.Text (image_of s image.now)

@@ -1,4 +1,4 @@
--- What is told of an edit, and handed over of its plan.
+-- What is answered for an edit, and handed over of its plan.
 use Rattle.std.specs.Prelude.{◌≡◌, ◌==◌, ℕ, List, [], Result, Ok, Err, if◌then◌else◌, length}
 use Rattle.std.specs.declared.alloc.AllocError.{AllocError}
 use Rattle.ubi_scan.specs.Image.{Image}
@@ -9,16 +9,16 @@ use Rattle.ubi_calls.specs.inner.Handing.{Leaves, LeavesNothing}
 use Rattle.ubi_calls.specs.declared.plans.Edit.{Edit}
 use Rattle.ubi_calls.specs.declared.plans.Edit.TheVariants as edit
 
--- what is told of it, with its pages
+-- what is answered for an edit, with its pages
 abbrev pub plans : Edit → Image → List ℕ → Told
 plans (edit.Change new) image = PlansChange image new.id new.lnum new.bytes.now
 plans (edit.Rename id word) image = PlansRename image id word.now
 
--- the pages of a plan, of which there are none where the status isn't 0
+-- the pages of a plan, of which there are none if the status isn't 0
 abbrev pub given_pages : ℕ → List ℕ → List ℕ
 given_pages status pages = if status == 0 then pages else []
 
--- what is printed of an outcome, if there is one, and the pages
+-- what is printed for an outcome, if there is one, and the pages
 abbrev pub HandsPlan : Result Outcome AllocError → List ℕ → List ℕ → List ℕ → ℕ → List ℕ → List ℕ → ℕ → ℕ → Type 0
 HandsPlan (Ok o) pages old new len old_pages new_pages pages_len result =
     Leaves o.text.items o.status old new len result × (new_pages ≡ put (given_pages o.status pages) old_pages)

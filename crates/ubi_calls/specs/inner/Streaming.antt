@@ -10,17 +10,17 @@ use Rattle.ubi_calls.specs.Contents.{Normal, Reads}
 use Rattle.ubi_calls.specs.declared.streams.Content.{Content}
 use Rattle.ubi_calls.specs.declared.streams.Content.TheVariants as content
 
--- what is told of them
+-- what is answered for the bytes that are asked for
 abbrev pub wanted : Content → Image → Told
 wanted (content.Volume id) image = Reads image id
 wanted content.Normal image = Normal image
 
--- all was written, or nothing, and the outcome has the line that is told
+-- all was written, or nothing, and the outcome has the line that is answered
 pub data Writes (told : Told) (old new : Option (List ℕ)) (o : Outcome) : Type 0 where
   wrote : (bytes : List ℕ) → told bytes 0 → o.status ≡ 0 → Appends old new bytes → Writes told old new o
   said : told o.text.items 1 → o.status ≡ 1 → Keeps old new → Writes told old new o
 
--- why neither is so: memory ran out, and nothing was written, or a write failed, and only the first bytes were
+-- why neither is so: memory ran out, and nothing was written; or a write failed, and only the first bytes were
 abbrev pub IsUnwritten : Told → Option (List ℕ) → Option (List ℕ) → ToolError → Type 0
 IsUnwritten told old new tool.Memory = Keeps old new
 IsUnwritten told old new tool.Read = ⊥

@@ -1,4 +1,4 @@
--- What private functions give on the way to the plan of a change.
+-- What private functions find on the way to the plan of a change.
 use Rattle.std.specs.Prelude.{◌≡◌, ℕ, ◌+◌, ◌<◌, ◌≤◌, ◌⊎◌, not, List, [], ◌∷◌, ◌++◌, length, nat_lt, Option, Some, None, IfSome, option_map}
 use Rattle.std.specs.Bool.{then_some}
 use Rattle.std.specs.FinMap.{empty, get}
@@ -33,11 +33,11 @@ use Rattle.ubi_change.specs.declared.refusal.ChangeRefusal.TheVariants as refusa
 use Rattle.ubi_change.specs.declared.step.Step.{Step}
 use Rattle.ubi_change.specs.declared.taking.FirstTwo.{FirstTwo}
 
--- what an attach shows of an image that is surveyed, but for the volumes that it means: the steps don't depend on them
+-- what attaching shows of an image that is surveyed, except the volumes that it means: the steps don't depend on them
 abbrev pub shown : Seen → Whole
 shown v = record { meaning = record { sizes = v.records.sizes; image_seq = v.scan.image_seq; volumes = empty }; scan = v.scan; states = v.states }
 
--- the causes that an image has no part in, each where it stands
+-- the causes that don't depend on the image, each if it applies
 abbrev pub own_causes : Sizes → VolumeRecord → ℕ → List ℕ → List (Option ChangeRefusal)
 own_causes s r lnum new =
     then_some (is_static r.kind) refusal.StaticVolume
@@ -47,7 +47,7 @@ own_causes s r lnum new =
     ∷ option_map refusal.WeakCheck (weak_place s new)
     ∷ []
 
--- those that depend on which eraseblocks can be taken
+-- the causes that depend on which eraseblocks can be taken
 abbrev pub image_causes : Sizes → List (List ℕ) → Whole → ℕ → ℕ → List (Option ChangeRefusal)
 image_causes s bs a id lnum =
     then_some (nat_lt 0xFFFFFFFFFFFFFFFF (a.scan.top_sqnum + needs s bs a id lnum)) refusal.Exhausted
@@ -59,7 +59,7 @@ pub record IsPrepared (s : Sizes) (k : Source) (agrees : Agreed) (av : Avoided) 
   pub ground : IsGroundOf s k agrees av p.ground
   pub winner : IsSiteAt s k agrees (states_avoiding av p.ground.surveyed.states) (get p.ground.surveyed.scan.winners (id, lnum)) p.winner
 
--- and what holds of it whatever is held
+-- what holds for what was read, whatever the source holds
 pub record FitsPrepared (s : Sizes) (p : Prepared) : Type 0 where
   pub sizes : p.ground.surveyed.records.sizes ≡ s
   pub mean : p.ground.surveyed.scan.mean_ec ≤ 0x7FFFFFFF
@@ -67,7 +67,7 @@ pub record FitsPrepared (s : Sizes) (p : Prepared) : Type 0 where
   pub first : IfSome p.ground.taken.first (FitsIn (length p.ground.surveyed.states))
   pub second : IfSome p.ground.taken.second (FitsIn (length p.ground.surveyed.states))
 
--- the LEB that is to be changed: its volume has a record, and no cause stands that the image has no part in
+-- the LEB that is to be changed: its volume has a record, and no cause applies that doesn't depend on the image
 pub record IsTarget (s : Sizes) (t : Records) (id lnum : ℕ) (new : List ℕ) (target : Target) : Type 0 where
   pub entry : VolumeRecord
   pub there : get t.of id ≡ Some entry
@@ -75,7 +75,7 @@ pub record IsTarget (s : Sizes) (t : Records) (id lnum : ℕ) (new : List ℕ) (
   pub free : first_of (own_causes s entry lnum new) ≡ None
   pub is : target ≡ record { id = id; lnum = lnum; compat = 0; data_pad = data_pad s entry }
 
--- why there is none: its volume has no record, or the first of these causes that stands
+-- why there is no such LEB: its volume has no record, or the first of these causes that applies
 abbrev pub IsTargetRefusal : Sizes → Records → ℕ → ℕ → List ℕ → ChangeRefusal → Type 0
 IsTargetRefusal s t id lnum new c =
     ((get t.of id ≡ None) × (c ≡ refusal.NoVolume))
@@ -86,7 +86,7 @@ abbrev pub needed : Option Site → ℕ
 needed (Some old) = 1
 needed None = 2
 
--- the eraseblocks that a plan works on: the winner if the LEB has one, and those that are taken
+-- the eraseblocks that a plan works on: the winner, if the LEB has one, and those that are taken
 abbrev pub AreSites : Found → Option Site → FirstTwo → OnSites → Type 0
 AreSites scan winner taken (on.Mapped copy old) =
     (winner ≡ Some old) × (taken.first ≡ Some copy) × (scan.top_sqnum + 1 ≤ 0xFFFFFFFFFFFFFFFF)
@@ -97,14 +97,14 @@ AreSites scan winner taken (on.Unmapped first copy) =
 abbrev pub IsTooFew : Option Site → FirstTwo → Type 0
 IsTooFew winner taken = (taken.first ≡ None) ⊎ ((winner ≡ None) × (taken.second ≡ None))
 
--- why there are none
+-- why there are no such eraseblocks
 abbrev pub IsSitesRefusal : Found → Option Site → FirstTwo → ChangeRefusal → Type 0
 IsSitesRefusal scan winner taken refusal.Exhausted = 0xFFFFFFFFFFFFFFFF < scan.top_sqnum + needed winner
 IsSitesRefusal scan winner taken refusal.NoFree =
     (scan.top_sqnum + needed winner ≤ 0xFFFFFFFFFFFFFFFF) × IsTooFew winner taken
 IsSitesRefusal scan winner taken _ = ⊥
 
--- what is needed to write the steps: counters of 31 bits, and sequence numbers of 64
+-- what is needed to write the steps: erase counters of 31 bits, and sequence numbers of 64
 abbrev pub HasRoom : Found → OnSites → Type 0
 HasRoom scan (on.Mapped copy old) = HasCounter copy × HasCounter old × (scan.top_sqnum + 1 ≤ 0xFFFFFFFFFFFFFFFF)
 HasRoom scan (on.Unmapped first copy) = HasCounter first × HasCounter copy × (scan.top_sqnum + 2 ≤ 0xFFFFFFFFFFFFFFFF)
@@ -119,14 +119,14 @@ module _ (s : Sizes) (scan : Found) (t : Target) (new : List ℕ) where
   mapped_steps copy old =
       copy_on s scan copy (copy_header t.compat t.data_pad t.id t.lnum (scan.top_sqnum + 1) new) new old old.ec
 
-  -- and for one without
+  -- the steps for a LEB without a winner
   abbrev pub unmapped_steps : Site → Site → List Step
   unmapped_steps first copy =
       mount_on s scan first (blank_header t.data_pad t.id t.lnum (scan.top_sqnum + 1))
       ++ copy_on s scan copy (copy_header t.compat t.data_pad t.id t.lnum (scan.top_sqnum + 2) new) new first
       (ready_on scan first)
 
-  -- the steps of either
+  -- the steps for a LEB with or without a winner
   abbrev pub steps_on : OnSites → List Step
   steps_on (on.Mapped copy old) = mapped_steps copy old
   steps_on (on.Unmapped first copy) = unmapped_steps first copy
@@ -139,7 +139,7 @@ pub record AreStepsOf (s : Sizes) (p : Prepared) (id lnum : ℕ) (new : List ℕ
   pub are : AreSites p.ground.surveyed.scan p.winner p.ground.taken sites
   pub is : steps ≡ steps_on s p.ground.surveyed.scan target new sites
 
--- why there are none: memory ran out, or the first cause that stands
+-- why there are no steps: memory ran out, or the first cause that applies
 abbrev pub IsUnplanned : Sizes → Prepared → ℕ → ℕ → List ℕ → ChangeRefusal → Type 0
 IsUnplanned s p id lnum new c =
     (c ≡ refusal.Memory)
@@ -152,7 +152,7 @@ abbrev pub IsNoWrite : StreamError → Type 0
 IsNoWrite (stream.Write _) = ⊥
 IsNoWrite _ = Unit {0}
 
--- what such an error says of a plan
+-- what such an error says about a plan
 abbrev pub from_stream : StreamError → PlanError ChangeRefusal
 from_stream (stream.Refused c) = plan.Refused (refusal.Attach c)
 from_stream (stream.Read p written) = plan.Read p

@@ -1,4 +1,4 @@
--- What private functions give on the way to the plan of a rename.
+-- What private functions find on the way to the plan of a rename.
 use Rattle.std.specs.Prelude.{◌≡◌, ◌≢◌, ℕ, ◌+◌, ◌<◌, ◌≤◌, ◌⊎◌, ◌==◌, ◌&&◌, not, true, false, List, ◌++◌, Option, Some, None, IfSome, IsSome, find, length}
 use Rattle.std.specs.FinMap.{get}
 use Rattle.ubi_media.specs.Fields.{AreBytes, same_bytes}
@@ -33,13 +33,13 @@ use Rattle.ubi_change.specs.declared.taking.FirstTwo.{FirstTwo}
 abbrev pub other_named : ℕ → List ℕ → List (ℕ × VolumeRecord) → Option (ℕ × VolumeRecord)
 other_named id name es = find (λ e. not (e.0 == id) && same_bytes e.1.name name) es
 
--- a volume of a table may get the name, for what the table says
+-- a volume of a table may get the name, as far as the table says
 pub record IsNamable (t : Records) (id : ℕ) (name : List ℕ) : Type 0 where
   pub there : IsSome (get t.of id)
   pub named : is_name name ≡ true
   pub free : IsFreeName t id name
 
--- why it may not, where the causes before don't stand; or memory ran out
+-- why it may not, if the causes before don't apply; or memory ran out
 abbrev pub IsNamingRefusal : Records → ℕ → List ℕ → RenameRefusal → Type 0
 IsNamingRefusal t id name refusal.Memory = Unit {0}
 IsNamingRefusal t id name refusal.NoVolume = get t.of id ≡ None
@@ -54,7 +54,7 @@ pub record BothFit (n : ℕ) (two : Holders) : Type 0 where
   pub first : FitsIn n two.first
   pub second : FitsIn n two.second
 
--- the eraseblocks that hold the copies of these eraseblocks, both of which are good; without them, they aren't
+-- the eraseblocks that hold the copies of these eraseblocks, both of which are good; there are none if they aren't
 abbrev pub AreHolders : Sizes → List (List ℕ) → Avoided → Seen → Option Holders → Type 0
 AreHolders s bs av seen None = (t : Records) → BothGood s bs t → ⊥
 AreHolders s bs av seen (Some two) =
@@ -62,7 +62,7 @@ AreHolders s bs av seen (Some two) =
     × ((p : ℕ) × (get seen.scan.winners (layout, 0) ≡ Some p) × (two.first ≡ site_at s bs (states_avoiding av seen.states) p))
     × ((p : ℕ) × (get seen.scan.winners (layout, 1) ≡ Some p) × (two.second ≡ site_at s bs (states_avoiding av seen.states) p))
 
--- and of a source: they lie in it, and hold the copies of whatever it may hold
+-- the eraseblocks of a source that hold the copies: they lie in it, and hold the copies of whatever it may hold
 pub record AreHoldersOf (s : Sizes) (k : Source) (agrees : Agreed) (av : Avoided) (seen : Seen) (o : Option Holders) : Type 0 where
   pub fits : IfSome o (BothFit (blocks_in s k))
   pub held : WhereHeld agrees (λ bytes. AreHolders s (blocks_of s bytes) av seen o)
@@ -72,27 +72,27 @@ pub record IsRenamable (s : Sizes) (k : Source) (agrees : Agreed) (av : Avoided)
   pub ground : IsGroundOf s k agrees av r.ground
   pub holders : AreHoldersOf s k agrees av r.ground.surveyed r.holders
 
--- and what holds of it whatever is held
+-- what holds for what was read, whatever the source holds
 pub record FitsRenamable (s : Sizes) (r : Renamable) : Type 0 where
   pub sizes : r.ground.surveyed.records.sizes ≡ s
   pub holders : IfSome r.holders (BothFit (length r.ground.surveyed.states))
   pub first : IfSome r.ground.taken.first (FitsIn (length r.ground.surveyed.states))
   pub second : IfSome r.ground.taken.second (FitsIn (length r.ground.surveyed.states))
 
--- the two eraseblocks that are taken, where two sequence numbers are left
+-- the two eraseblocks that are taken, if two sequence numbers are left
 pub record AreSpares (scan : Found) (taken : FirstTwo) (two : Spares) : Type 0 where
   pub first : taken.first ≡ Some two.first
   pub second : taken.second ≡ Some two.second
   pub few : scan.top_sqnum + 2 ≤ 0xFFFFFFFFFFFFFFFF
 
--- what isn't left of these
+-- which of these aren't left
 abbrev pub IsSparesRefusal : Found → FirstTwo → RenameRefusal → Type 0
 IsSparesRefusal scan taken refusal.Exhausted = 0xFFFFFFFFFFFFFFFF < scan.top_sqnum + 2
 IsSparesRefusal scan taken refusal.NoFree =
     (scan.top_sqnum + 2 ≤ 0xFFFFFFFFFFFFFFFF) × ((taken.first ≡ None) ⊎ (taken.second ≡ None))
 IsSparesRefusal scan taken _ = ⊥
 
--- what is needed to write the steps: counters of 31 bits, and sequence numbers of 64
+-- what is needed to write the steps: erase counters of 31 bits, and sequence numbers of 64
 pub record CopiesHaveRoom (scan : Found) (old : Holders) (two : Spares) : Type 0 where
   pub first : HasCounter old.first
   pub second : HasCounter old.second
@@ -100,7 +100,7 @@ pub record CopiesHaveRoom (scan : Found) (old : Holders) (two : Spares) : Type 0
   pub second_spare : HasCounter two.second
   pub few : scan.top_sqnum + 2 ≤ 0xFFFFFFFFFFFFFFFF
 
--- the steps that write these pages on the spares, each time followed by the erase of a holder
+-- the steps that write these pages to the spares, each time followed by the erase of a holder
 abbrev pub two_copies : Sizes → Found → Holders → Spares → List ℕ → List Step
 two_copies s scan old two new =
     copy_on s scan two.first (layout_header 0 (scan.top_sqnum + 1) new) new old.first old.first.ec
@@ -121,7 +121,7 @@ pub record AreCopiesOf (s : Sizes) (r : Renamable) (id : ℕ) (name : List ℕ) 
   pub bytes : AreBytes (pages_for s r id name)
   pub is : steps ≡ two_copies s r.ground.surveyed.scan old two (pages_for s r id name)
 
--- why there are none: memory ran out, or the first cause that stands
+-- why there are no steps: memory ran out, or the first cause that applies
 abbrev pub IsUnrenamed : Sizes → Renamable → ℕ → List ℕ → RenameRefusal → Type 0
 IsUnrenamed s r id name c =
     IsNamingRefusal r.ground.surveyed.records id name c
@@ -132,7 +132,7 @@ IsUnrenamed s r id name c =
     ⊎ ((weak_place s (pages_for s r id name) ≡ None)
     × (IsSparesRefusal r.ground.surveyed.scan r.ground.taken c ⊎ (c ≡ refusal.Memory)))))))
 
--- what an error of a call that writes nothing says of a plan
+-- what an error of a call that writes nothing says about a plan
 abbrev pub from_stream : StreamError → PlanError RenameRefusal
 from_stream (stream.Refused c) = plan.Refused (refusal.Attach c)
 from_stream (stream.Read p written) = plan.Read p

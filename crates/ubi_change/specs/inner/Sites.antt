@@ -1,4 +1,4 @@
--- What a plan has to know of an eraseblock, and the parts of a plan by that.
+-- What a plan has to know of an eraseblock, and the parts of a plan, given that.
 use Rattle.std.specs.Prelude.{◌≡◌, ℕ, ◌<◌, ◌≤◌, ◌==◌, ◌&&◌, ◌||◌, Bool, not, if◌then◌else◌, List, [], ◌∷◌, ◌++◌, drop, length, Option, Some, IfSome, option_map}
 use Rattle.std.specs.Option.{option_map_or}
 use Rattle.ubi_media.specs.Ec.{ec_bytes}
@@ -15,11 +15,11 @@ use Rattle.ubi_change.specs.Takeable.{ec_at, is_clean, is_free, is_worn}
 use Rattle.ubi_change.specs.declared.site.Site.{Site}
 use Rattle.ubi_change.specs.declared.step.Step.{Step}
 
--- what is to be known of p
+-- what has to be known of p
 abbrev pub site_at : Sizes → List (List ℕ) → List BlockState → ℕ → Site
 site_at s bs states p = record { pnum = p; ec_area = ec_area (block bs p); ec = ec_at s bs p; is_clean = is_clean s bs states p }
 
--- and of p in this state
+-- what has to be known of p in this state
 abbrev pub site_in : Sizes → List (List ℕ) → ℕ → BlockState → Site
 site_in s bs p st =
     record { pnum = p; ec_area = ec_area (block bs p); ec = ec_at s bs p; is_clean = is_free st && is_blank (drop 64 (block bs p)) }
@@ -28,7 +28,7 @@ site_in s bs p st =
 abbrev pub HasCounter : Site → Type 0
 HasCounter t = IfSome t.ec (λ h. h.counter ≤ 0x7FFFFFFF)
 
--- whatever is held: it is one of n eraseblocks, and its header has 64 bytes
+-- the site is one of n eraseblocks, and its header has 64 bytes, whatever is held
 pub record FitsIn (n : ℕ) (t : Site) : Type 0 where
   pub inside : t.pnum < n
   pub area : length t.ec_area ≡ 64
@@ -45,29 +45,29 @@ pub record IsSiteAt (s : Sizes) (k : Source) (agrees : Agreed) (states : List Bl
   pub fits : IfSome t (FitsIn (blocks_in s k))
   pub held : WhereHeld agrees (λ bytes. t ≡ option_map (site_at s (blocks_of s bytes) states) o)
 
--- whether it is the sole carrier of the image sequence number
+-- whether the site is the sole carrier of the image sequence number
 abbrev pub is_sole_on : Found → Site → Bool
 is_sole_on scan t = not (option_map_or (λ h. h.image_seq) t.ec 0 == 0) && (scan.carriers == 1)
 
--- whether it, whose Valid erase-counter header is now this, is never erased
+-- whether the site, whose Valid erase-counter header is now this, is never erased
 abbrev pub stays_on : Found → Site → Option EcHeader → Bool
 stays_on scan t now = is_worn now || is_sole_on scan t
 
--- its erase-counter header once it is ready
+-- the erase-counter header of the site once it is ready
 abbrev pub ready_on : Found → Site → Option EcHeader
 ready_on scan t = if t.is_clean then t.ec else Some (next_ec scan t.ec)
 
 module _ (s : Sizes) (scan : Found) where
-  -- it is made ready and gets a volume-identifier header
+  -- the site is made ready and gets a volume-identifier header
   abbrev pub mount_on : Site → VidHeader → List Step
   mount_on t h =
       (if t.is_clean then [] else renew s t.pnum (next_ec scan t.ec))
       ++ program_header s t.pnum (if t.is_clean then t.ec_area else ec_bytes s (next_ec scan t.ec)) h ∷ []
 
-  -- an old winner, whose erase-counter header is now this, is erased, or left where it stays
+  -- an old winner, whose erase-counter header is now this, is erased, or left if it stays
   abbrev pub release_on : Site → Option EcHeader → List Step
   release_on t now = if stays_on scan t now then [] else renew s t.pnum (next_ec scan now)
 
-  -- a text is written on b under a header, and then the old winner of its LEB is erased
+  -- contents are written to b under a header, and then the old winner of its LEB is erased
   abbrev pub copy_on : Site → VidHeader → List ℕ → Site → Option EcHeader → List Step
   copy_on b h new old now = mount_on b h ++ program_text s b.pnum new ++ release_on old now

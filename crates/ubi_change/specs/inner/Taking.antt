@@ -19,27 +19,27 @@ use Rattle.ubi_change.specs.declared.taking.Parted.{Parted}
 abbrev pub first_two : List Site → FirstTwo
 first_two ts = record { first = slice_get ts 0; second = slice_get ts 1 }
 
--- those of one eraseblock more
+-- the first two eraseblocks with one more after them
 abbrev pub two_with : Option Site → Option Site → Site → FirstTwo
 two_with None second t = record { first = Some t; second = second }
 two_with (Some a) None t = record { first = Some a; second = Some t }
 two_with (Some a) (Some b) t = record { first = Some a; second = Some b }
 
--- the same of the first two
+-- the first two with one more after them, as a pair
 abbrev pub with_next : FirstTwo → Site → FirstTwo
 with_next two t = two_with two.first two.second t
 
--- those of some eraseblocks and then others
+-- the first two of some eraseblocks and then others
 abbrev pub two_joined : Option Site → Option Site → FirstTwo → FirstTwo
 two_joined None second others = others
 two_joined (Some a) None others = record { first = Some a; second = others.first }
 two_joined (Some a) (Some b) others = record { first = Some a; second = Some b }
 
--- the same of the first two of both
+-- the first two of both, as pairs
 abbrev pub joined : FirstTwo → FirstTwo → FirstTwo
 joined two others = two_joined two.first two.second others
 
--- the first two of both kinds, with one eraseblock more, if it may be taken
+-- the first two of both kinds, with one more eraseblock, if it may be taken
 abbrev pub parted_with : Parted → Option Site → Parted
 parted_with both None = both
 parted_with both (Some t) =
@@ -58,13 +58,13 @@ TakeableIs s bs states p t = t ≡ (if is_takeable s bs states p then Some (site
 abbrev pub first_taken : Sizes → List (List ℕ) → List BlockState → FirstTwo
 first_taken s bs states = first_two (map (site_at s bs states) (takeable s bs states))
 
--- both lie in the source, and they are these of whatever it may hold
+-- both lie in the source, and they are those that are taken, whatever it may hold
 pub record AreTaken (s : Sizes) (k : Source) (agrees : Agreed) (states : List BlockState) (two : FirstTwo) : Type 0 where
   pub first : IfSome two.first (FitsIn (blocks_in s k))
   pub second : IfSome two.second (FitsIn (blocks_in s k))
   pub held : WhereHeld agrees (λ bytes. two ≡ first_taken s (blocks_of s bytes) states)
 
--- a source that is surveyed, with the eraseblocks that may be taken where something is avoided
+-- a source that is surveyed, with the eraseblocks that may be taken when something is avoided
 pub record IsGroundOf (s : Sizes) (k : Source) (agrees : Agreed) (av : Avoided) (ground : Ground) : Type 0 where
   pub survey : IsSurveyOf s k agrees ground.surveyed
   pub taken : AreTaken s k agrees (states_avoiding av ground.surveyed.states) ground.taken
@@ -73,7 +73,7 @@ pub record IsGroundOf (s : Sizes) (k : Source) (agrees : Agreed) (av : Avoided) 
 abbrev pub SayBlank : List Bool → List BlockState → ℕ → Type 0
 SayBlank marks states n = (p : ℕ) → p < n → is_listed marks p ≡ true → IfSome (slice_get states p) (λ st. is_blank_one st ≡ true)
 
--- the lowest listed eraseblock that is there and isn't Blank, if there is one
+-- the lowest listed eraseblock that exists and isn't Blank, if there is one
 abbrev pub NotBlankIs : List Bool → List BlockState → Option ℕ → Type 0
 NotBlankIs marks states None = SayBlank marks states (length states)
 NotBlankIs marks states (Some p) =

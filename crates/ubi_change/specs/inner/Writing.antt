@@ -1,4 +1,4 @@
--- What is written of an image after steps, eraseblock by eraseblock.
+-- What is written of an image after the steps, eraseblock by eraseblock.
 use Rattle.std.specs.Prelude.{◌≡◌, ℕ, ◌==◌, if◌then◌else◌, List, fold, length, take}
 use Rattle.std.specs.List.{concat}
 use Rattle.ubi_media.specs.Geometry.{Sizes}
@@ -11,15 +11,15 @@ use Rattle.ubi_change.specs.declared.step.Step.{Step}
 abbrev pub block_step : Sizes → ℕ → List ℕ → Step → List ℕ
 block_step s p b next = if target next == p then block_after s b next else b
 
--- and after some steps
+-- the eraseblock p after some steps
 abbrev pub block_cut : Sizes → ℕ → List Step → List ℕ → List ℕ
 block_cut s p steps b = fold (block_step s p) b steps
 
--- the text is the eraseblock p of an image, after those of the steps that change it
+-- the bytes of the eraseblock p of an image, after those of the steps that change it
 abbrev pub block_text : Sizes → ℕ → List Step → List ℕ → List ℕ → Type 0
 block_text s p steps image text = text ≡ block_cut s p steps (block (blocks_of s image) p)
 
--- it is the first p eraseblocks of an image, which has n of them, after the steps
+-- the first p eraseblocks of an image, which has n of them, after the steps
 abbrev pub front_text : Sizes → ℕ → ℕ → List Step → List ℕ → List ℕ → Type 0
 front_text s n p steps image text =
     (length (blocks_of s image) ≡ n) × (text ≡ concat (take p (after s (blocks_of s image) steps (length steps))))

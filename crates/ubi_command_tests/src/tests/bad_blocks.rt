@@ -36,7 +36,7 @@ static LISTS: [(&str, &str); 16] = [
 /// Five torn eraseblocks.
 static FIVE_TORN: Contents = Contents::Pebs(&[TORN; 5], &[]);
 
-/// Asserts what `show` tells of each of five torn eraseblocks: one that is listed is blank.
+/// Asserts what `show` prints for each of five torn eraseblocks: one that is listed is blank.
 fn assert_listed(rt: &impl Abort, alloc: Global, word: &str, listed: &str) -> Result<(), Fail> {
     let image = FIVE_TORN.bytes(alloc)?;
     let files: (&[u8], &[u8]) = (image.as_slice(), &[]);
@@ -385,7 +385,7 @@ static PAGED: [Paged; 6] = [
 ];
 
 impl Paged {
-    /// What is written: the image after the steps, and behind it the pages, since the files gather what is written.
+    /// What is written: the image after the steps, and after it the pages, since the files gather what is written.
     fn written(&self, alloc: Global) -> Result<Vec<u8>, Fail> {
         let mut written = self.seen.bytes(alloc)?;
         for (at, bytes) in self.over {

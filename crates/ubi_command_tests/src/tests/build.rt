@@ -170,7 +170,7 @@ fn builds_of_files_or_tells_why_not(rt: HostRuntime) -> Result<(), Fail> {
     Ok(())
 }
 
-/// Configs of a static volume, what `new.bin` holds, and what `list` tells of the image that is built.
+/// Configs of a static volume, what `new.bin` holds, and what `list` prints for the image that is built.
 static STATIC: [(&[u8], Contents, (&str, u8)); 3] = [
     (
         b"[a]\nmode=ubi\nvol_id=0\nvol_name=root\nvol_type=static\nvol_flags=skip-check\nimage=new.bin\n",

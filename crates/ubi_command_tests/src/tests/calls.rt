@@ -210,7 +210,7 @@ static ANSWERED: [(Call, u32, (Contents, Contents), u32, Answer); 18] = [
     ),
 ];
 
-/// Whether a buffer has the first of some bytes, and the filler behind them.
+/// Whether a buffer has the first of some bytes, and the filler after them.
 fn is_filled(out: &[u8], bytes: &[u8]) -> bool {
     for (place, byte) in out.iter().enumerate() {
         if *byte != *bytes.get(place).unwrap_or(&FILLER) {

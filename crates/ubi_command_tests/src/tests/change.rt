@@ -56,8 +56,8 @@ const TWO_PAGES: Plan = Plan {
     last: &[],
 };
 
-/// The header of a copy of logical eraseblock 1 that is 128 bytes 0x61, by the format. Its checks were worked out by
-/// another program, as those of the other headers here.
+/// The header of a copy of logical eraseblock 1 that is 128 bytes 0x61, by the format. Another program worked out
+/// its CRCs, as those of the other headers here.
 const COPY_OF_128: &[u8] = b"UBI!\x01\x01\x01\0\
     \0\0\0\0\0\0\0\x01\0\0\0\0\0\0\0\x80\0\0\0\0\0\0\0\0\x0E\xD4\xC9\x73\
     \0\0\0\0\0\0\0\0\0\0\0\x01\0\0\0\0\0\0\0\0\0\0\0\0\xE2\x75\xA7\x9D";
@@ -65,7 +65,7 @@ const COPY_OF_128: &[u8] = b"UBI!\x01\x01\x01\0\
 /// A page of bytes 0x61.
 const PAGE_OF_61: Contents = Contents::Runs(&[(b"a", 64)]);
 
-/// It is changed by one page, so that the text has 64 bytes 0x61, and 0xFF behind them.
+/// It is changed by one page, so that the text has 64 bytes 0x61, and 0xFF after them.
 const ONE_PAGE: Plan = Plan {
     new: PAGE_OF_61,
     lines: CHANGED,
@@ -95,11 +95,11 @@ const ONE_PAGE_READ: &[Reading] = &[Reading {
     ),
 }];
 
-/// The turn comes with the last page that isn't blank.
+/// The commit point comes with the last page that isn't blank.
 static TURNS: [Plan; 5] = [
     TWO_PAGES,
     ONE_PAGE,
-    // The second page is blank, so that the first turns the image.
+    // The second page is blank, so the first is the commit point.
     Plan {
         new: Contents::Runs(&[(b"a", 64), (b"\xFF", 64)]),
         turn: 2,
@@ -107,7 +107,7 @@ static TURNS: [Plan; 5] = [
         readings: ONE_PAGE_READ,
         ..TWO_PAGES
     },
-    // All is blank, so that the header turns it.
+    // All is blank, so the header is the commit point.
     Plan {
         new: Contents::Runs(&[(b"\xFF", 64)]),
         turn: 1,
@@ -160,7 +160,7 @@ const WIDE: Contents = Contents::Wide(&[
     NEW_FREE,
 ]);
 
-/// The image whose only eraseblock with a number, 8, is that of logical eraseblock 1, and behind it a clean free one.
+/// The image whose only eraseblock with a number, 8, is that of logical eraseblock 1, and after it a clean free one.
 /// The old eraseblock stays, so that it is stale.
 const NAMED_ONCE: Plan = Plan {
     image: Contents::UnnumberedBut(&[FIRST, SECOND, A, B, C, FREE], &[(1536, &OTHER_EC)]),
@@ -364,7 +364,7 @@ static REFUSED: [Refused; 16] = [
         ..LONG
     },
     LONG,
-    // 0xFF throughout has the check of these bytes.
+    // 0xFF throughout has the CRC of these bytes.
     Refused {
         new: Contents::Runs(&[(b"\xFF", 59), (b"\xBE\xF9\x8E\x24\xFE", 1)]),
         line: "refused K7 WeakCheck pages=0\n",

@@ -5,7 +5,7 @@ use super::contents::Contents;
 use std::alloc::{AllocError, Global};
 use std::test::Fail;
 
-/// What the lines count that `check` prints, in their order.
+/// What the lines count that `check` prints, in order.
 static COUNTED: [&str; 13] = [
     "blocks",
     "blank",

@@ -28,7 +28,7 @@ const FIRST_STRANGE: Peb = Peb(NAMED, Vid::Table(0, 0), Data::Table(&[STRANGE_SL
 const SECOND_STRANGE: Peb = Peb(NAMED, Vid::Table(1, 0), Data::Table(&[STRANGE_SLOT]));
 
 /// The volume `root` with a name that has bytes that are shown as they stand, and a space and a backslash that aren't; and one
-/// that has bytes that are shown by their digits. Another program worked out the checks.
+/// that has bytes that are shown by their digits. Another program worked out the CRCs.
 const PLAIN_SLOT: Slot = Slot {
     name: b" \\~!",
     flags: 0xA5,
@@ -42,7 +42,7 @@ const STRANGE_SLOT: Slot = Slot {
     ..RECORD
 };
 
-/// A copy without its check; logical eraseblock 1 without data; the same without an erase-counter header, with sequence number
+/// A copy without its CRC; logical eraseblock 1 without data; the same without an erase-counter header, with sequence number
 /// 13; and logical eraseblock 3 in no image.
 const UNCHECKED: Peb = Peb(NAMED, Vid::Copy(0, 64, 0, 9), Data::Fill(b'9', 64));
 
@@ -52,7 +52,7 @@ const UNREAD_13: Peb = Peb(Ec::Blank, Vid::Leb(0, 1, 13), NO_DATA);
 
 const UNNAMED_EMPTY_D: Peb = Peb(Ec::Unnamed, Vid::Leb(0, 3, 0), NO_DATA);
 
-/// Pieces of a static volume without their check, by how many they say that there are.
+/// Pieces of a static volume without their CRC, by how many they say that there are.
 const UNCHECKED_0: Peb = Peb(NAMED, Vid::Static(0, 5, 384, 0), Data::Fill(b'A', 384));
 
 const UNCHECKED_1: Peb = Peb(NAMED, Vid::Static(1, 6, 384, 0), Data::Fill(b'A', 384));
@@ -90,16 +90,16 @@ pub enum Contents {
     Blank,
     Odd,
     /// The volume `root` with 20 reserved eraseblocks, of which the first three hold bytes 0x41, 0x42 and 0x43, as
-    /// `ubinize` writes it; with one free eraseblock behind it; and with two.
+    /// `ubinize` writes it; with one free eraseblock after it; and with two.
     Root,
     Spare,
     Spares,
-    /// The last with a blank eraseblock in the place of the first free one, of the second, of both, and of logical eraseblock 1.
+    /// The last with a blank eraseblock in place of the first free one, of the second, of both, and of logical eraseblock 1.
     BlankFree,
     FreeBlank,
     BlankBoth,
     BlankWinner,
-    /// The first with a blank eraseblock behind it.
+    /// The first with a blank eraseblock after it.
     OneBlank,
     /// The first with an eraseblock of another image, so that it is refused.
     Faulty,
@@ -107,16 +107,16 @@ pub enum Contents {
     RootText,
     /// That image without a number.
     Unnamed,
-    /// That image in another order: reversed, with erase counters from 10 on, and behind it a logical eraseblock that
+    /// That image in another order: reversed, with erase counters from 10 on, and after it a logical eraseblock that
     /// is blank throughout.
     Reversed,
     /// The table of `root`, and three members of its logical eraseblock 0: of sequence number 5, of 7, a right copy of
-    /// 64 bytes, and of 9, a copy whose check is wrong by its lowest bit.
+    /// 64 bytes, and of 9, a copy whose CRC is wrong by its lowest bit.
     Rivals,
     /// An image with an eraseblock of each state but a blank and a free one. It means the volume `root`, whose logical
     /// eraseblock 0 holds bytes 0x35.
     Mixed,
-    /// The same with these two behind it.
+    /// The same with these two after it.
     MixedMore,
     /// The table of `root` while it is updated, of names that are shown otherwise than they stand, and with alignment
     /// 256.
@@ -127,7 +127,7 @@ pub enum Contents {
     /// The image with two free eraseblocks whose table has a second volume, `data` or `name`.
     WithData,
     WithName,
-    /// A static volume while it is updated, whose eraseblocks don't agree on how many they are, and have no check.
+    /// A static volume while it is updated, whose eraseblocks don't agree on how many they are, and have no CRC.
     Updating,
     /// A static volume that has a record and no eraseblock: it reads nothing.
     EmptyBoot,

@@ -117,7 +117,7 @@ fn extracts_volumes(rt: HostRuntime) -> Result<(), Fail> {
     Ok(())
 }
 
-/// Whether a writer that fails once it has so many bytes is told of, and receives as many of the first bytes.
+/// Whether a writer that fails once it has so many bytes is reported, and receives as many of the first bytes.
 fn is_cut(
     alloc: Global,
     (image, text): (&[u8], &[u8]),
@@ -129,7 +129,7 @@ fn is_cut(
     Ok(answer.err() == Some(ToolError::Write) && text.get(..room) == Some(writer.taken()))
 }
 
-/// How many bytes of what `root` reads a writer takes, and how it fails then.
+/// How many bytes of what `root` reads a writer takes, and how it then fails.
 static CUTS: [(usize, Failure); 6] = [
     (0, Failure::Nothing),
     (1, Failure::Error(ErrorKind::Interrupted)),

@@ -85,7 +85,7 @@ static READERS: [Failing; 7] = [
         ],
         output: EMPTY,
     },
-    // A file of which no size is told, and one that can't be read.
+    // A file without a known size, and one that can't be read.
     Failing {
         image: EMPTY,
         line: "geometry a.img",
@@ -122,7 +122,7 @@ static READERS: [Failing; 7] = [
         ],
         output: EMPTY,
     },
-    // Of the second of three eraseblocks the headers are the bytes from 512 to 640, and those behind them may fail.
+    // Of the second of three eraseblocks the headers are the bytes from 512 to 640, and those after them may fail.
     Failing {
         image: Contents::Blank,
         line: "show a.img --block 1",
@@ -147,7 +147,7 @@ static READERS: [Failing; 7] = [
         ],
         output: EMPTY,
     },
-    // Two files that hold the same. Both fail, and the left one is told.
+    // Two files that hold the same. Both fail, and the left one is reported.
     Failing {
         image: Contents::Blank,
         line: "same a.img c.img",
@@ -262,7 +262,7 @@ static WRITERS: [Failing; 12] = [
         ],
         output: Contents::NormalNothing,
     },
-    // The new bytes are 64, and read before the image is. What stands behind the headers of the last eraseblock is read as
+    // The new bytes are 64, and read before the image is. What stands after the headers of the last eraseblock is read as
     // it is written.
     Failing {
         image: Contents::Pebs(&[FIRST, SECOND, A, B, C, FREE, ORPHAN], &[]),
@@ -301,7 +301,7 @@ static WRITERS: [Failing; 12] = [
         ],
         output: Contents::Pebs(&[FIRST, SECOND, A, B, C, FREE, FREE, ORPHAN], &[]),
     },
-    // A read behind 32 eraseblocks and one byte would fail.
+    // A read after 32 eraseblocks and one byte would fail.
     Failing {
         image: Contents::Runs(&[(b"\xFF", 40_000)]),
         line: "rename a.img --id 0 --name a --out b.img",
@@ -321,8 +321,8 @@ static WRITERS: [Failing; 12] = [
     },
 ];
 
-/// Commands whose output may be the image, or whose image is told nothing of, which is read whole before. A whole read
-/// fails here.
+/// Commands whose output may be the image, or whose image nothing is known of, which is read whole before. A whole
+/// read fails here.
 static ONTO: [Failing; 4] = [
     Failing {
         image: Contents::Blank,

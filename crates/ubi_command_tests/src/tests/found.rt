@@ -11,7 +11,7 @@ use std::process::Abort;
 use std::test::Fail;
 use ubi_probe::chips::PAGES;
 
-/// Where an image of small eraseblocks lies: nothing tells out-of-band bytes of it.
+/// Where an image of small eraseblocks lies: nothing shows that it has out-of-band bytes.
 const SMALL_LAYS: [Lay; 5] = [
     Lay(0, 0, 0),
     Lay(512, 0, 0),
@@ -20,7 +20,7 @@ const SMALL_LAYS: [Lay; 5] = [
     Lay(20_032, 0, 20_000),
 ];
 
-/// Lines over a dump that is told, for which as many words are left out as can be.
+/// Lines over a dump whose geometry is found, for which as many words are left out as can be.
 const LINES: [&str; 15] = [
     "list a.img",
     "check a.img",
@@ -39,7 +39,7 @@ const LINES: [&str; 15] = [
     "same a.img a.img",
 ];
 
-/// Where a chip's image lies, with out-of-band bytes behind each page or without.
+/// Where a chip's image lies, with out-of-band bytes after each page or without.
 const CHIP_LAYS: [Lay; 5] = [
     Lay(0, 0, 0),
     Lay(65_536, 0, 5000),
@@ -108,7 +108,7 @@ fn finds_an_image_wherever_it_lies(rt: HostRuntime) -> Result<(), Fail> {
     Ok(())
 }
 
-/// Lines over files that tell nothing, and what stands before the line of the cause.
+/// Lines over files in which nothing is found, and what stands before the line of the cause.
 static UNTOLD_LINES: [(&str, &str); 8] = [
     ("list a.img", ""),
     ("check a.img", ""),
@@ -138,7 +138,7 @@ fn refuses_what_tells_nothing(rt: HostRuntime) -> Result<(), Fail> {
     Ok(())
 }
 
-/// Words over the image of small eraseblocks behind 512 bytes, of which 4,096 are there, and what is answered.
+/// Words over the image of small eraseblocks after 512 bytes, of which 4,096 are there, and what is answered.
 static PARTS: [(&str, (&str, u8)); 12] = [
     ("check a.img --start 512 --length 3584 --pebs 6", TOO_MANY),
     ("check a.img --pebs 6", TOO_MANY),
@@ -211,7 +211,7 @@ static PAIRS: [(&str, (&str, u8)); 4] = [
     ("same new.bin new.bin", ("same\n", 0)),
 ];
 
-/// The same of images that mean the same, one of which is plain, and one with out-of-band bytes or behind others; and of two that
+/// The same of images that mean the same, one of which is plain, and one with out-of-band bytes or after others; and of two that
 /// don't.
 static PLAIN: [(Contents, (Contents, usize, Lay), &str, u8); 3] = [
     (CHIP, (CHIP, 2048, BETWEEN), "same\n", 0),
@@ -258,8 +258,8 @@ fn compares_by_the_geometry_of_each(rt: HostRuntime) -> Result<(), Fail> {
     Ok(())
 }
 
-/// Reads that fail while the headers are looked for, or behind that; and those that aren't told: one that reads ahead, since what is asked
-/// for is read alone then, and those one after the other of a file that is read at places.
+/// Reads that fail while the headers are looked for, or after that; and those that aren't reported: one that reads ahead, since what is
+/// asked for is read alone then, and sequential ones of a file that is read at places.
 static FAILURES: [(Broken, bool); 5] = [
     (Broken::OpenRead, true),
     (Broken::Read(ErrorKind::Other, 0), true),

@@ -11,11 +11,11 @@ use ubi_probe::chips::PAGES;
 use ubi_probe::header_bytes::{EC, LEB_0, LEB_1, LEB_2, NO_PAGE_EC, OTHER_EC, SHARED_EC};
 use ubi_probe::pebs::{A, Data, ERASED, Ec, FIRST, Peb, SECOND, Vid};
 
-/// What is told of images of small eraseblocks: pages of 64 and of 128 bytes fit.
+/// What is found in images of small eraseblocks: pages of 64 and of 128 bytes fit.
 pub const SMALL: &str =
     "--peb 512 --page 64 --vid 64 --data 128\n--peb 512 --page 128 --vid 64 --data 128\n";
 
-/// What is told of files of small eraseblocks that begin with an image of two.
+/// What is found in files of small eraseblocks that begin with an image of two.
 const FIRST_1024: &str = "--peb 512 --page 64 --vid 64 --data 128 --start 0 --length 1024\n\
     --peb 512 --page 128 --vid 64 --data 128 --start 0 --length 1024\n";
 
@@ -74,11 +74,11 @@ const THREE_OF_1024: &[(&[u8], usize)] = &[
     (b"\0", 960),
 ];
 
-/// Files, and what is told of them.
+/// Files, and what is found in them.
 pub static TOLD: [(Contents, (&str, u8)); 17] = [
     (Contents::Root, (SMALL, 0)),
     (SHARED, ("--peb 1024 --page 256 --vid 64 --data 256\n", 0)),
-    // A blank eraseblock before the first header belongs to the image, and one behind the last.
+    // A blank eraseblock before the first header belongs to the image, and one after the last.
     (Contents::Pebs(&[ERASED, FIRST, SECOND, A], &[]), (SMALL, 0)),
     (Contents::Pebs(&[FIRST, SECOND, A, ERASED], &[]), (SMALL, 0)),
     // One of another image doesn't, nor one of other offsets.
@@ -151,7 +151,7 @@ static SMALL_LAID: [(Lay, &str, &str); 12] = [
     (Lay(0, 0, 0), "--start 0", ""),
     // The words say how long the part is.
     (Lay(0, 0, 0), "--length 2560", " --start 0 --length 2560"),
-    // A boot loader in front, junk behind, and both.
+    // A boot loader in front, junk after it, and both.
     (Lay(1024, 0, 0), "", " --start 1024 --length 2560"),
     (Lay(0, 0, 300), "", " --start 0 --length 2560"),
     (Lay(64, 0, 1), "", " --start 64 --length 2560"),
@@ -197,9 +197,9 @@ fn tells_where_an_image_lies(rt: HostRuntime) -> Result<(), Fail> {
     Ok(())
 }
 
-/// Files with the image of a chip, of 64 pages of 2 KiB an eraseblock, each with 64 out-of-band bytes behind it: where it lies, how
-/// many bytes of the file there are at most, and what is told. Of the last one the last eraseblock, which begins 405,504 bytes behind
-/// the boot loader, was cut off: its number counts the out-of-band bytes.
+/// Files with the image of a chip, of 64 pages of 2 KiB an eraseblock, each with 64 out-of-band bytes after it: where it lies, how
+/// many bytes of the file there are at most, and what is found. In the last one the last eraseblock, which begins 405,504 bytes
+/// after the boot loader, was cut off: its number counts the out-of-band bytes.
 static CHIP_LAID: [(Lay, usize, (&str, u8)); 5] = [
     (
         Lay(0, 64, 0),
@@ -253,7 +253,7 @@ fn tells_out_of_band_bytes(rt: HostRuntime) -> Result<(), Fail> {
     Ok(())
 }
 
-/// What is told of a file in which an image lies, given to `list`, shows that image.
+/// What is found in a file in which an image lies, given to `list`, shows that image.
 #[test]
 fn lists_what_is_told(rt: HostRuntime) -> Result<(), Fail> {
     let alloc = rt.alloc();
@@ -273,7 +273,7 @@ fn lists_what_is_told(rt: HostRuntime) -> Result<(), Fail> {
     assert_both(&rt, alloc, files, line.as_str(), (listed, 0), &[])
 }
 
-/// Images, and what `list` answers of each by the words of each line that is told of it.
+/// Images, and what `list` answers for each by the words of each line that is found for it.
 static LISTED: [(Contents, &[(&str, u8)]); 2] = [
     (
         Contents::Root,

@@ -21,10 +21,10 @@ use ubi_media::{EcFault, EcOffsets, RecFault, Refusal, VidFault};
 use ubi_probe::header_bytes::EC;
 use ubi_probe::pebs::{FIRST, SECOND, STATIC_A, small};
 
-/// What is told of an image, without the braces around it.
+/// What is printed for an image, without the braces around it.
 type Told = (Contents, &'static str);
 
-/// What `check` tells of images that are accepted, behind their word: the eraseblocks and numbers, and the states.
+/// What `check` prints for images that are accepted, after their word: the eraseblocks and numbers, and the states.
 static CHECKED: [Told; 4] = [
     (
         Contents::Root,
@@ -44,7 +44,7 @@ static CHECKED: [Told; 4] = [
     ),
 ];
 
-/// What `list` tells of the one volume of an image.
+/// What `list` prints for the one volume of an image.
 static LISTED: [Told; 8] = [
     (
         Contents::Root,
@@ -81,7 +81,7 @@ static LISTED: [Told; 8] = [
     ),
 ];
 
-/// The sizes that it tells of small eraseblocks.
+/// The sizes that it prints for small eraseblocks.
 const SIZES: &str = r#""data":128,"leb":384,"page":64,"peb":512,"pebs":32,"slots":2,"vid":64"#;
 
 #[test]
@@ -135,7 +135,7 @@ static OTHERS: [(Contents, &str, &str, u8); 12] = [
         r#"{"refused":{"cause":"TooMany","code":"S2"}}"#,
         1,
     ),
-    // Files of which no geometry is told.
+    // Files in which no geometry is found.
     (
         EMPTY,
         "geometry a.img --format json",
@@ -247,7 +247,7 @@ fn knows_two_words(rt: HostRuntime) -> Result<(), Fail> {
     assert_wrong(&rt, alloc, "show a.img --block 0 --format json", "--format")
 }
 
-/// Two images, and what `diff` tells of each difference.
+/// Two images, and what `diff` prints for each difference.
 static DIFFERING: [(Contents, Contents, &str); 12] = [
     (
         Contents::Root,
@@ -311,7 +311,7 @@ static DIFFERING: [(Contents, Contents, &str); 12] = [
     ),
 ];
 
-/// Images of which one is refused, or both, and what is told of the first.
+/// Images of which one is refused, or both, and what is printed for the first.
 static ONE_REFUSED: [(Contents, Contents, &str); 4] = [
     (
         Contents::Odd,
@@ -372,7 +372,7 @@ fn tells_in_what_images_differ(rt: HostRuntime) -> Result<(), Fail> {
     Ok(())
 }
 
-/// Words of two files that can't be compared, behind the command, what is answered, and the status.
+/// Words of two files that can't be compared, after the command, what is answered, and the status.
 static NOT_COMPARED: [(&str, &str, u8); 7] = [
     (
         "a.img new.bin --format json --peb 512 --page 63",
@@ -470,7 +470,7 @@ fn tells_geometries(rt: HostRuntime) -> Result<(), Fail> {
     Ok(())
 }
 
-/// The causes for which images are refused, with what is told of each.
+/// The causes for which images are refused, with what is printed for each.
 static REFUSALS: [(Refusal, &str); 14] = [
     (Refusal::Length, r#""cause":"Length","code":"S1""#),
     (Refusal::TooMany, r#""cause":"TooMany","code":"S2""#),
@@ -515,7 +515,7 @@ static REFUSALS: [(Refusal, &str); 14] = [
     ),
 ];
 
-/// Those for which no geometry is told of a file.
+/// Those for which no geometry is found in a file.
 static UNDETECTED: [(Undetected, &str); 5] = [
     (Undetected::NoHeader, r#""cause":"NoHeader","code":"F1""#),
     (Undetected::NoSize, r#""cause":"NoSize","code":"F2""#),
@@ -573,7 +573,7 @@ fn tells_causes(rt: HostRuntime) -> Result<(), Fail> {
     Ok(())
 }
 
-/// The greatest numbers are told as they are.
+/// The greatest numbers are printed as they are.
 #[test]
 fn tells_great_differences(rt: HostRuntime) -> Result<(), Fail> {
     let alloc = rt.alloc();

@@ -265,7 +265,7 @@ const PAGE_CHANGED: Contents = Contents::Runs(&[
 ]);
 
 /// The header of the copy with these bytes, and that of the eraseblock that is given up, erased once. Another program worked
-/// out their checks.
+/// out their CRCs.
 const PAGE_COPY: &[u8] =
     b"UBI!\x01\x01\x01\0\0\0\0\0\0\0\0\x01\0\0\0\0\0\0\x08\0\0\0\0\0\0\0\0\0\xBB\xC2\x8D\x13\
     \0\0\0\0\0\0\0\0\0\0\0\x01\0\0\0\0\0\0\0\0\0\0\0\0\x05\x08\x93\xB2";

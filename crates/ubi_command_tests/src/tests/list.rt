@@ -16,7 +16,7 @@ const A_BEYOND: Peb = Peb(NAMED, Vid::Leb(0, 20, 0), Data::Fill(b'A', 384));
 /// reserve.
 const MORE: &[Peb] = &[FIRST, SECOND, A, B, C, EMPTY_D, A_BEYOND];
 
-/// An image, and what is told of its one volume.
+/// An image, and what is printed for its one volume.
 static VOLUMES: [(Contents, &str); 16] = [
     (
         Contents::Root,

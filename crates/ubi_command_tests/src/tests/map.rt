@@ -29,7 +29,7 @@ static REFUSED: [(Contents, &str, &str); 3] = [
         "ttv!v",
         "refused S3 Ec block=3 Version\n",
     ),
-    // A header with one bit turned has a wrong check, and is corrupt.
+    // A header with one bit flipped has a wrong CRC, and is corrupt.
     (
         Contents::Pebs(
             &[FIRST, SECOND, A, B, C],
@@ -43,7 +43,7 @@ static REFUSED: [(Contents, &str, &str); 3] = [
 /// An eraseblock at fault.
 static AT_FAULT: Contents = Contents::Pebs(&[ERASED], &[(0, &VERSION_2)]);
 
-/// What is printed of eraseblocks with these letters, fewer than 65 of them, and a line behind them.
+/// What is printed of eraseblocks with these letters, fewer than 65 of them, and a line after them.
 fn printed(alloc: Global, letters: &str, line: &str) -> Result<String, AllocError> {
     format!(in alloc; "{NONE}{letters}\n{line}")
 }

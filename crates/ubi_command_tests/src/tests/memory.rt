@@ -31,7 +31,7 @@ use ubi_scan::MemorySource;
 const SPEC: &[u8] = b"volume 0 dynamic 20 1 00 root\nleb 0 1 6162\n\
     volume 1 static 2 1 00 boot\nbytes 1 61\nbytes 1 62\n";
 
-/// The normal image of `root`, and two clean free eraseblocks behind it.
+/// The normal image of `root`, and two clean free eraseblocks after it.
 const SPARES: &[Peb] = &[
     ROOT_FIRST,
     ROOT_SECOND,
@@ -45,7 +45,7 @@ const SPARES: &[Peb] = &[
 /// What its volume reads.
 const TEXT: &[(&[u8], usize)] = &[(b"A", 384), (b"B", 384), (b"C", 384), (b"\xFF", 6528)];
 
-/// Whether a command answered a text. Else memory ran out.
+/// Whether a command answered a text. If not, memory ran out.
 fn is_told(rt: &impl Abort, answer: Result<Outcome, AllocError>, text: &str) -> bool {
     match answer {
         Ok(outcome) => {
@@ -56,8 +56,8 @@ fn is_told(rt: &impl Abort, answer: Result<Outcome, AllocError>, text: &str) -> 
     }
 }
 
-/// Whether a command answered a text and wrote all bytes into zeros. Else memory ran out, no read and no write failed,
-/// and nothing was written.
+/// Whether a command answered a text and wrote all bytes into zeros. If not, memory ran out, no read and no write
+/// failed, and nothing was written.
 fn is_written(
     rt: &impl Abort,
     answer: Result<Outcome, ToolError>,
@@ -109,13 +109,13 @@ fn is_normalised(rt: &impl Abort, alloc: Global, geometry: &Geometry, image: &[u
 /// A byte of logical eraseblock 2 of the image.
 const OTHER_BYTE: usize = 2560 - 384;
 
-/// What `diff` tells of the image and the one with another byte there.
+/// What `diff` prints for the image and the one with another byte there.
 const DIFFERENT: &str = "volume 0 lebs 2\ndifferent\n";
 
 const DIFFERENT_OBJECT: &str =
     "{\"differences\":[{\"first\":2,\"id\":0,\"last\":2,\"what\":\"lebs\"}],\"same\":false}\n";
 
-/// Whether two images were compared. Else memory ran out.
+/// Whether two images were compared. If not, memory ran out.
 fn is_compared(
     rt: &impl Abort,
     alloc: Global,
@@ -138,7 +138,7 @@ fn image(alloc: Global, geometry: &Geometry, len: usize) -> Result<Vec<u8>, Allo
     Ok(bytes)
 }
 
-/// Whether each command answered. Else memory ran out.
+/// Whether each command answered. If not, memory ran out.
 fn tells_all(rt: &impl Abort, alloc: Global, geometry: &Geometry) -> Result<bool, AllocError> {
     let (root, spare) = (image(alloc, geometry, 2560)?, image(alloc, geometry, 3072)?);
     let (spares, text) = (image(alloc, geometry, 3584)?, bytes_of(alloc, TEXT)?);
@@ -268,8 +268,8 @@ const COMPOSE: &str = "compose a --spares 1 --out b --peb 512 --page 64";
 
 const BUILD: &str = "build a --out b --peb 512 --page 64";
 
-/// Whether the words of a line answered a text, over files that each hold an image, and wrote so many bytes. Else
-/// memory ran out, and no part of the output was written.
+/// Whether the words of a line answered a text, over files that each hold an image, and wrote so many bytes. If
+/// not, memory ran out, and no part of the output was written.
 fn is_run(
     rt: &impl Abort,
     alloc: Global,
@@ -306,7 +306,7 @@ fn is_run(
     }
 }
 
-/// Whether each line ran. Else memory ran out.
+/// Whether each line ran. If not, memory ran out.
 fn runs_all(rt: &impl Abort, alloc: Global, geometry: &Geometry) -> Result<bool, AllocError> {
     let mut ran = is_run(rt, alloc, SPEC, COMPOSE, ("blocks 5\n", 2560));
     ran = is_run(rt, alloc, CONFIG, BUILD, ("blocks 3\n", 1536)) && ran;

@@ -18,7 +18,7 @@ use ubi_probe::pebs::{
 use ubi_probe::{Failure, ProbeSource, ProbeWriter};
 use ubi_scan::StreamError;
 
-/// Members of logical eraseblock 0: no copy, and a copy whose check is wrong.
+/// Members of logical eraseblock 0: no copy, and a copy whose CRC is wrong.
 const OLDER: Peb = Peb(NAMED, Vid::Leb(0, 0, 6), Data::Fill(b'6', 384));
 
 const WRONG_4: Peb = Peb(

@@ -48,7 +48,7 @@ fn is_run<S: BlockSource>(
     Ok(is_answer && writer.taken() == written)
 }
 
-/// Whether a read that fails is told with its eraseblock and the bytes that were written, and these are the first ones.
+/// Whether a read that fails is reported with its eraseblock and the bytes that were written, and these are the first ones.
 fn is_told(alloc: Global, image: &[u8], at: u64, p: u32, written: &[u8]) -> Result<bool, Fail> {
     let geometry = small()?;
     let mut source = ProbeSource::new(alloc, &geometry, image, at)?;
@@ -79,8 +79,8 @@ fn tells_of_a_read_that_fails(rt: HostRuntime) -> Result<(), Fail> {
     Ok(())
 }
 
-/// Whether a writer that takes so many bytes at once and fails once it has so many is told with their number, and has
-/// the first ones; or all, where it has room for them.
+/// Whether a writer that takes so many bytes at once and fails once it has so many is reported with their number, and
+/// has the first ones; or all, if it has room for them.
 fn is_cut(
     alloc: Global,
     (image, want): (&[u8], &[u8]),
@@ -101,7 +101,7 @@ fn is_cut(
     Ok(is_told && is_same && want.get(..room) == Some(writer.taken()))
 }
 
-/// How many bytes a writer takes, at least and at most, how it fails then, and how many it takes at once.
+/// How many bytes a writer takes, at least and at most, how it then fails, and how many it takes at once.
 type Cut = (usize, usize, Failure, usize);
 
 /// An image, its normal image, and how writers of that fail.

@@ -2,7 +2,7 @@
 
 use ubi_files::Outcome;
 
-/// The word behind an option, if it is there.
+/// The word after an option, if it is there.
 fn value<'a>(line: &'a str, option: &str) -> Option<&'a str> {
     let mut is_next = false;
     for word in line.split_whitespace() {
@@ -25,7 +25,7 @@ fn opens_nothing(outcome: &Outcome, is_unwritten: bool) -> bool {
         || (is_unread && is_unwritten)
 }
 
-/// Whether the paths that were opened, a line each, are the first ones of those behind `--out` and `--pages`, and all of
+/// Whether the paths that were opened, a line each, are the first ones of those after `--out` and `--pages`, and all of
 /// them where the work is done.
 fn are_outputs(line: &str, is_done: bool, opened: &str) -> bool {
     let (out, pages) = (value(line, "--out"), value(line, "--pages"));
@@ -36,7 +36,7 @@ fn are_outputs(line: &str, is_done: bool, opened: &str) -> bool {
     is_first && is_second && paths.next().is_none()
 }
 
-/// Whether they are files of the folder behind `--out`, and as many as lines were printed, and the config, where the work is done.
+/// Whether they are files of the folder after `--out`, and as many as lines were printed, and the config, where the work is done.
 fn are_unpacked(line: &str, outcome: &Outcome, opened: &str) -> bool {
     let Some(folder) = value(line, "--out") else {
         return opened.is_empty();
@@ -58,8 +58,8 @@ fn are_unpacked(line: &str, outcome: &Outcome, opened: &str) -> bool {
     outcome.status != 0 || count == printed.saturating_add(1)
 }
 
-/// Whether a line opened the files that its outcome may have been written to, in their order, and none else. The paths stand a
-/// line each.
+/// Whether a line opened the files that its outcome may have been written to, in order, and none else. The paths stand a line
+/// each.
 pub fn opens_right(line: &str, outcome: &Outcome, is_unwritten: bool, opened: &str) -> bool {
     if opens_nothing(outcome, is_unwritten) {
         return opened.is_empty();

@@ -8,7 +8,7 @@ use std::process::Abort;
 use std::test::Fail;
 use ubi_probe::texts::overwrite;
 
-/// A line over an image, and what it prints and writes before a plan turns that, and from then on.
+/// A line over an image, and what it prints and writes before the commit point of a plan, and from it on.
 #[derive(Clone, Copy)]
 pub struct Reading {
     pub line: &'static str,
@@ -27,10 +27,10 @@ pub struct Plan {
     pub sizes: &'static str,
     /// What is printed.
     pub lines: &'static str,
-    /// How many steps turn the image, and how many there are.
+    /// How many steps there are up to the commit point, and how many in all.
     pub turn: u32,
     pub count: u32,
-    /// What the first steps write: from a place on the bytes of each step, those behind the ones before.
+    /// What the first steps write: from a place on the bytes of each step, those after the ones before.
     pub steps: &'static [(usize, &'static [&'static [u8]])],
     pub readings: &'static [Reading],
     /// Lines over the image after all steps, with what they print.
@@ -68,7 +68,7 @@ impl Plan {
         Ok(means)
     }
 
-    /// Whether an image reads as it should before the turn, or from it on.
+    /// Whether an image reads as it should before the commit point, or from it on.
     fn reads(&self, alloc: Global, image: &[u8], is_turned: bool) -> Result<bool, Fail> {
         let mut reads = true;
         for reading in self.readings {
@@ -82,7 +82,7 @@ impl Plan {
         Ok(reads)
     }
 
-    /// Whether the image after so many steps means the old before the turn, and from it on the new.
+    /// Whether the image after so many steps means the old before the commit point, and from it on the new.
     fn turns(
         &self,
         alloc: Global,

@@ -1,4 +1,4 @@
-//! What is told of long work.
+//! What is shown of long work.
 
 use super::answers::run_on;
 use super::fake::{Broken, FakeFiles, Left};
@@ -39,7 +39,7 @@ impl<E: Eprint> Eprint for Sink<'_, E> {
     }
 }
 
-/// What is told of work on so many bytes, of which 100 are written and then parts of a size, so many times.
+/// What is shown of work on so many bytes, of which 100 are written and then parts of a size, so many times.
 fn told(
     alloc: Global,
     (most, is_watched): (u64, bool),
@@ -57,8 +57,8 @@ fn told(
     Ok(left.shown.into_inner())
 }
 
-/// How long the work may be, whether somebody watches, the parts, and what is told of it in the end. A hundredth of 256 MiB is
-/// 2,684,354 bytes; of 8 GiB it is 85,899,345: 4200 MiB are 51 of them.
+/// How long the work may be, whether progress is shown, the parts, and what is shown of it in the end. A hundredth of 256 MiB
+/// is 2,684,354 bytes; of 8 GiB it is 85,899,345: 4200 MiB are 51 of them.
 static TOLD: [((u64, bool), (usize, usize), &str); 4] = [
     (
         (1 << 28, true),

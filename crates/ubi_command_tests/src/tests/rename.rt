@@ -71,7 +71,7 @@ const TO_DATA: Plan = Plan {
     last: &[],
 };
 
-/// The headers of the two copies of the new table, by the format. Another program worked out their checks, and that of
+/// The headers of the two copies of the new table, by the format. Another program worked out their CRCs, and that of
 /// the record.
 const NEW_COPY_0: &[u8] = b"UBI!\x01\x01\x01\x05\
     \x7F\xFF\xEF\xFF\0\0\0\0\0\0\0\0\0\0\x01\x80\0\0\0\0\0\0\0\0\xF8\x4E\xB9\x30\
@@ -238,7 +238,7 @@ static REFUSED: [Refused; 23] = [
         word: b"\xC3\xA4",
         ..NO_NAME
     },
-    // The first page of the new table, and then 0xFF, has the check of the whole.
+    // The first page of the new table, and then 0xFF, has the CRC of the whole.
     Refused {
         word: b"scboykncuhuc",
         line: "refused K7 WeakCheck pages=1\n",

@@ -119,7 +119,7 @@ fn names_the_side_whose_read_fails(rt: HostRuntime) -> Result<(), Fail> {
     Ok(())
 }
 
-/// The left image is judged before the right one is read: where it is refused, a right one that fails isn't told.
+/// The left image is judged before the right one is read: if it is refused, a right one that fails isn't reported.
 #[test]
 fn refuses_the_left_image_before_the_right_is_read(rt: HostRuntime) -> Result<(), Fail> {
     let alloc = rt.alloc();

@@ -41,7 +41,7 @@ static SHOWN: [Run; 4] = [
         ),
         ..SHOW
     },
-    // A header with one bit turned has a wrong check, and is corrupt.
+    // A header with one bit flipped has a wrong CRC, and is corrupt.
     Run {
         image: Contents::Pebs(
             &[FIRST, SECOND, A, B, C],

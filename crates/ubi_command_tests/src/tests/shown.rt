@@ -1,20 +1,20 @@
 //! Lines that several tests expect.
 
-/// What `show` tells of a blank eraseblock.
+/// What `show` prints for a blank eraseblock.
 pub const BLANK_SHOWN: &str =
     "ec blank ffffffffffffffffffffffffffffffffffffffffffffffffffffffffffffffff\
     ffffffffffffffffffffffffffffffffffffffffffffffffffffffffffffffff\n\
     vid blank ffffffffffffffffffffffffffffffffffffffffffffffffffffffffffffffff\
     ffffffffffffffffffffffffffffffffffffffffffffffffffffffffffffffff\n";
 
-/// What it tells of logical eraseblock 2 of `root`.
+/// What it prints for logical eraseblock 2 of `root`.
 pub const ROOT_SHOWN: &str =
     "ec valid 5542492301000000000000000000000000000040000000801234567800000000\
     000000000000000000000000000000000000000000000000000000005b73f913\n\
     vid valid 5542492101010000000000000000000200000000000000000000000000000000\
     00000000000000000000000000000000000000000000000000000000efecfd8e\n";
 
-/// What `list` tells of the volume `root`; and once it is named `data`.
+/// What `list` prints for the volume `root`; and once it is named `data`.
 pub const ROOT_LISTED: &str = "geometry peb=512 page=64 vid=64 data=128 leb=384 slots=2 pebs=32\n\
     volume 0 dynamic reserved=20 alignment=1 usable=384 flags=00 lebs=3 name=root\n\
     volumes 1\n";
@@ -23,7 +23,7 @@ pub const DATA_LISTED: &str = "geometry peb=512 page=64 vid=64 data=128 leb=384 
     volume 0 dynamic reserved=20 alignment=1 usable=384 flags=00 lebs=3 name=data\n\
     volumes 1\n";
 
-/// What it tells of `root` and a volume `name`; and once that is named `data`.
+/// What it prints for `root` and a volume `name`; and once that is named `data`.
 pub const TWO_LISTED: &str = "geometry peb=512 page=64 vid=64 data=128 leb=384 slots=2 pebs=32\n\
     volume 0 dynamic reserved=20 alignment=1 usable=384 flags=00 lebs=3 name=root\n\
     volume 1 dynamic reserved=1 alignment=1 usable=384 flags=00 lebs=0 name=name\n\
@@ -34,7 +34,7 @@ pub const TWO_RENAMED: &str = "geometry peb=512 page=64 vid=64 data=128 leb=384 
     volume 1 dynamic reserved=1 alignment=1 usable=384 flags=00 lebs=0 name=data\n\
     volumes 2\n";
 
-/// What `check` tells of `root`.
+/// What `check` prints for `root`.
 pub const ROOT_CHECKED: &str = "blocks 5\nblank 0\nfree 0\ntable 2\nused 3\nstale 0\norphan 0\n\
     dropped 0\ncorrupt 0\ngarbage 0\ntop sqnum 0\nimage seq 305419896\n\
     mean counter 0\naccepted\n";
@@ -47,7 +47,7 @@ pub const CHANGED_IN_BLANK: &str =
     "steps 6\nerase block=5\nprogram block=5 page=0\nprogram block=5 page=1\n\
     program block=5 page=2\nerase block=3\nprogram block=3 page=0\n";
 
-/// What `geometry`, `check` and `list` tell of `root` as JSON.
+/// What `geometry`, `check` and `list` print for `root` as JSON.
 pub const SMALL_OBJECT: &str =
     "{\"geometries\":[{\"data\":128,\"length\":2560,\"oob\":0,\"page\":64,\"peb\":512,\"start\":0,\"vid\":64},\
     {\"data\":128,\"length\":2560,\"oob\":0,\"page\":128,\"peb\":512,\"start\":0,\"vid\":64}]}\n";

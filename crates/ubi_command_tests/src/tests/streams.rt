@@ -33,8 +33,8 @@ static READ: [(u64, u64, usize); 7] = [
     (u64::MAX, 40_000, 40_000),
 ];
 
-/// Asserts that a read is told of that fails by an error of a kind once so many bytes were read, and that these are
-/// read.
+/// Asserts that a read that fails by an error of a kind, once so many bytes were read, is reported, and that these
+/// are read.
 fn assert_fails(rt: &impl Abort, alloc: Global, kind: ErrorKind, after: usize) -> Result<(), Fail> {
     let left = Left::new(alloc);
     let files = FakeFiles::of(&[7; 40_000], Broken::Read(kind, after), &left);

@@ -1,4 +1,4 @@
-//! Views of files: parts of them, pages with out-of-band bytes behind them, and both together with bad eraseblocks.
+//! Views of files: parts of them, pages with out-of-band bytes after them, and both together with bad eraseblocks.
 
 use super::answers::{
     SMALL_SIZES, are_one, assert_both, assert_over, assert_own, assert_wrong, run_over, with_sizes,
@@ -10,7 +10,7 @@ use std::process::Abort;
 use std::test::Fail;
 use ubi_probe::chips::PAGES;
 
-/// Where an image lies in a file: behind how many bytes, with how many bytes behind each page, and before how many bytes.
+/// Where an image lies in a file: after how many bytes, with how many bytes after each page, and before how many bytes.
 #[derive(Clone, Copy)]
 pub struct Lay(pub usize, pub usize, pub usize);
 

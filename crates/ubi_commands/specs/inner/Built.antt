@@ -1,4 +1,4 @@
--- What is answered of a build that ended.
+-- What is answered for a build that ended.
 use Rattle.std.specs.Prelude.{ℕ, ◌/◌, ◌∷◌, List, Contains, Result, Ok, Err, codes}
 use Rattle.ubi_media.specs.Geometry.{Sizes}
 use Rattle.ubi_config.specs.declared.section.Section.{Section}
@@ -13,14 +13,14 @@ use Rattle.ubi_files.specs.Lines.{file_line}
 use Rattle.ubi_commands.specs.declared.build.Answers.{Answers}
 use Rattle.ubi_files.specs.declared.outcome.Outcome.{Outcome}
 
--- the lines of files that fail: of those with the bytes of volumes, which sections name, of the config, and of the output
+-- the lines of files that fail: of those that sections name and that hold the bytes of volumes, of the config, and of the output
 pub record AreAnswers (config out : List ℕ) (sections : List Section) (a : Answers) : Type 0 where
   pub unread : AreUnread config sections a.unread.items
   pub unread_else : IsUnreadLine config a.unread_else
   pub unwritten : Gives a.unwritten (says (file_line (codes "cannot write ") out) 1)
 
--- what is answered of how a build ended: how many eraseblocks were written; or the line of a device that is too small, of a file
--- that can't be read, or of the output; nothing where memory ran out
+-- what is answered when a build ended: how many eraseblocks were written; or the line of a device that is too small, of a file
+-- that can't be read, or of the output; nothing if memory ran out
 abbrev pub IsToldOf : Sizes → List ℕ → List ℕ → List Section → Result ℕ BuildError → Outcome → Type 0
 IsToldOf s config out sections (Ok n) o = Gives o (says (blocks_line (n / s.peb_size)) 0)
 IsToldOf s config out sections (Err build.TooMany) o = Gives o (says room_line 1)

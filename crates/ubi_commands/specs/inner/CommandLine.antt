@@ -38,11 +38,11 @@ with_taken name takes.Measure r =
 abbrev pub rule : Argument → Rule
 rule a = with_taken a.1.now a.2 (record (new_rule a.1.now) { required = is_needed a.0 })
 
--- an app with the arguments of these rows more
+-- an app with the arguments of these rows added
 unfoldable pub with_rows : App → List Argument → App
 with_rows a rows = fold (λ x r. with_rule x (rule r)) a rows
 
--- an app with the arguments of these groups of rows more
+-- an app with the arguments of these groups of rows added
 unfoldable pub with_groups : App → List (Bor (List Argument)) → App
 with_groups a groups = fold (λ x g. with_rows x g.now) a groups
 
@@ -50,7 +50,7 @@ with_groups a groups = fold (λ x g. with_rows x g.now) a groups
 unfoldable pub command_row : CommandRow → App
 command_row c = with_groups (new_app c.name.now) c.arguments.now
 
--- an app with the commands of these rows more
+-- an app with the commands of these rows added
 unfoldable pub with_commands : App → List CommandRow → App
 with_commands a rows = fold (λ x r. with_subcommand x (command_row r).top) a rows
 
@@ -58,7 +58,7 @@ with_commands a rows = fold (λ x r. with_subcommand x (command_row r).top) a ro
 abbrev pub bare_tool : App
 bare_tool = on_top (λ s. record s { has_version = true; subcommand_required = true }) (new_app (codes "ubi_tool"))
 
--- the program with the commands alone that print what an image file holds
+-- the program with only those commands that print what an image file holds
 unfoldable pub telling_tool : App
 telling_tool = record { top = tool.top; subs = geometry ∷ list ∷ check ∷ show ∷ map ∷ [] }
 
@@ -70,11 +70,11 @@ words_in m = rows_of (found_of m)
 abbrev pub IsAskedBy : Text → List Row → Request → Type 0
 IsAskedBy name words r = (command_name r ≡ name) × Asks words r
 
--- the answer is one of these, or none where there is none
+-- the answer is one of these, or there is none
 abbrev pub IsOneOf : {X : Type 0} → (X → Type 0) → Option X → Type 0
 IsOneOf {X = X} P None = (x : X) → P x → ⊥
 IsOneOf {X = X} P (Some x) = P x
 
--- their names
+-- the names of the commands
 abbrev pub command_names : List (List ℕ)
 command_names = mapped (λ s. s.name) commands

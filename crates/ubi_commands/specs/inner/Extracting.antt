@@ -16,8 +16,8 @@ abbrev pub HasFirst : Image → VolumeKey → Option (List ℕ) → Option (List
 HasFirst image key old new =
     (m : Meant) × Accepts image m × (text : List ℕ) × (n : ℕ) × (read_key m key ≡ Ok text) × (n ≤ length text) × Appends old new (take n text)
 
--- why it answers nothing of a source: memory ran out, and the writer received nothing; or, whatever the source may hold, a
--- read failed, before anything was written or after the first of the text, or a write, as over the bytes
+-- why there is no answer for a source: memory ran out, and the writer received nothing; or, whatever the source may hold,
+-- a read failed, before anything was written or after the first bytes, or a write failed, as over bytes
 abbrev pub IsExtractFault : Sizes → Source → Agreed → VolumeKey → Option (List ℕ) → Option (List ℕ) → ToolError → Type 0
 IsExtractFault s k agrees key old new tool.Memory = Keeps old new
 IsExtractFault s k agrees key old new tool.Read = Keeps old new ⊎ WhereHeld agrees (λ bytes. HasFirst (image_of s bytes) key old new)

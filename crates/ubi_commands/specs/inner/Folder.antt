@@ -14,12 +14,12 @@ use Rattle.ubi_commands.specs.Unpack.{AreUnpacked, AreUnpackedUntil, Listed, all
 use Rattle.ubi_commands.specs.declared.folder_config.FolderConfig.{FolderConfig}
 use Rattle.ubi_commands.specs.declared.unpack.VolumeFile.{VolumeFile}
 
--- the file of a volume in a folder: its path, and the line that is answered where it can't be written
+-- the file of a volume in a folder: its path, and the line that is answered if it can't be written
 pub record IsFileOf (dir : List ℕ) (e : Listed) (f : VolumeFile) : Type 0 where
   pub path : string_bytes f.path ≡ file_path dir e
   pub unwritten : Gives f.unwritten (says (file_line (codes "cannot write ") (file_path dir e)) 1)
 
--- the files of volumes, in their order
+-- the files of volumes, in order
 abbrev pub AreFilesOf : List ℕ → List Listed → List VolumeFile → Type 0
 AreFilesOf dir [] [] = Unit {0}
 AreFilesOf dir (e ∷ es) (f ∷ fs) = IsFileOf dir e f × AreFilesOf dir es fs
@@ -29,13 +29,13 @@ AreFilesOf dir _ _ = ⊥
 abbrev pub config_in : Sizes → Placed → List ℕ
 config_in s p = config_text s p.image_seq (all_described (λ id. extent_len (extent_in p id)) (entries p.records.of))
 
--- the config of a folder: its path, its text, and the line that is answered where it can't be written
+-- the config of a folder: its path, its text, and the line that is answered if it can't be written
 pub record IsConfigOf (dir text : List ℕ) (f : FolderConfig) : Type 0 where
   pub path : string_bytes f.path ≡ config_path dir
   pub text_is : vec_items f.text ≡ text
   pub unwritten : Gives f.unwritten (says (file_line (codes "cannot write ") (config_path dir)) 1)
 
--- how unpacking volumes ends: each is unpacked, or those before the one at a place, whose file can't be written
+-- how unpacking volumes ends: each is unpacked, or only those before the one at a place, whose file can't be written
 abbrev pub Ends : (ℕ → Result (List ℕ) ReadError) → List ℕ → List Listed → Files → Files → Option ℕ → Type 0
 Ends read dir es old new None = AreUnpacked read dir es old new
 Ends read dir es old new (Some i) = (e : Listed) × AreUnpackedUntil read dir es i e old new

@@ -1,4 +1,4 @@
--- What is told in a format of work that may have failed.
+-- What is answered in a format for work that may have failed.
 use Rattle.std.specs.Prelude.{◌≡◌, ℕ, Err, List, Ok, Result}
 use Rattle.ubi_files.specs.Answer.{Gives, says}
 use Rattle.ubi_files.specs.Disk.{Files}
@@ -12,16 +12,16 @@ use Rattle.ubi_json.specs.Told.{error_data}
 use Rattle.ubi_commands.specs.declared.format.Format.{Format}
 use Rattle.ubi_commands.specs.declared.format.Format.TheVariants as format
 
--- what is told in a format of what is printed in plain lines
+-- what is answered in a format for what would be printed in plain lines
 abbrev pub IsLineIn : Format → Outcome → Outcome → Type 0
 IsLineIn format.Text plain o = o ≡ plain
 IsLineIn format.Json plain o = Gives o (says (json_line (error_data plain.text.items)) plain.status)
 
--- what is told of work: its outcome, or, in the format, what is printed of a file that can't be had
+-- what is answered for work: its outcome, or, in the format, what is printed for a file that can't be opened
 pub data IsToldIn (format : Format) (work : Result Outcome Unread) : Outcome → Type 0 where
   its_own : {o : Outcome} → work ≡ Ok o → IsToldIn format work o
   printed : {o : Outcome} (plain : Outcome) → work ≡ Err (unread.Told plain) → IsLineIn format plain o → IsToldIn format work o
 
--- what is printed of two dumps of which one can't be had
+-- what is printed for two dumps if one can't be opened
 abbrev pub IsUnseenOfDumps : Files → Dump → List ℕ → Dump → List ℕ → Outcome → Type 0
 IsUnseenOfDumps d here left there right = OfFile d here left (λ _ _ _. OfFile d there right (λ _ _ _ _. ⊥))

@@ -1,4 +1,4 @@
--- How the sections of a config are gathered, one after the other.
+-- How the sections of a config are gathered, in order.
 use Rattle.std.specs.Prelude.{◌≡◌, ℕ, List, [], ◌∷◌, IfSome, MatchOption, None, Ok, Option, Some, length, sum_by}
 use Rattle.ubi_media.specs.Geometry.{Sizes}
 use Rattle.ubi_media.specs.declared.record.VolumeRecord.{VolumeRecord}
@@ -12,8 +12,8 @@ use Rattle.std.specs.Prelude.{Contains}
 use Rattle.std.specs.List.{AllByRecursion}
 use Rattle.ubi_commands.specs.Build.{image_paths}
 
--- the image file of a section was found, if it names one: what that holds, where it is known, and how many bytes it has; and the
--- line that is answered where it can't be read, or else that of the config
+-- the image file of a section was found, if it names one: what it holds, if that is known, and its size in bytes; and the line
+-- that is answered if it can't be read, or else that of the config
 abbrev pub IsFound : Files → List ℕ → Section → Outcome → Option (Option (List ℕ) × ℕ) → Type 0
 IsFound d config x unread file = MatchOption x.image ((file ≡ None) × IsUnreadLine config unread)
     (λ image. (held : Option (List ℕ)) × (n : ℕ) × (file ≡ Some (held, n)) × (held ≡ d.holds (image_path config image))
@@ -28,7 +28,7 @@ abbrev pub listed : {X : Type 0} → Option X → List X
 listed None = []
 listed (Some x) = x ∷ []
 
--- what sections come to so far, whose files have so many bytes together
+-- what sections give so far, whose files have this many bytes together
 pub record AreSoFar (d : Files) (s : Sizes) (config : List ℕ) (sections : List Section) (parts : List Part)
     (held : List (Option (List ℕ))) (n : ℕ) : Type 0 where
   pub gathered : AreGathered d s config sections parts held

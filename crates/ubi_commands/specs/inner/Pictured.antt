@@ -10,7 +10,7 @@ use Rattle.ubi_json.specs.List.{listed_volume}
 use Rattle.ubi_map.specs.Map.{refused_data, surveyed_data}
 use Rattle.ubi_map.specs.Page.{page_of}
 
--- the page of an image that is surveyed so, with its meaning; or of one that is refused
+-- the page of an image with this survey, with its meaning; or of one that is refused
 pub data IsPageBy (image : Image) (texts : List (List ℕ)) (letters : List ℕ) (a : Seen) (page : List ℕ) : Type 0 where
   by_meaning : (m : Meant) → Accepts image m
       → page ≡ page_of (surveyed_data image.sizes texts a (map listed_volume (entries m.volumes))) → IsPageBy image texts letters a page

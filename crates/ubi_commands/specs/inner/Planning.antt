@@ -1,4 +1,4 @@
--- What is left of a plan that is cut, and of a file that is written with it.
+-- What a plan that is cut leaves, and a file that is written with it.
 use Rattle.std.specs.Prelude.{◌≡◌, ◌≢◌, ℕ, List, Some, length}
 use Rattle.ubi_media.specs.Geometry.{Sizes}
 use Rattle.ubi_change.specs.Steps.{after}
@@ -9,7 +9,7 @@ use Rattle.ubi_files.specs.Answer.{Gives}
 use Rattle.ubi_files.specs.declared.outcome.Outcome.{Outcome}
 use Rattle.ubi_commands.specs.Plan.{cut_bytes}
 
--- an outcome, with these bytes as its file where the work was done
+-- an outcome, with these bytes as its file if the work was done
 pub data HasFile (work : Outcome) (bytes : List ℕ) (o : Outcome) : Type 0 where
   done : work.status ≡ 0 → Gives o (record { text = work.text.items; status = 0; file = Some bytes }) → HasFile work bytes o
   refused_file : work.status ≢ 0 → o ≡ work → HasFile work bytes o
@@ -19,6 +19,6 @@ pub record IsCut (image : Image) (steps : List Step) (k : ℕ) : Type 0 where
   pub same : length (cut_bytes image steps k) ≡ length image.bytes
   pub done : eraseblocks (record image { bytes = cut_bytes image steps k }) ≡ in_image after image steps k
 
--- so are those of whatever a source may hold
+-- so are the bytes after the first k steps, whatever a source may hold
 abbrev pub AreCut : Sizes → Agreed → List Step → ℕ → Type 0
 AreCut s agrees steps k = WhereHeld agrees (λ bytes. IsCut (image_of s bytes) steps k)

@@ -1,4 +1,4 @@
--- What the commands answer that read one image, and write a file.
+-- What the commands that read one image, and write a file, answer.
 use Rattle.std.specs.Prelude.{ℕ, List, Option}
 use Rattle.ubi_media.specs.Geometry.{Sizes}
 use Rattle.ubi_scan.specs.Source.{Agreed, Source}
@@ -10,7 +10,7 @@ use Rattle.ubi_files.specs.declared.outcome.Outcome.{Outcome}
 use Rattle.ubi_commands.specs.declared.writers.Writing.{Writing}
 use Rattle.ubi_commands.specs.declared.writers.Writing.TheVariants as writing
 
--- what a command answers of a source, which pages it gives, and what the file receives meanwhile
+-- what a command answers for a source, which pages it gives, and what the file receives meanwhile
 abbrev pub writes : Writing → Sizes → Source → Agreed → List ℕ → Option (List ℕ) → Option (List ℕ) → Outcome → Type 0
 writes writing.Normalise s k agrees pages = NormalisesOf s k agrees
 writes (writing.Extract key) s k agrees pages = ExtractsOf key s k agrees

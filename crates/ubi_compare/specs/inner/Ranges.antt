@@ -1,4 +1,4 @@
--- The ranges of LEBs that are found one after the other.
+-- The ranges of LEBs that are found in order.
 use Rattle.std.specs.Prelude.{◌≡◌, ◌≢◌, ◌↔◌, ℕ, Bool, true, false, List, [], ◌∷◌, ◌++◌, None, map}
 use Rattle.ubi_media.specs.Geometry.{Sizes}
 use Rattle.ubi_volume.specs.declared.content.Volume.{Volume}
@@ -7,20 +7,20 @@ use Rattle.ubi_compare.specs.declared.difference.Difference.{Difference}
 use Rattle.ubi_compare.specs.declared.difference.Difference.TheVariants as difference
 use Rattle.ubi_compare.specs.declared.ranges.Ranges.{Ranges}
 
--- ranges as they are told
+-- ranges as differences
 abbrev pub told_of : ℕ → List (ℕ × ℕ) → List Difference
 told_of id = map (λ (e : ℕ × ℕ). difference.Lebs id e.0 e.1)
 
--- what is told once more LEBs were found
+-- the differences once more LEBs were found
 abbrev pub told_with : Ranges → List ℕ → List Difference
 told_with r rest = r.told.items ++ told_of r.id (ranges_after r.begun rest)
 
--- of the first n LEBs these were found
+-- these of the first n LEBs were found
 abbrev pub HaveFound : Sizes → ℕ → Volume → Volume → Ranges → ℕ → Type 0
 HaveFound s id v w ranges n =
     (rest : List ℕ) → told_of id (ranges_after None (lebs_apart s v w n ++ rest)) ≡ told_with ranges rest
 
--- the same; in brief just whether there is one
+-- these of the first n LEBs were found; in brief only whether there is one
 abbrev pub HaveTold : Bool → Sizes → ℕ → Volume → Volume → Ranges → ℕ → Type 0
 HaveTold false s id v w ranges n = HaveFound s id v w ranges n
 HaveTold true s id v w ranges n = (told_with ranges [] ≡ []) ↔ (lebs_apart s v w n ≡ [])

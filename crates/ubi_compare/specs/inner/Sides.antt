@@ -21,13 +21,13 @@ use Rattle.ubi_compare.specs.declared.errors.CompareFault.{CompareFault}
 use Rattle.ubi_compare.specs.declared.errors.CompareFault.TheVariants as fault
 use Rattle.ubi_compare.specs.declared.sides.OneSide.{OneSide}
 
--- a read of a side failed, of one of so many eraseblocks
+-- a read of a side failed, which was of one of so many eraseblocks
 abbrev pub IsSideRead : ℕ → ℕ → CompareFault → Type 0
 IsSideRead m n (fault.Left e) = IsReadFault m e
 IsSideRead m n (fault.Right e) = IsReadFault n e
 IsSideRead m n fault.Memory = ⊥
 
--- the same, or memory ran out
+-- such a read failed, or memory ran out
 abbrev pub IsSidesError : ℕ → ℕ → CompareFault → Type 0
 IsSidesError m n fault.Memory = Unit {0}
 IsSidesError m n e = IsSideRead m n e
@@ -41,26 +41,26 @@ OfMeanings s p q left right fact =
 abbrev pub OfVolumes : ℕ → Meant → Meant → (Volume → Volume → Type 0) → Type 0
 OfVolumes id m n fact = (v w : Volume) → get m.volumes id ≡ Some v → get n.volumes id ≡ Some w → fact v w
 
--- a volume of a side: its record, and the case of what it reads, which the meaning that was surveyed tells
+-- a volume of a side: its record, and the case of what it reads, by the meaning that was surveyed
 pub record IsSideOf (s : Sizes) (k : Source) (agrees : Agreed) (id : ℕ) (side : OneSide) : Type 0 where
   pub survey : IsSurveyOf s k agrees side.survey.now
   pub recorded : get side.survey.now.records.of id ≡ Some side.entry.now
   pub sound : rec_fault s side.entry.now ≡ None
   pub case : WhereHeld agrees (λ bytes. TellsCase (image_of s bytes) side.survey.now id side.case)
 
--- what a case says of a volume
+-- the condition that a case gives a volume
 abbrev pub case_condition : PlaceContent → Condition
 case_condition place.Updating = condition.Updating
 case_condition place.Damaged = condition.Damaged
 case_condition (place.Static lebs bytes) = condition.Whole
 case_condition place.Dynamic = condition.Whole
 
--- two texts of other lengths, by their cases
+-- two static volumes with different lengths, by their cases
 abbrev pub case_lengths : ℕ → PlaceContent → PlaceContent → List Difference
 case_lengths id (place.Static lebs bytes) (place.Static others more) = unless (bytes == more) (difference.Bytes id bytes more)
 case_lengths id _ _ = []
 
--- the image sequence number, and the first n slots
+-- the differences of the image sequence numbers, and those of the first n slots
 abbrev pub first_differences : ℕ → Meant → Meant → List Difference
 first_differences k m n =
     unless (m.image_seq == n.image_seq) (difference.ImageSeq m.image_seq n.image_seq)

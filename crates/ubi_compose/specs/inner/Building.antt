@@ -1,4 +1,4 @@
--- The pieces that are built of parts; and what stands for the bytes where volumes are judged.
+-- The pieces that are built from parts; and what takes the place of the bytes when volumes are judged.
 use Rattle.std.specs.Prelude.{ℕ, ◌+◌, ◌*◌, ◌^◌, ◌<◌, ◌&&◌, Bool, List, [], if◌then◌else◌, find, flat_map, is_none, nat_lt, not, option_map, Option, ◌==◌}
 use Rattle.std.specs.FinMap as finite
 use Rattle.std.specs.List.{range_with_len}
@@ -20,7 +20,7 @@ use Rattle.ubi_compose.specs.declared.piece.Piece.{Piece}
 use Rattle.ubi_compose.specs.declared.recipe.Part.{Part}
 use Rattle.ubi_compose.specs.inner.Pieces.{Pieces}
 
--- a part has more bytes than its volume holds; of a record that breaks a rule nothing is said
+-- a part has more bytes than its volume holds; nothing is said if its record breaks a rule
 abbrev pub is_long : Sizes → Part → Bool
 is_long s p = is_none (rec_fault s p.entry) && nat_lt (p.entry.reserved * usable s p.entry) p.len
 
@@ -29,15 +29,15 @@ abbrev pub empty_of : VolKind → Content
 empty_of kind.Static = content.Static []
 empty_of kind.Dynamic = content.Dynamic finite.empty
 
--- a content with no bytes that a volume can have exactly where it can have those of the part
+-- a content without bytes that a volume can have exactly if it can have those of the part
 abbrev pub stand_in : Sizes → Part → Content
 stand_in s p = if is_long s p && not p.entry.marker then content.Updating else empty_of p.entry.kind
 
--- the volume of a part with that content
+-- the volume of a part with such a content
 abbrev pub stand_in_item : Sizes → Part → ℕ × Volume
 stand_in_item s p = (p.id, record { entry = p.entry; content = stand_in s p })
 
--- a source of a size has the bytes of all parts, and no more than 64 bits tell
+-- a source of this size has the bytes of all parts, and its size fits 64 bits
 pub record HasParts (size : ℕ) (parts : List Part) : Type 0 where
   pub narrow : size < 2 ^ 64
   pub reaches : Reaches size parts
@@ -52,12 +52,12 @@ table_of ps =
     flat_map (λ slot. rec_bytes ps.sizes (option_map (λ p. p.entry) (part_at ps slot)))
     (range_with_len 0 (slots ps.sizes))
 
--- the header of a piece of a part, without its check, by the kind of the volume
+-- the header of a piece of a part, without its CRC, by the kind of the volume
 abbrev pub part_header : VolKind → Sizes → Part → ℕ → ℕ → VidHeader
 part_header kind.Static s p lnum len = piece_header (data_pad s p.entry) p.id (pieces_of s p) lnum len 0
 part_header kind.Dynamic s p lnum len = plain kind.Dynamic 0 (data_pad s p.entry) p.id lnum
 
--- the piece, by that kind
+-- a piece of a part, by the kind of the volume
 abbrev pub piece_of_kind : VolKind → Sizes → Part → ℕ → Piece
 piece_of_kind k s p lnum = record {
   header = part_header k s p lnum (share_len (usable s p.entry) p.len lnum);
@@ -65,7 +65,7 @@ piece_of_kind k s p lnum = record {
   len = share_len (usable s p.entry) p.len lnum;
 }
 
--- and by the part alone
+-- a piece of a part, by the part alone
 abbrev pub built_piece : Sizes → Part → ℕ → Piece
 built_piece s p = piece_of_kind p.entry.kind s p
 

@@ -33,14 +33,14 @@ abbrev pub IsLineError : Result Line SpecCause → LineError → Type 0
 IsLineError r (line_error.Cause c) = r ≡ Err c
 IsLineError r line_error.Memory = Unit {0}
 
--- nothing was given yet
+-- nothing of a volume was given yet
 abbrev pub is_empty : Content → Bool
 is_empty content.Updating = false
 is_empty content.Damaged = false
 is_empty (content.Static text) = length text == 0
 is_empty (content.Dynamic lebs) = length (entries lebs) == 0
 
--- LEBs with one more, whose number is new and whose bytes aren't too many
+-- LEBs with one more, which has a new number and not too many bytes
 abbrev pub leb_added : ℕ → ℕ → List ℕ → FinMap nat_cmp (List ℕ) → Result (FinMap nat_cmp (List ℕ)) SpecCause
 leb_added size lnum bytes lebs =
     if is_some (get lebs lnum) then Err cause.Twice
@@ -92,19 +92,19 @@ IsRefused r line_error.Memory = Unit {0}
 abbrev pub place_of : ℕ → Items → Option ℕ
 place_of id items = position_from (λ n. n == id) 0 (map (λ e. e.0) items)
 
--- one volume more, whose number is new and whose record breaks no rule
+-- the volumes with one more, which has a new number and whose record breaks no rule
 abbrev pub opened : Sizes → Items → ℕ → VolumeRecord → Result Items SpecCause
 opened s items id r =
     if is_some (place_of id items) then Err cause.Order
     else option_map_or (λ fault. Err (cause.Record fault)) (rec_fault s r) (Ok (items ++ (id, volume_from s r []) ∷ []))
 
--- a content line is taken into the volume at a place
+-- the volumes after a content line for the volume at a place
 abbrev pub changed_at : Sizes → Items → Line → ℕ → Result Items SpecCause
 changed_at s items l place =
     option_map_or (λ e. result_map_both (λ v. slice_set items place (e.0, v)) (λ c. c) (with_line s e.1 l))
     (slice_get items place) (Err cause.Order)
 
--- a content line is taken into its volume
+-- the volumes after a content line
 abbrev pub changed : Sizes → Items → Line → Result Items SpecCause
 changed s items l = option_map_or (changed_at s items l) (place_of (volume_of l) items) (Err cause.Order)
 
@@ -116,7 +116,7 @@ taken s items (line.Text id bytes) = changed s items (line.Text id bytes)
 taken s items (line.Damaged id) = changed s items (line.Damaged id)
 taken s items (line.Updating id) = changed s items (line.Updating id)
 
--- what a line of the text makes of the volumes, where blank ones and comments make nothing
+-- what a line of the text makes of the volumes; blank lines and comments change nothing
 abbrev pub read : Sizes → Items → List ℕ → Result Items SpecCause
 read s items text = if is_skipped text then Ok items else line_of text >>= taken s items
 
@@ -124,7 +124,7 @@ read s items text = if is_skipped text then Ok items else line_of text >>= taken
 abbrev pub AreFaultless : Sizes → Items → Type 0
 AreFaultless s items = All (λ e. rec_fault s e.1.entry ≡ None) items
 
--- a map tells where the volume with a number stands
+-- a map says where the volume with a number stands
 pub record AreDrafts (places : BTreeMap ℕ ℕ) (items : Items) : Type 0 where
   pub ordered : IsOrdered nat_cmp places
   pub placed : (id : ℕ) → tree.get nat_cmp places id ≡ place_of id items

@@ -20,7 +20,7 @@ use Rattle.ubi_compose.specs.inner.Pieces.{Pieces}
 abbrev pub damaged_piece : Sizes → ℕ → VolumeRecord → Piece
 damaged_piece s id r = record { header = (damaged_block (data_pad s r) id).header; origin = origin.Nowhere; len = 0 }
 
--- that of a LEB of a static text, which stands in an eraseblock of the image
+-- the piece of a LEB of a static volume, which stands in an eraseblock of the image
 abbrev pub static_piece : Sizes → ℕ → VolumeRecord → ℕ → ℕ → ℕ → ℕ → Piece
 static_piece s id r lebs bytes lnum at = record {
   header = piece_header (data_pad s r) id lebs lnum (share_len (usable s r) bytes lnum) 0;
@@ -28,7 +28,7 @@ static_piece s id r lebs bytes lnum at = record {
   len = share_len (usable s r) bytes lnum;
 }
 
--- and that of one of a dynamic volume
+-- the piece of a LEB of a dynamic volume
 abbrev pub dynamic_piece : Sizes → ℕ → VolumeRecord → ℕ → ℕ → Piece
 dynamic_piece s id r lnum at = record {
   header = plain kind.Dynamic 0 (data_pad s r) id lnum;
@@ -36,7 +36,7 @@ dynamic_piece s id r lnum at = record {
   len = usable s r;
 }
 
--- that of a LEB, by what its volume reads
+-- the piece of a LEB, by what its volume reads
 abbrev pub stored_piece : Placed → ℕ → ℕ → VolumeRecord → PlaceContent → Option Piece
 stored_piece p id lnum r place.Updating = None
 stored_piece p id lnum r place.Damaged = Some (damaged_piece p.records.sizes id r)
@@ -45,14 +45,14 @@ stored_piece p id lnum r (place.Static lebs bytes) =
 stored_piece p id lnum r place.Dynamic =
     option_map (dynamic_piece p.records.sizes id r lnum) (get p.winners (id, lnum))
 
--- and how many LEBs the volume has at most
+-- how many LEBs a volume has at most
 abbrev pub stored_count : VolumeRecord → PlaceContent → ℕ
 stored_count r place.Updating = 0
 stored_count r place.Damaged = 1
 stored_count r (place.Static lebs bytes) = lebs
 stored_count r place.Dynamic = r.reserved
 
--- those of all volumes
+-- the pieces of all volumes
 abbrev pub stored_pieces : Placed → Pieces
 stored_pieces p = record {
   at = λ id lnum. option_map_or (λ r. option_map_or (stored_piece p id lnum r) (get p.contents id) None)

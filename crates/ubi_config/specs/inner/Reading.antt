@@ -6,12 +6,12 @@ use Rattle.ubi_config.specs.declared.errors.ConfigError.TheVariants as error
 use Rattle.ubi_config.specs.declared.errors.LineError.{LineError}
 use Rattle.ubi_config.specs.declared.errors.LineError.TheVariants as line_error
 
--- why something isn't read that the definition reads so
+-- why something that the definition reads so isn't read
 abbrev pub IsRefused : {X : Type 0} → Result X ConfigCause → LineError → Type 0
 IsRefused r (line_error.Cause c) = r ≡ Err c
 IsRefused r line_error.Memory = Unit {0}
 
--- why a line isn't taken whose cause is this
+-- why a line with this cause isn't taken
 abbrev pub IsCause : Option ConfigCause → LineError → Type 0
 IsCause o (line_error.Cause c) = o ≡ Some c
 IsCause o line_error.Memory = Unit {0}

@@ -1,4 +1,4 @@
--- What is answered on the way to what is detected of a file.
+-- What is found on the way to what is detected in a file.
 use Rattle.std.specs.Prelude.{◌≡◌, ℕ, ◌+◌, ◌-◌, ◌*◌, ◌<◌, ◌≤◌, ◌⊎◌, ◌==◌, ◌&&◌, ◌||◌, Bool, [], None, Some, false, true, if◌then◌else◌, nat_le, nat_lt, IsFalse, IsTrue, List, Option, find, fold, length, map, max, not, option_map, slice_index_or}
 use Rattle.std.specs.Int.{IsGcd}
 use Rattle.std.specs.List.{All, list_all, list_any}
@@ -41,12 +41,12 @@ pub record AreGroups (heads : List Head) (gs : List Group) : Type 0 where
   pub keys : map (λ g. g.key) gs ≡ keys_of heads
   pub each : All (IsGroup heads) gs
 
--- whether these are the groups of headers; else these name too many keys
+-- whether these are the groups of headers; if not, the headers name too many keys
 abbrev pub AreGroupsIf : List Head → List Group → Bool → Type 0
 AreGroupsIf heads gs true = AreGroups heads gs
 AreGroupsIf heads gs false = most_keys < length (keys_of heads)
 
--- it was added to each of these
+-- a header was added to each of these groups
 pub record AreAdded (h : Head) (old new : List Group) : Type 0 where
   pub many : length new ≡ length old
   pub each : (i : ℕ) (d : Group) → i < length old → IsAdded h (slice_index_or old i d) (slice_index_or new i d)
@@ -64,7 +64,7 @@ pub record AreReady (heads : List Head) (k : Key) (gs : List Group) : Type 0 whe
 abbrev pub has_key : List Group → Key → Bool
 has_key gs k = list_any (λ g. same_key k g.key) gs
 
--- a key without a number, of the same offsets
+-- a key with the same offsets and without a number
 abbrev pub unnumbered : Key → Key
 unnumbered k = record k { image_seq = 0 }
 
@@ -72,7 +72,7 @@ unnumbered k = record k { image_seq = 0 }
 abbrev pub group_with : List Group → Key → Option Group
 group_with gs k = find (λ g. same_key k g.key) gs
 
--- whether none of the offsets of a key has a number
+-- whether no key with the offsets of a key has a number
 abbrev pub are_unnumbered : List Group → Key → Bool
 are_unnumbered gs k = list_all (λ g. not (same_offsets k g.key) || (g.key.image_seq == 0)) gs
 
@@ -89,7 +89,7 @@ abbrev pub beats : Group → Option Group → Bool
 beats g (Some f) = nat_lt (spoken f) (spoken g)
 beats g None = true
 
--- of the first n of groups the group j says a size, and speaks for most bytes of those that do; of several it is the first
+-- the group j says a size, and speaks for the most bytes of those of the first n groups that do; if several do, it is the first
 pub record IsBestOf (gs : List Group) (n : ℕ) (g : Group) : Type 0 where
   pub index : ℕ
   pub inside : index < n
@@ -107,7 +107,7 @@ abbrev pub IsReadAt : ℕ → DetectError → Type 0
 IsReadAt size (error.Read at) = at < size
 IsReadAt size _ = ⊥
 
--- it did, or memory ran out
+-- such a read failed, or memory ran out
 abbrev pub IsReadError : ℕ → DetectError → Type 0
 IsReadError size (error.Undetected _) = ⊥
 IsReadError size (error.Read at) = at < size
@@ -125,11 +125,11 @@ pub record AreWays (g : Group) (w : Ways) : Type 0 where
   pub without : w.without.items ≡ ways_without g
   pub with : w.with.items ≡ ways_with g
 
--- whether a way has as many votes as the one of some ways that has most, and one at least
+-- whether a way has as many votes as the most of some ways, and at least one
 abbrev pub is_most_voted : (Way → ℕ) → List Way → Way → Bool
 is_most_voted f ws w = nat_lt 0 (f w) && (f w == fold max 0 (map f ws))
 
--- why no geometry is told of the image of a group in a source of this size
+-- why no geometry is found for the image of a group in a source of this size
 abbrev pub IsUntold : ℕ → Agreed → Group → DetectError → Type 0
 IsUntold size agrees g (error.Undetected (cause.OutOfBand q)) =
     WhereHeld agrees (λ bytes. told bytes g ≡ []) × IsFalse (has_no_page g) × (q ≡ g.size)

@@ -13,7 +13,7 @@ pub record IsJoined (k l j : Key) : Type 0 where
   pub other : IsTrue (is_of j l)
   pub is : (j ≡ k) ⊎ (j ≡ l)
 
--- no group has both
+-- no group has both keys
 abbrev pub NoneOwns : Key → Key → Type 0
 NoneOwns k l = (m : Key) → IsTrue (is_of m k) → IsTrue (is_of m l) → ⊥
 
@@ -21,12 +21,12 @@ NoneOwns k l = (m : Key) → IsTrue (is_of m k) → IsTrue (is_of m l) → ⊥
 abbrev pub HasHeadOf : List ℕ → Key → ℕ → Type 0
 HasHeadOf bytes k at = (l : Key) × (key_at bytes at ≡ Some l) × IsTrue (is_of k l)
 
--- the first n eraseblocks of q bytes start with headers that are all of the group of a key, which one of them names but for its offsets
+-- the first n eraseblocks of q bytes start with headers that are all of the group of a key, and one of them names its number
 pub record AreJoined (bytes : List ℕ) (q n : ℕ) (k : Key) : Type 0 where
   pub each : (i : ℕ) → i < n → HasHeadOf bytes k (i * q)
   pub named : (i : ℕ) × (l : Key) × (i < n) × (key_at bytes (i * q) ≡ Some l) × IsTrue (is_of k l) × (l.image_seq ≡ k.image_seq)
 
--- no group has all of the first n
+-- no group has all of the first n headers
 abbrev pub NoneJoined : List ℕ → ℕ → ℕ → Type 0
 NoneJoined bytes q n = (m : Key) → ((i : ℕ) → i < n → HasHeadOf bytes m (i * q)) → ⊥
 
@@ -45,7 +45,7 @@ pub record IsFirstHead (bytes : List ℕ) (from to u : ℕ) : Type 0 where
 abbrev pub NotPlain : List ℕ → Type 0
 NotPlain bytes = (g : Group) → IsPlain bytes g → ⊥
 
--- it may plainly be one with eraseblocks of q bytes, and of no other size
+-- the file may plainly be an image with eraseblocks of q bytes, and of no other size
 pub record IsPlainSize (bytes : List ℕ) (q : ℕ) : Type 0 where
   pub from : 1 ≤ q
   pub to : q ≤ greatest_size
@@ -62,11 +62,11 @@ pub record IsCut (n q : ℕ) : Type 0 where
   pub two : 2 * q ≤ n
   pub whole : n % q ≡ 0
 
--- none that plainly is has all headers of its group where its eraseblocks begin
+-- no group that plainly is the image has all its headers where its eraseblocks begin
 abbrev pub NoneAlone : List ℕ → Type 0
 NoneAlone bytes = (g : Group) → IsPlain bytes g → IsFalse (has_inner_start bytes g) → ⊥
 
--- this one has
+-- this group has
 pub record IsAlone (bytes : List ℕ) (g : Group) : Type 0 where
   pub plain : IsPlain bytes g
   pub alone : IsFalse (has_inner_start bytes g)

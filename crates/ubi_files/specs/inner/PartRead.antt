@@ -4,7 +4,7 @@ use Rattle.ubi_files.specs.Disk.{Files}
 use Rattle.ubi_files.specs.Dump.{most_of, whole_len}
 use Rattle.ubi_files.specs.declared.dump.Dump.{Dump}
 
--- these are the bytes that are read of the part of a dump, and n those of its file with those before the part
+-- these are the bytes that are read of the part of a dump, and n is how many were read of its file, with those before the part
 pub record IsReadOf (d : Files) (dump : Dump) (path : List ℕ) (read : List ℕ) (n : ℕ) : Type 0 where
   pub bytes : IfSome (d.holds path) (λ all. read ≡ take (most_of dump) (drop dump.part.start all))
   pub len : IfSome (d.holds path) (λ all. n ≡ whole_len dump (length all))

@@ -8,17 +8,17 @@ use Rattle.ubi_media.specs.Check.{check_from}
 abbrev pub word_at : List (List ℕ) → ℕ → ℕ
 word_at words k = from_le_bytes w64 (slice_index_or words k [])
 
--- the powers of x^64 in the divisor, but for the highest
+-- the powers of x^64 in the divisor, except the highest
 abbrev pub powers : List ℕ
 powers = 236 ∷ 202 ∷ 59 ∷ 28 ∷ 0 ∷ []
 
--- the sum of the elements that stand so far behind a place
+-- the sum of the elements that stand so far after a place
 abbrev pub sum_behind : List ℕ → List ℕ → ℕ → ℕ
 sum_behind [] xs k = 0
 sum_behind (d ∷ ds) xs k = bit_xor (slice_index xs (k + d)) (sum_behind ds xs k)
 
--- what is left of the word at a place, once the divisor was taken off as often as the quotient says up to that
--- place: before the quotient's words stand the 252 that were carried
+-- what is left of the word at a place, once the divisor was taken off as often as the quotient says up to that place;
+-- the 252 words that were carried stand before the quotient's words
 abbrev pub left_of : List (List ℕ) → List ℕ → ℕ → ℕ
 left_of words quotient k = bit_xor (word_at words k) (sum_behind powers quotient k)
 
@@ -27,14 +27,14 @@ unfoldable pub bytes_of : (ℕ → ℕ) → ℕ → List ℕ
 bytes_of word zero = []
 bytes_of word (suc n) = bytes_of word n ++ to_le_bytes w64 (word n)
 
--- the first 252 words of a quotient stand for a state: to go on from the state over 252 words 0 is to go on from 0 over
+-- the first 252 words of a quotient stand for a state: going on from the state over 252 words 0 is going on from 0 over
 -- what the words of the quotient take off from these
 pub record Carries (quotient : List ℕ) (state : ℕ) : Type 0 where
   pub fits : state < 2 ^ 32
   pub after : check_from state (bytes_of (λ k. 0) 252)
       ≡ check_from 0 (bytes_of (sum_behind powers (take 252 quotient)) 252)
 
--- the quotient goes on by what is left of each of the first words of a piece, and stays the same before and behind
+-- the quotient goes on by what is left of each of the first words of a piece, and stays the same before and after
 pub record IsQuotient (piece : List (List ℕ)) (count : ℕ) (before quotient : List ℕ) : Type 0 where
   pub narrow : (k : ℕ) → slice_index quotient k < 2 ^ 64
   pub carried : (k : ℕ) → k < 252 → slice_index quotient k ≡ slice_index before k

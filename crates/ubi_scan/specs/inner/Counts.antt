@@ -14,14 +14,14 @@ first_seq known seq = if known == 0 then seq else known
 abbrev pub carrier_if : EcRead → ℕ
 carrier_if e = if seq_if e == 0 then 0 else 1
 
--- what it adds to the sum of the erase counters
+-- what one more eraseblock adds to the sum of the erase counters
 abbrev pub counter_if : EcRead → ℕ
 counter_if e = option_map_or (λ h. h.counter) (valid_ec e) 0
 
--- what it adds to the number of erase counters
+-- what one more eraseblock adds to the number of erase counters
 abbrev pub counted_if : EcRead → ℕ
 counted_if e = option_map_or (λ _. 1) (valid_ec e) 0
 
--- its sequence number, 0 where it has none that counts
+-- the sequence number of one more eraseblock, 0 if it has none that counts
 abbrev pub sqnum_if : EcRead → VidRead → ℕ
 sqnum_if e v = unwrap_or (option_and_then sqnum_in_use (header_if e v)) 0

@@ -1,9 +1,9 @@
--- Which eraseblock a call names where a read of it failed.
+-- Which eraseblock a call names if a read failed.
 use Rattle.std.specs.Prelude.{◌≡◌, ℕ}
 use Rattle.ubi_scan.specs.declared.errors.StreamError.{StreamError}
 use Rattle.ubi_scan.specs.declared.errors.StreamError.TheVariants as stream
 
--- where a read failed it was one of this eraseblock, once so many bytes were written
+-- if a read failed, it was one of this eraseblock, after this many bytes were written
 abbrev pub NamesRead : ℕ → ℕ → StreamError → Type 0
 NamesRead p n (stream.Read q written) = (q ≡ p) × (written ≡ n)
 NamesRead p n _ = Unit {0}

@@ -13,12 +13,12 @@ use Rattle.ubi_table.specs.Table.{CopyIs, can_decide}
 use Rattle.ubi_table.specs.declared.copy.CopyRead.{CopyRead}
 use Rattle.ubi_table.specs.declared.copy.CopyRead.TheVariants as copy
 
--- what a copy gives that isn't refused: no table where it can't decide, and else its table, which has room
+-- what a copy that isn't refused gives: no table if it can't decide, or else its table, which fits the device
 abbrev pub IsCopyTable : Sizes → List (List ℕ) → ℕ → Option Records → Type 0
 IsCopyTable s bs c None = (what : CopyRead) × CopyIs s bs c what × (can_decide what ≡ false)
 IsCopyTable s bs c (Some t) = CopyIs s bs c (copy.Good t) × HasSpace s t
 
--- why a copy that decides gives none
+-- why a copy that decides gives no table
 abbrev pub IsCopyFault : Sizes → List (List ℕ) → ℕ → Refusal → Type 0
 IsCopyFault s bs c (refusal.Record p slot fault) = CopyIs s bs c (copy.Faulty slot fault) × Wins s bs (layout, c) p
 IsCopyFault s bs c (refusal.SameName p i j) = CopyIs s bs c (copy.Twice i j) × Wins s bs (layout, c) p
@@ -29,7 +29,7 @@ IsCopyFault s bs c _ = ⊥
 pub record IsCopyTableOf (s : Sizes) (agrees : Agreed) (c : ℕ) (t : Option Records) : Type 0 where
   pub held : WhereHeld agrees (λ bytes. IsCopyTable s (blocks_of s bytes) c t)
 
--- and why it gives none
+-- why a copy of a source gives no table
 abbrev pub IsCopyOfError : Sizes → Source → Agreed → ℕ → StreamError → Type 0
 IsCopyOfError s k agrees c (stream.Refused cause) = WhereHeld agrees (λ bytes. IsCopyFault s (blocks_of s bytes) c cause)
 IsCopyOfError s k agrees c (stream.Read p written) = IsReadFault (blocks_in s k) (stream.Read p written)

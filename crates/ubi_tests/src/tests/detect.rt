@@ -10,7 +10,7 @@ use ubi_media::{EcOffsets, Geometry};
 use ubi_probe::ProbeSource;
 use ubi_scan::MemorySource;
 
-/// The image that is told of a file.
+/// The image that is found in a file.
 #[derive(Clone, Copy)]
 struct Image {
     /// The bytes of an eraseblock, without out-of-band bytes.
@@ -25,7 +25,7 @@ struct Image {
     part: (u64, u64),
 }
 
-/// What is told of a file.
+/// What is found in a file.
 #[derive(Clone, Copy)]
 enum Told {
     /// An image of eraseblocks of 1,024 bytes, whose headers fit pages of 64 and of 128 bytes: where it begins, and how many bytes
@@ -54,7 +54,7 @@ impl Told {
     }
 }
 
-/// A file of so many bytes with these rows, and what is told of it.
+/// A file of so many bytes with these rows, and what is found in it.
 struct Case {
     len: usize,
     rows: &'static [Row],
@@ -72,7 +72,7 @@ fn is_image(found: &Detected, want: &Image, page: u32) -> bool {
         && (found.start, found.length) == want.part
 }
 
-/// Whether just this is told of a file: of an image a geometry for each page, in their order.
+/// Whether just this is found in a file: a geometry of an image for each page, in order.
 fn is_told(alloc: Global, case: &Case) -> Result<bool, Fail> {
     let Case { len, rows, told } = case;
     let bytes = bytes_of(alloc, *len, rows)?;
@@ -101,7 +101,7 @@ static SMALL: [Case; 12] = [
         ],
         told: Told::Small(0, 4096),
     },
-    // The first eraseblock is blank; the second, behind the last one of the table.
+    // The first eraseblock is blank; the second, after the last one of the table.
     Case {
         len: 4096,
         rows: &[
@@ -122,7 +122,7 @@ static SMALL: [Case; 12] = [
         ],
         told: Told::Small(0, 7 * 1024),
     },
-    // A bad eraseblock is all zeros. It isn't blank: behind the last header it is no part of the image.
+    // A bad eraseblock is all zeros. It isn't blank: after the last header it is no part of the image.
     Case {
         len: 6 * 1024,
         rows: &[
@@ -155,7 +155,7 @@ static SMALL: [Case; 12] = [
         ],
         told: Told::Small(1536, 4096),
     },
-    // Other bytes lie behind it, as many as no eraseblock has.
+    // Other bytes lie after it, as many as no eraseblock has.
     Case {
         len: 4096 + 3000,
         rows: &[
@@ -194,7 +194,7 @@ static SMALL: [Case; 12] = [
         ],
         told: Told::Small(0, 4096),
     },
-    // Of two images that are equally large the first one is told.
+    // Of two images that are equally large the first one is found.
     Case {
         len: 4096,
         rows: &[
@@ -281,7 +281,7 @@ static OTHERS: [Case; 5] = [
             part: (0, 524_288),
         }),
     },
-    // With 64 out-of-band bytes behind each page of 2048, the identifier stands at 2112, and the table's last record at 26,708. A
+    // With 64 out-of-band bytes after each page of 2048, the identifier stands at 2112, and the table's last record at 26,708. A
     // page of other bytes lies before them.
     Case {
         len: 2112 + 3 * 135_168,
@@ -356,7 +356,7 @@ static UNDETECTED: [Case; 18] = [
         ],
         told: Told::Nothing(Undetected::NoSize),
     },
-    // Three, but nothing where the second half of an eraseblock would begin; or something behind blank bytes.
+    // Three, but nothing where the second half of an eraseblock would begin; or something after blank bytes.
     Case {
         len: 3 * 1024,
         rows: &[
@@ -517,7 +517,7 @@ fn tells_the_place_of_the_read_that_failed(rt: HostRuntime) -> Result<(), Fail> 
     Ok(())
 }
 
-/// Of 4 MiB of headers of other numbers the first 64 KiB alone are read: the read behind them, which would fail, isn't tried.
+/// Of 4 MiB of headers of other numbers the first 64 KiB alone are read: the read after them, which would fail, isn't tried.
 #[test]
 fn stops_at_too_many_numbers(rt: HostRuntime) -> Result<(), Fail> {
     let rows = [(64, 64, 65_535, What::Counted(64, 128))];

@@ -10,12 +10,12 @@ use Rattle.ubi_volume.specs.declared.content.Content.{Content}
 use Rattle.ubi_volume.specs.declared.content.Volume.{Volume}
 use Rattle.ubi_volume.specs.declared.places.PlaceContent.{PlaceContent}
 
--- the size of the piece of a text of so many LEBs that the winner of a LEB holds, if it holds one
+-- the size of the piece that the winner of a LEB holds of contents of `used` LEBs, if it holds one
 abbrev pub PieceSizeIs : Sizes → List (List ℕ) → ℕ → ℕ → ℕ → Option ℕ → Type 0
 PieceSizeIs s bs vol used lnum size = (text : Option (List ℕ)) × PieceIs s bs vol used lnum text
     × (size ≡ option_map length text)
 
--- the size of the text of the first n pieces
+-- the size of the contents in the first n pieces
 abbrev pub SizeIsRead : Sizes → List (List ℕ) → ℕ → ℕ → ℕ → ℕ → Type 0
 SizeIsRead s bs vol used n size = (text : List ℕ) × AreRead s bs vol used n text × (size ≡ length text)
 
@@ -23,18 +23,18 @@ SizeIsRead s bs vol used n size = (text : List ℕ) × AreRead s bs vol used n t
 abbrev pub CaseIs : Sizes → List (List ℕ) → ℕ → VolumeRecord → PlaceContent → Type 0
 CaseIs s bs vol r case = (c : Content) × ContentIs s bs vol r c × (case ≡ case_of s r c)
 
--- those of a volume, behind its number
+-- the case and size of a volume, after its number
 abbrev pub case_in : Sizes → ℕ × Volume → ℕ × PlaceContent
 case_in s v = (v.0, case_of s v.1.entry v.1.content)
 
--- those of the volumes of the entries
+-- the cases and sizes of the volumes of the entries
 pub record AreCases (s : Sizes) (bs : List (List ℕ)) (entries : List (ℕ × VolumeRecord))
     (listed : List (ℕ × PlaceContent)) : Type 0 where
   pub volumes : List (ℕ × Volume)
   pub contents : AreContents (ContentIs s bs) entries volumes
   pub cases : listed ≡ map (case_in s) volumes
 
--- each entry has a case behind its number, which its record allows
+-- each entry has a case after its number, which its record allows
 abbrev pub AreNumbered : FinMap leb_cmp ℕ → List (ℕ × VolumeRecord) → List (ℕ × PlaceContent) → Type 0
 AreNumbered winners [] [] = Unit {0}
 AreNumbered winners (e ∷ entries) (c ∷ cases) = (c.0 ≡ e.0) × CaseFits winners e.0 e.1 c.1 × AreNumbered winners entries cases

@@ -26,13 +26,13 @@ pub record AreTexts (size n : ℕ) (lebs : FinMap nat_cmp (List ℕ)) : Type 0 w
   pub fits : (lnum : ℕ) → IfSome (get lebs lnum) (λ text. (lnum < n) × (length text ≡ size))
   pub kept : (lnum : ℕ) → IfSome (get lebs lnum) (λ text. text ≢ blank size)
 
--- and each LEB below n reads what is kept of it
+-- each LEB below n reads what is kept of it
 pub record AreGathered (s : Sizes) (bs : List (List ℕ)) (vol : ℕ) (r : VolumeRecord) (n : ℕ)
     (lebs : FinMap nat_cmp (List ℕ)) : Type 0 where
   pub texts : AreTexts (usable s r) n lebs
   pub reads : (lnum : ℕ) → lnum < n → LebReads s bs vol r lnum (leb_text (usable s r) (get lebs lnum))
 
--- the text of the first n pieces
+-- the contents in the first n pieces
 pub record AreRead (s : Sizes) (bs : List (List ℕ)) (vol used n : ℕ) (text : List ℕ) : Type 0 where
   pub ps : List ℕ
   pub count : length ps ≡ n
@@ -40,7 +40,7 @@ pub record AreRead (s : Sizes) (bs : List (List ℕ)) (vol used n : ℕ) (text :
   pub pieces : (lnum : ℕ) → lnum < n → IsPiece s bs used (slice_index ps lnum)
   pub joined : text ≡ flat_map (piece s bs) ps
 
--- what a volume of a source reads, in whatever the source may hold; and it is as a meaning keeps it, whatever that is
+-- what a volume of a source reads, in whatever the source may hold; it is as a meaning keeps it, whatever that is
 pub record IsContentOf (s : Sizes) (agrees : Agreed) (vol : ℕ) (r : VolumeRecord) (c : Content) : Type 0 where
   pub fits : Fits s r c
   pub kept : KeepsNoBlank s r c
@@ -52,7 +52,7 @@ pub record AreContents (Has : ℕ → VolumeRecord → Content → Type 0) (entr
   pub alike : map (λ v. (v.0, v.1.entry)) volumes ≡ entries
   pub contents : All (λ v. Has v.0 v.1.entry v.1.content) volumes
 
--- of how many of the first n LEBs a text is kept
+-- how many of the first n LEBs have contents that are kept
 abbrev pub AreKept : Sizes → List (List ℕ) → ℕ → VolumeRecord → ℕ → ℕ → Type 0
 AreKept s bs vol r n count =
     (lebs : FinMap nat_cmp (List ℕ)) × AreGathered s bs vol r n lebs × (count ≡ length (entries lebs))

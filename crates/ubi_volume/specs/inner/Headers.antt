@@ -1,4 +1,4 @@
--- What is kept of the header of a winner, and when it is unlike its record.
+-- What a scan keeps of the header of a winner, and when it is unlike its record.
 use Rattle.std.specs.Prelude.{◌≡◌, ◌≢◌, ◌⊎◌, ℕ, false, List, Option, Some, None, MatchOption}
 use Rattle.ubi_media.specs.Geometry.{Sizes}
 use Rattle.ubi_media.specs.Record.{data_pad}
@@ -23,7 +23,7 @@ abbrev pub header_in : ScanState → Option MemberHeader
 header_in (state.Winner h) = Some h
 header_in _ = None
 
--- the header of p, where it wins its LEB
+-- the header of p, if p wins its LEB
 abbrev pub WinnerHeaderIs : Sizes → List (List ℕ) → ℕ → Option MemberHeader → Type 0
 WinnerHeaderIs s bs p header = MatchOption header
     ((of : Leb) → Wins s bs of p → ⊥)

@@ -12,8 +12,8 @@ use Rattle.ubi_volume.specs.Attached.{IsOutside, AreStates}
 use Rattle.ubi_volume.specs.declared.attached.BlockState.{BlockState}
 use Rattle.ubi_volume.specs.declared.attached.BlockState.TheVariants as state
 
--- what is known of a source before its volumes are looked at: a scan of it, its table, and that no winner is unlike its
--- record
+-- what is known of a source before its volumes are looked at: a scan of it, its table, and that each winner agrees with
+-- its record
 pub record AreChecked (s : Sizes) (k : Source) (agrees : Agreed) (found : Found) (t : Records) : Type 0 where
   pub sizes : IsGeometry s
   pub source : IsSource k agrees

@@ -40,7 +40,7 @@ fn unrenamed(
     Ok(plan.err())
 }
 
-/// The image with blank eraseblocks in the place of some.
+/// The image with blank eraseblocks in place of some.
 fn with_blank(alloc: Global, pebs: &[usize]) -> Result<Vec<u8>, Fail> {
     let mut image = small_image(alloc, &TWO_FREE)?;
     for (place, byte) in image.as_mut_slice().iter_mut().enumerate() {

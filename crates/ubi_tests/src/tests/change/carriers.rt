@@ -89,7 +89,7 @@ static CHANGES: [Change; 6] = [
         new: &[(b"a", 64)],
         ends: (3, BlockState::Free),
     },
-    // Both are erased, one after the other.
+    // Both are erased, in order.
     Change {
         case: Case {
             pebs: &[NEW_FIRST, NEW_SECOND, A, CARRIER_B, C, CARRIER_20],

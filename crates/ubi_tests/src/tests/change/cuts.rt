@@ -9,7 +9,7 @@ use ubi_change::{RenameRefusal, Step};
 use ubi_media::Geometry;
 use ubi_probe::pebs::{A, B, C, FIRST, FREE, Peb, SECOND, small, small_image};
 
-/// Whether volume 0 has the second of two names. Else it has the first.
+/// Whether volume 0 has the second of two names. If not, it has the first.
 fn is_named(
     alloc: Global,
     geometry: &Geometry,

@@ -11,7 +11,7 @@ use ubi_probe::pebs::{A, B, C, Ec, FIRST, FREE, IMAGE, Peb, SECOND, Vid, image_o
 use ubi_probe::texts::bytes_of;
 use ubi_volume::{Attached, BlockState, Bytes, attach, read_leb};
 
-/// The check of 64 bytes 0x61. Another program worked it out.
+/// The CRC of 64 bytes 0x61. Another program worked it out.
 pub const CHECK_OF_64: u32 = 0x764B_9AAA;
 
 /// The sizes of a geometry, as they are handed to `Geometry::new`.
@@ -69,9 +69,9 @@ pub const COPY_OF_7: Vid = Vid::Copy(7, 64, CHECK_OF_64, 2);
 pub enum Want {
     /// An eraseblock is erased, and its page 0 gets an erase-counter header.
     Renew(u32, Ec),
-    /// A page of an eraseblock gets a volume-identifier header, and each page behind it is filled with a byte.
+    /// A page of an eraseblock gets a volume-identifier header, and each page after it is filled with a byte.
     Copy(u32, u32, Vid, &'static [u8]),
-    /// The same where the header stands in page 0, behind an erase-counter header.
+    /// The same where the header stands in page 0, after an erase-counter header.
     Shared(u32, Ec, Vid, &'static [u8]),
 }
 
@@ -171,7 +171,7 @@ fn leb_of(
     Ok((out, attached.meaning().image_seq()))
 }
 
-/// Whether a text is new bytes, or else a byte so many times, with 0xFF behind.
+/// Whether a text is new bytes, or else a byte so many times, with 0xFF after them.
 fn reads(text: &[u8], new: Option<&[u8]>, old: (u8, usize)) -> bool {
     let mut reads = true;
     for (index, byte) in text.iter().enumerate() {
@@ -243,7 +243,7 @@ pub struct Case<'a> {
     pub pebs: &'a [Peb],
     /// The logical eraseblock.
     pub lnum: u32,
-    /// What it reads before, with 0xFF behind.
+    /// What it reads before, with 0xFF after them.
     pub old: (u8, usize),
     /// The steps.
     pub steps: &'a [Want],
@@ -253,7 +253,7 @@ pub struct Case<'a> {
     pub seq: u32,
 }
 
-/// A change of logical eraseblock 1 by one page, where the eraseblock behind three logical ones is free and clean.
+/// A change of logical eraseblock 1 by one page, where the eraseblock after three logical ones is free and clean.
 pub const CHANGE_OF_1: Case<'static> = Case {
     sizes: SMALL,
     pebs: &[FIRST, SECOND, A, B, C, FREE],
@@ -316,7 +316,7 @@ pub fn assert_plan(
     assert_reads(rt, alloc, case, image, Some(new))
 }
 
-/// Whether a logical eraseblock reads new bytes. Else it reads what it did.
+/// Whether a logical eraseblock reads new bytes. If not, it reads what it did.
 fn is_turned(
     alloc: Global,
     geometry: &Geometry,

@@ -13,7 +13,7 @@ use ubi_probe::pebs::{
 };
 use ubi_volume::BlockState;
 
-/// The checks of bytes 0x61, as many as the name says; of 64 of them and then 64 bytes 0xFF; of 64 bytes 0xFF; and of 64 bytes
+/// The CRCs of bytes 0x61, as many as the name says; of 64 of them and then 64 bytes 0xFF; of 64 bytes 0xFF; and of 64 bytes
 /// 0x62. Another program worked them out.
 const CHECK_OF_128: u32 = 0x0ED4_C973;
 
@@ -107,7 +107,7 @@ static CHANGES: [Change; 13] = [
         new: &[(b"a", 128)],
         ends: (3, BlockState::Free),
     },
-    // A second page that is blank: the turn comes with the page before.
+    // A second page that is blank: the commit point comes with the page before.
     Change {
         case: Case {
             steps: &[Want::Copy(5, 1, HALF, &[0x61, 0xFF]), Want::Renew(3, ONE)],
@@ -117,7 +117,7 @@ static CHANGES: [Change; 13] = [
         new: &[(b"a", 64), (b"\xFF", 64)],
         ends: (3, BlockState::Free),
     },
-    // A blank text: the turn comes with the header.
+    // A blank text: the commit point comes with the header.
     Change {
         case: Case {
             steps: &[Want::Copy(5, 1, BLANK, &[0xFF]), Want::Renew(3, ONE)],

@@ -7,7 +7,7 @@ use std::test::Fail;
 use ubi_change::{ChangeRefusal, RenameRefusal, Step};
 use ubi_probe::pebs::{NAMED, Vid, small};
 
-/// The first bytes of the record of the volume `root`, and its check; and the check of the empty record.
+/// The first bytes of the record of the volume `root`, and its CRC; and the CRC of the empty record.
 const ROOT: [u8; 20] = *b"\0\0\0\x14\0\0\0\x01\0\0\0\0\x01\0\0\x04root";
 
 const CHECK: [u8; 4] = [0x71, 0xDF, 0xB1, 0x1D];

@@ -18,7 +18,7 @@ static PEBS: [Peb; 4] = [
     FREE,
 ];
 
-/// A volume, its new name, and the two records then. Their checks were worked out by another program.
+/// A volume, its new name, and the two records then. Another program worked out their CRCs.
 static RENAMED: [(u32, &[u8], &[Slot]); 5] = [
     (
         0,
@@ -73,7 +73,7 @@ static RENAMED: [(u32, &[u8], &[Slot]); 5] = [
     (1, b"boot", &[ALIGNMENT_256, GROWING]),
 ];
 
-/// Adds what a step programs behind the headers of an eraseblock.
+/// Adds what a step programs after the headers of an eraseblock.
 fn put_page(pages: &mut Vec<u8>, step: &Step, block: u32) -> Result<(), AllocError> {
     match step {
         Step::Program { pnum, page, bytes } if *pnum == block && *page >= 2 => {

@@ -27,7 +27,7 @@ const ALIGNED: [Peb; 4] = [FIRST_ALIGNED, SECOND_ALIGNED, FREE, FREE];
 /// Two logical eraseblocks and one with the last sequence number but one, and two free eraseblocks.
 const FULL: [Peb; 7] = [FIRST, SECOND, A, B, C_LAST_BUT_1, FREE, FREE];
 
-/// The end of 64 bytes that begin with 0xFF and have the check of 64 bytes 0xFF.
+/// The end of 64 bytes that begin with 0xFF and have the CRC of 64 bytes 0xFF.
 const END: &[u8] = &[0xBE, 0xF9, 0x8E, 0x24, 0xFE];
 
 /// Eraseblocks, a volume and a logical eraseblock of it, its new bytes, each run so many times, and why the change isn't planned, if it

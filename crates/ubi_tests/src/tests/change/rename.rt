@@ -30,7 +30,7 @@ pub fn planned(
 }
 
 /// How one copy of the table is written anew: on which eraseblock, whether that is prepared, its pages from the header's to
-/// the last of the table, and the eraseblock that is erased behind it.
+/// the last of the table, and the eraseblock that is erased after it.
 #[derive(Clone, Copy)]
 struct Copied {
     target: u32,
@@ -131,7 +131,7 @@ static CASES: [Case; 14] = [
         pebs: &[FIRST, SECOND, A, B, C_LAST_BUT_2, FREE, FREE],
         ..BASE
     },
-    // No power of two.
+    // Not a power of two.
     Case { sizes: ODD, ..BASE },
     // Both headers in page 0, and a table of 688 bytes in pages of 256.
     Case {
@@ -277,7 +277,7 @@ static CASES: [Case; 14] = [
     },
 ];
 
-/// Asserts that a volume is as it was but for its name.
+/// Asserts that a volume is as it was except for its name.
 fn assert_named(rt: &impl Abort, volume: &Volume, was: &Volume, name: &[u8]) -> Result<(), Fail> {
     assert_eq!(*rt; volume.entry.name.as_bytes(), name);
     let entry = VolumeRecord {
@@ -383,8 +383,8 @@ fn renames_at_the_turn(rt: HostRuntime) -> Result<(), Fail> {
     Ok(())
 }
 
-/// A record whose check was chosen: 20 zero bytes, this check and 40 bytes 0xFF have the check of 64 bytes 0xFF, whatever
-/// comes before. So the last of the six pages of a table with it in slot 1 can't be told from a blank one.
+/// A record whose CRC was chosen: 20 zero bytes, this CRC and 40 bytes 0xFF have the CRC of 64 bytes 0xFF, whatever comes
+/// before. So the last of the six pages of a table with it in slot 1 can't be distinguished from a blank one.
 const WEAK: Slot = Slot {
     reserved: 1,
     name: &[0xE0, 0xE0, 0x2F, 0xB4],
@@ -397,7 +397,7 @@ const FIRST_WEAK: Peb = Peb(NAMED, Vid::Table(0, 0), Data::Table(&[ROOT, WEAK]))
 
 const SECOND_WEAK: Peb = Peb(NAMED, Vid::Table(1, 0), Data::Table(&[ROOT, WEAK]));
 
-/// Copies with a record whose check is wrong, and with one that comes twice.
+/// Copies with a record whose CRC is wrong, and with one that comes twice.
 const SECOND_CORRUPT: Peb = Peb(
     NAMED,
     Vid::Table(1, 0),
@@ -413,7 +413,7 @@ const WORN_FREE: Peb = Peb(WORN, Vid::Blank, NO_DATA);
 
 const CARRIER_FREE: Peb = Peb(EIGHT, Vid::Blank, NO_DATA);
 
-/// Why a rename of a volume to a name isn't planned. Of each two causes in their order both stand in some image.
+/// Why a rename of a volume to a name isn't planned. For each two causes in their order, some image has both.
 static REFUSED: [(&[Peb], u32, &[u8], RenameRefusal); 20] = [
     (
         &[FIRST_TWICE, SECOND],

@@ -91,7 +91,7 @@ static CASES: [Case; 5] = [
         ],
         want: Image::NormalRoot,
     },
-    // The 0xFF behind the last piece is one more eraseblock that isn't written.
+    // The 0xFF after the last piece is one more eraseblock that isn't written.
     Case {
         image_seq: 0x1234_5678,
         rows: &[(0, VolKind::Dynamic, 20, 1, "root", 0, 1500)],
@@ -142,8 +142,8 @@ fn builds_images_by_hand_and_what_a_text_composes_to(rt: HostRuntime) -> Result<
     Ok(())
 }
 
-/// What is answered of these volumes and two spare eraseblocks where the read `at` fails, or a write behind `room` bytes,
-/// once it is seen that the writer received as much of the image as is told.
+/// What is answered of these volumes and two spare eraseblocks where the read `at` fails, or a write after `room` bytes,
+/// once it is seen that the writer received as much of the image as is reported.
 fn fault_at(
     alloc: Global,
     bytes: &[u8],

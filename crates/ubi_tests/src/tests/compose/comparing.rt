@@ -26,7 +26,7 @@ static COMPARED: [(Image, Image, Result<bool, CompareError>); 22] = [
     (Image::ShorterRoot, Image::NormalRoot, Ok(false)),
     (Image::NormalRoot, Image::WiderRoot, Ok(false)),
     (Image::WiderRoot, Image::NormalRoot, Ok(false)),
-    // The size of a text, behind which its eraseblock has 0xFF.
+    // The size of contents, after which their eraseblock has 0xFF.
     (Image::NormalText, Image::NormalText, Ok(true)),
     (Image::NormalText, Image::NormalLongerText, Ok(false)),
     (Image::NormalLongerText, Image::NormalText, Ok(false)),

@@ -1,4 +1,4 @@
-//! Images that tests are made of. What is expected is the format's bytes, with checks that another program worked out.
+//! Images that tests are made of. What is expected is the format's bytes, with CRCs that another program worked out.
 
 use std::alloc::Global;
 use std::test::Fail;
@@ -123,7 +123,7 @@ static OTHER_ROOT: [Peb; 5] = [
 
 static TURNED_ROOT: [Peb; 5] = [NORMAL_C, NORMAL_B, NORMAL_A, ROOT_SECOND, ROOT_FIRST];
 
-/// With sequence numbers, and a logical eraseblock behind that is blank throughout.
+/// With sequence numbers, and a logical eraseblock after them that is blank throughout.
 static USED_ROOT: [Peb; 6] = [
     Peb(Ec::Of(10, IMAGE), Vid::Leb(0, 2, 0), Data::Fill(b'C', 384)),
     Peb(Ec::Of(11, IMAGE), Vid::Leb(0, 1, 7), Data::Fill(b'B', 384)),

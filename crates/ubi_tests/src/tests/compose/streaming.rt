@@ -9,7 +9,7 @@ use ubi_probe::pebs::small;
 use ubi_probe::{Failure, ProbeSource, ProbeWriter};
 use ubi_scan::{MemorySource, StreamError};
 
-/// Whether a writer that fails once it has so many bytes of a normal image received these, and their number is told.
+/// Whether a writer that fails once it has so many bytes of a normal image received these, and their number is reported.
 fn is_cut(
     alloc: Global,
     image: &[u8],
@@ -56,7 +56,7 @@ fn tells_how_much_was_written(rt: HostRuntime) -> Result<(), Fail> {
 }
 
 /// What is answered of an image whose read `at` fails, once it is seen that a writer received as much of the normal
-/// image as is told; none where no read failed.
+/// image as is reported; none if no read failed.
 fn fault_at(
     alloc: Global,
     image: &[u8],

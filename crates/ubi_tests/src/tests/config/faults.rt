@@ -108,7 +108,7 @@ static FAULTS: [(&[u8], Option<(u32, ConfigCause)>); 56] = [
         b"[v]\nmode=ubi\nvol_id=1\nvol_name=a\nvol_size=9\n[w]",
         Some((6, ConfigCause::Missing(Key::Mode))),
     ),
-    // A dynamic volume has no check to skip.
+    // A dynamic volume has no CRC to skip.
     (
         b"\n[v]\nvol_flags=skip-check\nmode=ubi\nvol_id=1\nvol_name=a\nimage=a",
         Some((2, ConfigCause::SkipCheck)),

@@ -32,7 +32,7 @@ static SIZES: [u64; 8] = [
     1 << 62,
 ];
 
-/// That the first read fails is told of each: memory runs out of none before.
+/// That the first read fails is reported for each: memory runs out of none before.
 #[test]
 fn the_first_read_fails(rt: HostRuntime) -> Result<(), Fail> {
     let alloc = rt.alloc();

@@ -1,8 +1,8 @@
-//! The check against vectors from outside.
+//! The CRC against vectors from outside.
 
 use ubi_media::{crc, crc_more};
 
-/// Messages, and their checks. The usual CRC-32 of each is the complement, as cbf43926 of the nine digits.
+/// Messages, and their CRCs. The usual CRC-32 of each is the complement, as cbf43926 of the nine digits.
 static VECTORS: [(&[u8], u32); 7] = [
     (b"", 0xFFFF_FFFF),
     (b"123456789", 0x340B_C6D9),
@@ -60,7 +60,7 @@ fn fill(bytes: &mut [u8]) {
     }
 }
 
-/// The check bit by bit: each comes in at the lowest place of the state, and a 1 that goes out there adds the polynomial.
+/// The CRC bit by bit: each comes in at the lowest place of the state, and a 1 that goes out there adds the polynomial.
 fn bitwise(state: u32, message: &[u8]) -> u32 {
     let mut register = state;
     for byte in message {
@@ -76,7 +76,7 @@ fn bitwise(state: u32, message: &[u8]) -> u32 {
     register
 }
 
-/// Whether the check of a part is the one bit by bit, from the start and from another state.
+/// Whether the CRC of a part is the one bit by bit, from the start and from another state.
 fn is_bitwise(bytes: &[u8], at: usize, len: usize) -> bool {
     let mut is = true;
     for state in [0xFFFF_FFFF, 0x8765_4321] {

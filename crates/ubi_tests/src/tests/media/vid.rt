@@ -15,7 +15,7 @@ const LAST: VidHeader = VidHeader {
     ..PLAIN
 };
 
-/// Headers and their bytes. The checks of these headers were worked out by another program.
+/// Headers and their bytes. Another program worked out the CRCs of these headers.
 static WRITTEN: [(&str, VidHeader, [u8; 64]); 3] = [
     (
         "a header of the table",
@@ -62,8 +62,8 @@ static WRITTEN: [(&str, VidHeader, [u8; 64]); 3] = [
     ),
 ];
 
-/// Headers, with a byte that stands over one of theirs, by its place, and what they are read as. The checks were worked out by
-/// another program.
+/// Headers, with a byte that stands over one of theirs, by its place, and what they are read as. Another program worked out
+/// the CRCs.
 static READ: [(&str, SealedVid, Option<(usize, u8)>, VidRead); 19] = [
     (
         "a sound header",

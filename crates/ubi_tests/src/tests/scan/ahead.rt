@@ -33,7 +33,7 @@ impl PlacedFile for CountedFile<'_> {
 /// The size of the file.
 const SIZE: u64 = 1 << 20;
 
-/// Reads from a source, one after the other.
+/// Reads from a source, in order.
 struct Way {
     /// Where the first begins.
     first: u64,

@@ -23,8 +23,8 @@ fn is_refused(alloc: Global, pebs: &[Peb], cause: Option<Refusal>) -> Result<boo
     Ok(refused == cause)
 }
 
-/// The header of logical eraseblock 0 of volume 0 with sequence number 1 and copy flag 2, its check worked out by another
-/// program.
+/// The header of logical eraseblock 0 of volume 0 with sequence number 1 and copy flag 2, whose CRC another program
+/// worked out.
 const COPY_FLAG_2: [u8; 64] =
     *b"UBI!\x01\x01\x02\0\0\0\0\0\0\0\0\0\0\0\0\0\0\0\0\0\0\0\0\0\0\0\0\0\0\
     \0\0\0\0\0\0\0\0\0\0\0\0\0\0\x01\0\0\0\0\0\0\0\0\0\0\0\0\xad\x6c\x21\xbe";

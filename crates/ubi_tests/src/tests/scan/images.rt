@@ -8,9 +8,9 @@ use ubi_scan::{Blocks, MemberHeader, Scan, ScanState, scan};
 
 /// A member of logical eraseblock 0 in no image that is no copy.
 pub const OLD: Peb = Peb(NEW, Vid::Leb(0, 0, 5), Data::Fill(b'5', 384));
-/// A newer copy with the check of its data.
+/// A newer copy with the CRC of its data.
 pub const RIGHT: Peb = Peb(NEW, Vid::Copy(0, 64, CHECK_OF_37, 7), Data::Fill(b'7', 64));
-/// Copies with another check, by their sequence number.
+/// Copies with another CRC, by their sequence number.
 pub const WRONG_4: Peb = Peb(
     NEW,
     Vid::Copy(0, 64, WRONG_CHECK_OF_39, 4),

@@ -97,7 +97,7 @@ fn error_of(alloc: Global, bytes: &[u8], at: u64) -> Result<Option<StreamError>,
     Ok(scan_from(alloc, &small()?, &mut source).err())
 }
 
-/// The read that fails, and the error that is told: each in turn, up to one more than there are.
+/// The read that fails, and the error that is reported: each in turn, up to one more than there are.
 static FAILING: [(u64, Option<StreamError>); 8] = [
     (1, Some(StreamError::Read(0, 0))),
     (2, Some(StreamError::Read(1, 0))),

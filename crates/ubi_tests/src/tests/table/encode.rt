@@ -42,7 +42,7 @@ fn encodes_records_and_empty_slots(rt: HostRuntime) -> Result<(), Fail> {
     Ok(())
 }
 
-/// The flags of a volume of a table. None where it has no such volume.
+/// The flags of a volume of a table. `None` if it has no such volume.
 fn flags_of(table: &Table, id: u32) -> Option<u8> {
     match table.get(id) {
         Some(volume) => Some(volume.flags),

@@ -23,7 +23,7 @@ fn other_named<'a>(
     entries.iter().find(|entry| entry.0 != id && entry.1.name.as_bytes() == name.as_bytes())
 }
 
-/// A table with another name for a volume. None where it has no such volume, the bytes are no name, or another volume
+/// A table with another name for a volume. `None` if it has no such volume, the bytes are no name, or another volume
 /// has the name.
 pub fn renamed(
     alloc: Global,
@@ -46,7 +46,7 @@ pub fn renamed(
 /// The longest name.
 const LONG: &[u8] = &[b'n'; 127];
 
-/// Records with another name: all else stays, but for the check.
+/// Records with another name: all else stays, but for the CRC.
 const Z: Slot = Slot {
     name_len: 1,
     name: b"z",

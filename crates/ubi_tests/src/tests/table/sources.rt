@@ -23,7 +23,7 @@ fn table_of<S: BlockSource>(
     choose_from(alloc, geometry, source, &found)
 }
 
-/// Copies of which the first decides, and of which the second does, each with a logical eraseblock behind.
+/// Copies of which the first decides, and of which the second does, each with a logical eraseblock after it.
 const SOUND: [Row; 3] = [First(&[ROOT]), Second(&[GROWING, ROOT]), Member(0)];
 
 const FIRST_CORRUPT: [Row; 3] = [First(&[FLIPPED]), Second(&[GROWING, ROOT]), Member(0)];

@@ -19,7 +19,7 @@ const WITH_BLANK: [Peb; 4] = [
     Peb(NAMED, Vid::Leb(0, 20, 0), Data::Fill(b'D', 384)),
 ];
 
-/// How much volume 0 of a source reads, or why that isn't told.
+/// How much volume 0 of a source reads, or why that isn't known.
 fn amount<S: BlockSource>(
     alloc: Global,
     source: &mut S,

@@ -37,7 +37,7 @@ fn extract(
 const STATIC: [Peb; 4] = [FIRST_BOOT, SECOND_BOOT, TEXT_0, TEXT_1];
 
 /// Some eraseblocks, a volume, which read fails, for how many bytes the writer has room, what is answered, and some of the bytes that
-/// are taken then: as many as is told.
+/// are taken then: as many as is reported.
 type Case = (
     &'static [Peb],
     u32,

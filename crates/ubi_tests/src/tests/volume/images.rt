@@ -110,7 +110,7 @@ fn reading(byte: u8, count: usize, size: usize) -> (Result<usize, ReadError>, [u
 /// What a logical eraseblock reads.
 #[derive(Clone, Copy)]
 pub enum Leb {
-    /// So many bytes: a byte and how often it stands there, 0xFF behind, and how many there are in all.
+    /// So many bytes: a byte and how often it stands there, 0xFF after them, and how many there are in all.
     Reads(u8, usize, usize),
     /// It isn't read, and why.
     Not(ReadError),

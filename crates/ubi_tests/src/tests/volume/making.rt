@@ -306,7 +306,7 @@ fn sorts_drops_what_is_blank_and_compares(rt: HostRuntime) -> Result<(), Fail> {
     Ok(())
 }
 
-/// Logical eraseblocks in no order, and their numbers by rising number. Each has as many bytes.
+/// Logical eraseblocks in no order, and their numbers in ascending order. Each has as many bytes.
 static LEBS: [(u32, u8, usize); 3] = [(7, 0x41, 7), (2, 0x41, 2), (5, 0x41, 5)];
 
 static NUMBERS: [u32; 3] = [2, 5, 7];

@@ -22,7 +22,7 @@ fn text_read(alloc: Global, image: &[u8]) -> Result<Result<Vec<u8>, AllocError>,
     }
 }
 
-/// Whether volume 0 of an image reads what it should. Else memory ran out.
+/// Whether volume 0 of an image reads what it should. If not, memory ran out.
 fn reads_all(alloc: Global, geometry: &Geometry) -> Result<Result<bool, AllocError>, Fail> {
     let Ok(image) = image_of(alloc, geometry, &BASE) else {
         return Ok(Err(AllocError));

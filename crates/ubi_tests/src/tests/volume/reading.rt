@@ -47,7 +47,7 @@ const NEWER_BAD: Peb = Peb(
     Data::Fill(b'8', 64),
 );
 
-/// What `B` holds, behind an erase-counter header that is corrupt, and behind a blank one; a newer eraseblock of it; and one of
+/// What `B` holds, after an erase-counter header that is corrupt, and after a blank one; a newer eraseblock of it; and one of
 /// bytes 0xFF in its place.
 const CORRUPT_B: Peb = Peb(Ec::Corrupt, Vid::Leb(0, 1, 0), Data::Fill(b'B', 384));
 

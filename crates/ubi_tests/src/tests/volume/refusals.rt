@@ -37,7 +37,7 @@ const SECOND_FULL: Peb = Peb(NAMED, Vid::Table(1, 0), Data::Table(&[FULL]));
 const SECOND_OVERFULL: Peb = Peb(NAMED, Vid::Table(1, 0), Data::Table(&[OVERFULL]));
 
 /// Logical eraseblocks of another internal volume that may be dropped, and of one that may be read alone; and one of a dynamic
-/// volume behind those of the static one.
+/// volume after those of the static one.
 const DROPPED_0: Peb = Peb(NAMED, Vid::Internal(1, 0), Data::Fill(b'D', 384));
 
 const UNKNOWN: Peb = Peb(NAMED, Vid::Internal(4, 0), Data::Fill(b'D', 384));

@@ -18,7 +18,7 @@ use ubi_scan::{FileSource, MemorySource, StreamError, scan_from};
 use ubi_table::choose_from;
 use ubi_volume::{PlaceContent, Places, attach_places};
 
-/// What a volume reads. None where the table has no such volume.
+/// What a volume reads. `None` if the table has no such volume.
 fn content(places: &Places, id: u32) -> Option<PlaceContent> {
     match places.table().get(id) {
         Some(_) => Some(places.content(id)),

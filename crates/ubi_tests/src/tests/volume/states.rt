@@ -37,7 +37,7 @@ fn has_states(alloc: Global, (pebs, want): &Case) -> Result<bool, Fail> {
     Ok(has)
 }
 
-/// Logical eraseblocks of another internal volume: one that is dropped, the same behind a blank erase-counter header, and one of
+/// Logical eraseblocks of another internal volume: one that is dropped, the same after a blank erase-counter header, and one of
 /// zeros.
 const OF_OTHERS: Peb = Peb(NAMED, Vid::Internal(1, 12), Data::Fill(b'A', 384));
 
@@ -45,7 +45,7 @@ const FORGOTTEN: Peb = Peb(Ec::Blank, Vid::Internal(1, 12), NO_DATA);
 
 const ZEROS_OF_OTHERS: Peb = Peb(NAMED, Vid::Internal(1, 12), Data::Fill(0, 384));
 
-/// The last logical eraseblock that `root` reserves, and the one behind it.
+/// The last logical eraseblock that `root` reserves, and the one after it.
 const LAST: Peb = Peb(NAMED, Vid::Leb(0, 19, 0), Data::Fill(b'A', 384));
 
 const BEYOND_LAST: Peb = Peb(NAMED, Vid::Leb(0, 20, 0), Data::Fill(b'A', 384));
@@ -80,7 +80,7 @@ const STATES_OF_BEATEN: [BlockState; 9] = [
     Stale, Table, Stale, Used, Used, Used, Orphan, Orphan, Table,
 ];
 
-/// An eraseblock of each sort behind the two copies of a table: by its headers, and then by the member that it is.
+/// An eraseblock of each sort after the two copies of a table: by its headers, and then by the member that it is.
 static CASES: [Case; 21] = [
     (&[FIRST, SECOND, ERASED], &[Table, Table, Blank]),
     (

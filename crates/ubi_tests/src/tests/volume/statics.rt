@@ -10,10 +10,10 @@ use ubi_probe::pebs::{
 use ubi_probe::records::BOOT_OF_2;
 use ubi_volume::ReadError;
 
-/// The check of 384 bytes 0x62.
+/// The CRC of 384 bytes 0x62.
 const CHECK_OF_62: u32 = 0x3627_FAFB;
 
-/// The check of 384 bytes 0xFF.
+/// The CRC of 384 bytes 0xFF.
 const CHECK_OF_FF: u32 = 0x6CE6_CFE8;
 
 /// A static volume of two logical eraseblocks, both of them full.
@@ -28,7 +28,7 @@ const FULL_TEXT: [Peb; 4] = [
     ),
 ];
 
-/// The second of three pieces, full; the second of two, with another byte than the one that its check is of; the last of four; and
+/// The second of three pieces, full; the second of two, with another byte than the one that its CRC is of; the last of four; and
 /// the first of four.
 const TEXT_OF_3: Peb = Peb(
     NAMED,
@@ -54,7 +54,7 @@ const TEXT_OF_4: Peb = Peb(
     Data::Fill(b'a', 384),
 );
 
-/// The check of one byte 0x62.
+/// The CRC of one byte 0x62.
 const CHECK_OF_B: u32 = 0x8E41_1006;
 
 /// A static volume while it is updated, whose logical eraseblocks don't agree on how many they are.
