@@ -283,7 +283,10 @@ def look_examples(tool, folder, made, checkers):
     chip, with_oob = Path(folder) / "chip.img", Path(folder) / "oob.img"
     data = image.read_bytes()
     chip.write_bytes(bytes(1024) + data + bytes(300))
-    with_oob.write_bytes(b"".join(data[at:at + 64] + b"\xFF" * 16 for at in range(0, len(data), 64)))
+    subprocess.run([tool, "compose", ROOT / "examples/router.txt", "--out", with_oob, "--peb", "131072", "--page", "2048"], check=True,
+        capture_output=True)
+    pages = with_oob.read_bytes()
+    with_oob.write_bytes(b"".join(pages[at:at + 2048] + bytes(64) for at in range(0, len(pages), 2048)))
     listed = subprocess.run([tool, "list", image], capture_output=True, check=True).stdout
     numbers = [line.split()[1].decode() for line in listed.splitlines() if line.startswith(b"volume ")]
     subprocess.run(["cc", "-Wall", "-Wextra", "-Werror", *checkers, f"-I{made}", "-o", f"{folder}/volumes", ROOT / "c/examples/volumes.c",

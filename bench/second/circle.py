@@ -1,7 +1,7 @@
 #!/usr/bin/env python3
 """Takes random images apart and puts them together again: `unpack`, and `build` of the config that it writes.
 
-usage: circle.py [--seed N] [--count N] [--large N] [--first N] [--dir FOLDER] [--tool PROGRAM]
+usage: circle.py [--seed N] [--count N] [--large N] [--ubinize N] [--first N] [--dir FOLDER] [--tool PROGRAM]
 
 The images are those of bench/second/fuzz.py. Of one that is accepted `unpack` has to write the files and the config that bench/second/rules.py gives. Then
 the words of the config's first line are run, with a path for IMAGE: what is built has to be the normal image of the volumes that the config describes, byte for byte; and
@@ -9,15 +9,21 @@ where it describes all of them, what `normalise` writes of the image itself.
 
 Without words there are 500 images (--count) of the seed 1 (--seed) with eraseblocks of up to 1 KiB, and 10 (--large) with eraseblocks of 128 KiB. They lie
 in a new folder below FOLDER (/tmp where it is left out), which is removed again. Without --tool the program is built first where it isn't yet. How many came back whole, and how many in part,
-is counted. The last line is 'N passed, M failed', and the exit status is 0 where none failed.
+is counted. With --ubinize N more images are taken apart whose sizes ubinize can make (mtd-utils has to be there): it takes the config too, and
+makes an image that means the same, unless docs/CONFIG-FORMAT.md names why not. The last line is 'N passed, M failed', and the exit status is 0 where none failed.
 """
 import collections
 import os
 import shutil
+import subprocess
 
 import rules
 from fuzz import REAL_SIZES, Failure, Maker, Mutator, Runner, built, finish, options, run_cases
 from rules import Image, Meaning, Refused
+
+
+# Sizes of which ubinize makes images: its sub-pages have 512 bytes.
+UBINIZE_SIZES = ((16384, 512, 512, 1024), (16384, 2048, 512, 2048), (32768, 2048, 2048, 4096))
 
 
 class Circle(Runner):
@@ -63,6 +69,36 @@ class Circle(Runner):
         self.expect(["normalise", path, "--out", self.out], f"blocks {len(normal) // self.geometry.peb}\n", 0, normal)
         return "whole"
 
+    def look_ubinized(self):
+        """Compares what ubinize makes of the config with what it describes. Gives whether that was looked at."""
+        path, g = self.put("whole", self.data), self.geometry
+        try:
+            image = Image(g, self.data)
+        except Refused:
+            return "refused"
+        meant = self.described(image)
+        if not meant.records or not all(self.is_alike(image, number) for number in meant.records):
+            return "not for ubinize"
+        shutil.rmtree(self.volumes, ignore_errors=True)
+        subprocess.run([self.tool, *self.whole(["unpack", path, "--out", self.volumes])], capture_output=True)
+        made = subprocess.run(["ubinize", "-o", self.out, "-p", str(g.peb), "-m", str(g.page), "-s", "512", "-O", str(g.vid),
+            "-Q", str(meant.image_seq), "ubi.ini"], cwd=self.volumes, capture_output=True)
+        if made.returncode:
+            raise Failure(f"ubinize refuses the config: {made.stderr.decode(errors='replace')}")
+        normal = self.put("normal", rules.normal_image(meant))
+        came = subprocess.run([self.tool, *self.whole(["same", normal, self.out])], capture_output=True)
+        if came.stdout != b"same\n":
+            raise Failure(f"what ubinize makes of the config is another: {came.stdout.decode()}")
+        os.remove(self.out)
+        shutil.rmtree(self.volumes)
+        return "ubinized"
+
+    def is_alike(self, image, number):
+        """Whether ubinize makes the same of a volume: its alignment leaves nothing free, and it isn't static without bytes."""
+        record, leb = image.records[number], self.geometry.leb
+        leaves_nothing = leb % record.alignment == 0 and record.alignment != leb
+        return leaves_nothing and (record.kind != 2 or bool(image.read_volume(number)))
+
     def lines(self, image):
         """The lines of `unpack`."""
         for number, record in sorted(image.records.items()):
@@ -72,11 +108,12 @@ class Circle(Runner):
 
 
 def main():
-    words = options(__doc__, 500, large=10)
+    words = options(__doc__, 500, large=10, ubinize=0)
     tool = built(words.tool)
     answers, failed = run_cases(words, {
         "": (lambda rng, folder: Circle(rng, tool, folder, Maker(rng)).look(), words.count),
         "large ": (lambda rng, folder: Circle(rng, tool, folder, Maker(rng, REAL_SIZES)).look(), words.large),
+        "ubinize ": (lambda rng, folder: Circle(rng, tool, folder, Maker(rng, UBINIZE_SIZES)).look_ubinized(), words.ubinize),
     })
     print(", ".join(f"{count} {answer}" for answer, count in sorted(collections.Counter(answers).items())))
     finish(len(answers), failed)
