@@ -31,11 +31,11 @@ HEADLINE = ("ubi_commands", "Headline", "Headline")
 # The calls that compute what the headline speaks of, by their files.
 CALLS = (
     ("ubi_volume", "attached", "attach"),
-    ("ubi_compose", "composing", "compose"),
-    ("ubi_compose", "composing", "normalise"),
-    ("ubi_compare", "comparing", "same"),
-    ("ubi_change", "planning", "plan_change"),
-    ("ubi_change", "renaming", "plan_rename"),
+    ("ubi_compose", "memory_image", "compose"),
+    ("ubi_compose", "memory_image", "normalise"),
+    ("ubi_compare", "compare", "same"),
+    ("ubi_change", "change", "plan_change"),
+    ("ubi_change", "rename", "plan_rename"),
 )
 # The calls that the program makes of the libraries, over sources and writers, and the one that `main` makes. What `show`, `compose` and
 # `build` read first is in docs/PROVED.md.
@@ -44,13 +44,13 @@ PROGRAM_CALLS = (
     ("ubi_volume", "places", "attach_places"),
     ("ubi_volume", "surveyed", "survey_from"),
     ("ubi_volume", "extract", "write_places"),
-    ("ubi_compose", "streaming", "normalise_to"),
-    ("ubi_compare", "comparing", "same_from"),
-    ("ubi_compare", "comparing", "diff_from"),
-    ("ubi_compose", "building", "build_to"),
-    ("ubi_change", "planning", "plan_change_from"),
-    ("ubi_change", "renaming", "plan_rename_from"),
-    ("ubi_change", "writing", "write_after"),
+    ("ubi_compose", "source_image", "normalise_to"),
+    ("ubi_compare", "compare", "same_from"),
+    ("ubi_compare", "compare", "diff_from"),
+    ("ubi_compose", "built_image", "build_to"),
+    ("ubi_change", "change", "plan_change_from"),
+    ("ubi_change", "rename", "plan_rename_from"),
+    ("ubi_change", "image_after", "write_after"),
     ("ubi_commands", "commands", "run_words"),
 )
 NAME = r"[^\s(){}.,;:λ→←∷≡×⊎]+"

@@ -1,10 +1,10 @@
 -- What is answered for edits over memory, and what is handed over of their plans.
-use Rattle.ubi_calls.proofs.Prelude.{[], Bool, List, Some, ap, arith, length, refl, subst, sym, take, true≢false, ℕ, ◌==◌, ◌∙◌, ◌≡◌, ◌≢◌, ne_eqb, take_all, IfOk-at_ok, IfOk-weaker, Err, IfOk, None, Ok, Option, Result, if◌then◌else◌, AllocError, Sizes, first_broken, GeometryError, Gives, says, geometry_line, image_of, Narrows, holds, memory, still, nothing, programmed, Step, Outcome, ToolError, ChangesFrom, RenamesFrom, FillsBoth, Told, Under, bad_limit, both, neither, sizes_of, DeviceSizes, PlansChange, PlansRename, HandsPlan, given_pages}
+use Rattle.ubi_calls.proofs.Prelude.{[], Bool, List, Some, ap, arith, length, refl, subst, sym, take, true≢false, ℕ, ◌==◌, ◌∙◌, ◌≡◌, ◌≢◌, ne_eqb, take_all, IfOk-at_ok, IfOk-weaker, Err, IfOk, None, Ok, Option, Result, if◌then◌else◌, AllocError, Sizes, first_broken, GeometryError, Gives, says, geometry_line, image_of, Narrows, holds, memory, still, nothing, programmed, Step, Outcome, ToolError, ChangesFrom, RenamesFrom, FillsBoth, MayTell, Under, bad_limit, both, neither, named_sizes, DeviceSizes, PlansChange, PlansRename, HandsPlan, given_pages}
 use Rattle.ubi_change.proofs.Unplanned as planning
 use Rattle.ubi_change.proofs.Unrenamed as renaming
 use Rattle.ubi_commands.specs.Change as change
 use Rattle.ubi_commands.specs.Rename as rename
-use Rattle.ubi_calls.proofs.Told.{at_sizes}
+use Rattle.ubi_calls.proofs.ToldOutcomes.{at_sizes}
 use Rattle.ubi_calls.specs.Edits as edits
 
 -- where the status is 0 the pages are given
@@ -57,7 +57,7 @@ module _ (s : Sizes) (image start left pages : List ℕ) (same : start ≡ image
         (rename_told id word o (IfOk-at_ok _ is h))) done
 
 -- what is told of a plan is handed over
-pub fills_both : {old new old_pages new_pages : List ℕ} {len pages_len status : ℕ} (told : List ℕ → Told) (pages : List ℕ)
+pub fills_both : {old new old_pages new_pages : List ℕ} {len pages_len status : ℕ} (told : List ℕ → MayTell) (pages : List ℕ)
     (r : Result Outcome AllocError) → IfOk r (λ o. told (given_pages o.status pages) o.text.items o.status)
     → HandsPlan r pages old new len old_pages new_pages pages_len status
     → FillsBoth told old new len old_pages new_pages pages_len status
@@ -66,12 +66,12 @@ fills_both told pages (Ok o) h given =
 fills_both told pages (Err e) h given = neither given.0.0 given.0.1 given.1 given.2 given.0.2
 
 -- under numbers, with the pages of each
-module _ (n : DeviceSizes) (told : List ℕ → Sizes → Told) (pages : List ℕ) where
-  pub allowed_plan : (s : Sizes) (r : Result Outcome AllocError) → (first_broken (sizes_of n) ≡ None) × (s ≡ sizes_of n)
+module _ (n : DeviceSizes) (told : List ℕ → Sizes → MayTell) (pages : List ℕ) where
+  pub allowed_plan : (s : Sizes) (r : Result Outcome AllocError) → (first_broken (named_sizes n) ≡ None) × (s ≡ named_sizes n)
       → IfOk r (λ o. told (given_pages o.status pages) s o.text.items o.status)
       → IfOk r (λ o. Under n (told (given_pages o.status pages)) o.text.items o.status)
   allowed_plan s r is h = IfOk-weaker r _ _ (λ o a. at_sizes n (told (given_pages o.status pages)) s is o.text.items o.status a) h
 
-  pub limited_plan : (e : GeometryError) (r : Result Outcome AllocError) → first_broken (sizes_of n) ≡ Some e
+  pub limited_plan : (e : GeometryError) (r : Result Outcome AllocError) → first_broken (named_sizes n) ≡ Some e
       → IfOk r (λ o. Gives o (says (geometry_line e) 2)) → IfOk r (λ o. Under n (told (given_pages o.status pages)) o.text.items o.status)
   limited_plan e r is h = IfOk-weaker r _ _ (λ o a. bad_limit e is a.text a.status) h

@@ -1,5 +1,5 @@
 mod Edited
-mod Filled
-mod Told
+mod FilledBuffers
+mod ToldOutcomes
 mod Wanted
 pub mod Prelude

@@ -30,16 +30,16 @@ pub use Rattle.ubi_media.specs.declared.geometry.GeometryError.{GeometryError}
 pub use Rattle.ubi_scan.proofs.InMemory.{still}
 pub use Rattle.ubi_scan.specs.Image.{Image, image_of}
 pub use Rattle.ubi_scan.specs.Source.{Narrows, Source, WhereHeld, holds, memory}
-pub use Rattle.ubi_volume.proofs.One.{Accepts-unique}
+pub use Rattle.ubi_volume.proofs.OneMeaning.{Accepts-unique}
 pub use Rattle.ubi_volume.specs.Extract.{extent_len}
 pub use Rattle.ubi_volume.specs.Places.{ArePlaces, ArePlacesOf, Placed}
 pub use Rattle.ubi_volume.specs.Reading.{read_volume, volume_len}
-pub use Rattle.ubi_calls.specs.Calls.{Fills, FillsBoth, Streams, Told, Under, bad_limit, both, ended, filled, neither, no_memory, printed, put, sizes_of, uncounted, under}
-pub use Rattle.ubi_calls.specs.Contents.{Normal, Reads, no_normal, normal, read, refused, unread}
+pub use Rattle.ubi_calls.specs.Calls.{Fills, FillsBoth, MayTell, Streams, Under, bad_limit, both, ended, filled, named_sizes, neither, no_memory, printed, put_into, uncounted, under}
+pub use Rattle.ubi_calls.specs.Contents.{Normal, ReadsVolume, no_normal, normal, read, refused, unread}
 pub use Rattle.ubi_calls.specs.Edits.{PlansChange, PlansRename}
 pub use Rattle.ubi_calls.specs.declared.numbers.DeviceSizes.{DeviceSizes}
 pub use Rattle.ubi_calls.specs.declared.streams.Content.{Content}
 pub use Rattle.ubi_calls.specs.inner.Asking.{answers}
-pub use Rattle.ubi_calls.specs.inner.Editing.{HandsPlan, given_pages, plans}
+pub use Rattle.ubi_calls.specs.inner.Editing.{HandsPlan, edit_plan, given_pages}
 pub use Rattle.ubi_calls.specs.inner.Handing.{HandsOver, Leaves}
 pub use Rattle.ubi_calls.specs.inner.Streaming.{IsUnwritten, Writes, said, wanted, wrote}

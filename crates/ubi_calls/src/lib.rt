@@ -5,14 +5,14 @@
 //! room for, and gives the length of all of it. Nothing is kept between calls.
 #![tactic(auto)]
 
-mod answering;
-mod filling;
+mod answer;
+mod buffer;
 mod lines;
 mod numbers;
 mod plans;
 mod streams;
 
-pub use answering::NO_MEMORY;
+pub use answer::NO_MEMORY;
 pub use lines::{check, diff, geometry, list, map, same, show};
 pub use numbers::DeviceSizes;
 pub use plans::{change, rename};

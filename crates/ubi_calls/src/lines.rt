@@ -14,7 +14,7 @@ ghost use Rattle.ubi_commands.specs.declared.format.Format.TheVariants as format
 ghost use Rattle.ubi_calls.specs.Calls.{Fills, Under, printed};
 ghost use Rattle.ubi_calls.specs.inner.Asking.{answers};
 
-use crate::answering::{hand_outcome, limit_outcome};
+use crate::answer::{hand_outcome, limit_outcome};
 use crate::numbers::{DeviceSizes, geometry_of};
 use std::alloc::{AllocError, Global};
 use ubi_commands::{Comparison, Format, run_check, run_geometry, run_list, run_map, run_show};

@@ -2,7 +2,7 @@
 
 ghost use Rattle.std.specs.Prelude.{◌≡◌, MatchResult, None, Some};
 ghost use Rattle.ubi_media.specs.Limits.{first_broken};
-ghost use Rattle.ubi_calls.specs.Calls.{sizes_of};
+ghost use Rattle.ubi_calls.specs.Calls.{named_sizes};
 
 use ubi_media::{Geometry, GeometryError};
 

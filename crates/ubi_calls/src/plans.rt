@@ -4,9 +4,9 @@ ghost use Rattle.std.specs.Prelude.{◌≡◌, ◌≢◌, [], IfErr, IfOk, Ok};
 ghost use Rattle.ubi_scan.specs.Image.{image_of};
 ghost use Rattle.ubi_calls.specs.Calls.{FillsBoth, Under};
 ghost use Rattle.ubi_calls.specs.Edits.{PlansChange, PlansRename};
-ghost use Rattle.ubi_calls.specs.inner.Editing.{HandsPlan, given_pages, plans};
+ghost use Rattle.ubi_calls.specs.inner.Editing.{HandsPlan, given_pages, edit_plan};
 
-use crate::answering::{NO_MEMORY, hand, limit_outcome, put_all};
+use crate::answer::{NO_MEMORY, hand, limit_outcome, put_all};
 use crate::numbers::{DeviceSizes, geometry_of};
 use std::alloc::{AllocError, Global};
 use std::io;
@@ -149,7 +149,7 @@ impl Edit<'_> {
         pages: &mut Vec<u8>,
     ) -> Result<Outcome, AllocError>
         requires { pages.old.items ≡ [] }
-        ensures { IfOk result (λ o. plans self.now (image_of geometry.now image.now) (given_pages o.status pages.new.items) o.text.items o.status) }
+        ensures { IfOk result (λ o. edit_plan self.now (image_of geometry.now image.now) (given_pages o.status pages.new.items) o.text.items o.status) }
     {
         match self {
             Edit::Change(new) => plan_change(alloc, geometry, image, new, pages),
@@ -170,7 +170,7 @@ impl Edit<'_> {
         pages: &mut Vec<u8>,
     ) -> Result<Outcome, AllocError>
         requires { pages.old.items ≡ [] }
-        ensures { IfOk result (λ o. Under sizes.now (λ s. plans self.now (image_of s image.now) (given_pages o.status pages.new.items)) o.text.items o.status) }
+        ensures { IfOk result (λ o. Under sizes.now (λ s. edit_plan self.now (image_of s image.now) (given_pages o.status pages.new.items)) o.text.items o.status) }
     {
         match geometry_of(sizes) {
             Ok(geometry) => self.plan(alloc, &geometry, image, pages),
@@ -189,7 +189,7 @@ impl Edit<'_> {
         room: &mut [u8],
         pages_len: &mut usize,
     ) -> u32
-        ensures { FillsBoth (λ pages. Under sizes.now (λ s. plans self.now (image_of s image.now) pages)) out.old out.new len.new room.old room.new pages_len.new result }
+        ensures { FillsBoth (λ pages. Under sizes.now (λ s. edit_plan self.now (image_of s image.now) pages)) out.old out.new len.new room.old room.new pages_len.new result }
     {
         let mut pages = Vec::new(alloc);
         let answer = self.plan_under(alloc, sizes, image, &mut pages);

@@ -1,9 +1,9 @@
 -- The plan of an attached image, with no cause against it, survives every cut.
-use Rattle.ubi_change.proofs.Prelude.{◌≡◌, ◌≢◌, ℕ, suc, ◌+◌, ◌/◌, ◌%◌, ◌^◌, ◌<◌, ◌≤◌, Bool, true, false, not, List, [], ◌∷◌, ◌++◌, append_assoc, length, set, refl, ap, sym, ◌∙◌, subst, arith, length-append, length-set, None, Option, Some, ◌==◌, IfSome, count_by, nat_lt, option_map, then_some, FinMap, option_map_or, nat_cmp, nat_tests, Sizes, IsGeometry, leb_size, is_static, data_pad, usable, vid_bytes, EcHeader, VidHeader, VolKind, VolumeRecord, Image, eraseblocks, in_image, NoMember, Wins, Agrees, Records, AllBlank, AcceptsBlocks, Whole, Fits, IsVolume, Content, Volume, records_meant, found_wins, none_found, SurvivesCuts, programs_copy, turn, blank_header, copy_header, next_ec, mapped_plan, needs, plan_of, prepare, program_header, program_text, ready_bytes, ready_ec, release, taken, unmapped_plan, causes, first_cause, first_of, is_bad_length, ec_at, is_worn, takeable, weak_place, whole_place, ChangeRefusal, Step, own_causes, laid, rec_fault, half_pad, reserved_within}
+use Rattle.ubi_change.proofs.Prelude.{◌≡◌, ◌≢◌, ℕ, suc, ◌+◌, ◌/◌, ◌%◌, ◌^◌, ◌<◌, ◌≤◌, Bool, true, false, not, List, [], ◌∷◌, ◌++◌, append_assoc, length, set, refl, ap, sym, ◌∙◌, subst, arith, length-append, length-set, None, Option, Some, ◌==◌, IfSome, count_by, nat_lt, option_map, then_some, FinMap, option_map_or, nat_cmp, nat_tests, Sizes, IsGeometry, leb_size, is_static, data_pad, usable, vid_bytes, EcHeader, VidHeader, VolKind, VolumeRecord, Image, eraseblocks, of_blocks, NoMember, Wins, Agrees, Records, AllBlank, AcceptsBlocks, AttachValue, Fits, IsVolume, Content, Volume, records_meant, found_wins, none_found, SurvivesCuts, programs_copy, turn, blank_header, copy_header, next_ec, mapped_plan, needs, plan_of, prepare, program_header, program_text, ready_bytes, ready_ec, release, taken, unmapped_plan, causes, first_cause, first_of, is_bad_length, ec_at, is_worn, takeable, weak_pages, pages_needed, ChangeRefusal, Step, own_causes, laid, rec_fault, half_pad, reserved_within}
 use Rattle.std.specs.FinMap as finite
 use Rattle.ubi_media.specs.declared.vid.VolKind.TheVariants as kind
 use Rattle.ubi_volume.specs.declared.content.Content.TheVariants as content
-use Rattle.ubi_change.specs.declared.refusal.ChangeRefusal.TheVariants as refusal
+use Rattle.ubi_change.specs.declared.errors.ChangeRefusal.TheVariants as refusal
 use Rattle.ubi_change.proofs.CopyReplaced.{IsPrepared, IsRelease}
 use Rattle.ubi_change.proofs.AttachedImage as on
 use Rattle.ubi_change.proofs.Choosing.{MayBeTaken, may_be_taken, two_apart}
@@ -18,7 +18,7 @@ use Rattle.ubi_change.proofs.Survives.{survives}
 use Rattle.ubi_change.proofs.Turned.{AllFail, fail-append, header_fails, one-copy, turn-is}
 use Rattle.ubi_change.proofs.Unmapped as first
 use Rattle.ubi_change.proofs.Vacated.{LosesAll}
-use Rattle.ubi_change.proofs.Shown.{IsShown, SayUnused}
+use Rattle.ubi_change.proofs.PlanPremises.{IsShown, SayUnused}
 
 -- what it says that no cause stands
 first_none : (o : Option ChangeRefusal) (rest : List (Option ChangeRefusal)) → first_of (o ∷ rest) ≡ None
@@ -54,7 +54,7 @@ less_of a b e = grind (arith, nat_tests)
 most_of : (a b : ℕ) → nat_lt a b ≡ false → b ≤ a
 most_of a b e = grind (arith, nat_tests)
 
-pub record IsAllowed (s : Sizes) (bs : List (List ℕ)) (a : Whole) (r : VolumeRecord) (id lnum : ℕ)
+pub record IsAllowed (s : Sizes) (bs : List (List ℕ)) (a : AttachValue) (r : VolumeRecord) (id lnum : ℕ)
     (new : List ℕ) : Type 0 where
   pub dynamic : r.kind ≡ kind.Dynamic
   pub unmarked : r.marker ≡ false
@@ -65,7 +65,7 @@ pub record IsAllowed (s : Sizes) (bs : List (List ℕ)) (a : Whole) (r : VolumeR
 is_new_of : (s : Sizes) (r : VolumeRecord) (lnum : ℕ) (new : List ℕ)
     → then_some (not (nat_lt lnum r.reserved)) refusal.OutOfRange ≡ None
     → then_some (is_bad_length s (usable s r) (length new)) refusal.BadLength ≡ None
-    → option_map refusal.WeakCheck (weak_place s new) ≡ None → IsNew s r lnum new
+    → option_map refusal.WeakCheck (weak_pages s new) ≡ None → IsNew s r lnum new
 is_new_of s r lnum new range long weak =
     let length_fits = neither _ _ (not_some (is_bad_length s (usable s r) (length new)) refusal.BadLength long) in
     let first = neither (length new == 0) (not (length new % s.page == 0)) length_fits.0 in
@@ -75,7 +75,7 @@ is_new_of s r lnum new range long weak =
       some = some_of (length new) first.0;
       short = most_of (usable s r) (length new) length_fits.1;
       paged = zero_of (length new % s.page) (not_not (length new % s.page == 0) first.1);
-      strong = not_weak (weak_place s new) weak;
+      strong = not_weak (weak_pages s new) weak;
     }
 
 -- no cause stands that the image has no part in
@@ -92,7 +92,7 @@ own_allowed s r lnum new e =
       is_new_of s r lnum new c3.0 c4.0 c5.0,
     )
 
-pub is_allowed : (s : Sizes) (bs : List (List ℕ)) (a : Whole) (r : VolumeRecord) (id lnum : ℕ) (new : List ℕ)
+pub is_allowed : (s : Sizes) (bs : List (List ℕ)) (a : AttachValue) (r : VolumeRecord) (id lnum : ℕ) (new : List ℕ)
     → first_of (causes s bs a r id lnum new) ≡ None → IsAllowed s bs a r id lnum new
 is_allowed s bs a r id lnum new e =
     let c1 = first_none _ _ e in
@@ -124,14 +124,14 @@ lebs_of s r (content.Dynamic lebs) d u f = (lebs, refl)
 pub record Changing : Type 0 where
   pub image : Image
   pub g : IsGeometry image.sizes
-  pub a : Whole
+  pub a : AttachValue
   pub att : IsShown image a
   pub id : ℕ
   pub lnum : ℕ
   pub new : List ℕ
   pub v : Volume
   pub there : finite.get a.meaning.volumes id ≡ Some v
-  pub allowed : in_image first_cause image a id lnum new ≡ None
+  pub allowed : of_blocks first_cause image a id lnum new ≡ None
 
 module _ (change : Changing) where
   open change use {image, g, a, att, id, lnum, new, v, there, allowed}
@@ -236,7 +236,7 @@ module _ (change : Changing) where
 
     -- where the new is meant from
     pub mapped_turn : turn s (mapped_plan s bs a v.entry id lnum new b old) new
-        ≡ length (prepare s bs a b) + suc (whole_place s new)
+        ≡ length (prepare s bs a b) + suc (pages_needed s new)
     mapped_turn =
         let h = copy_header 0 (data_pad s v.entry) id lnum (a.scan.top_sqnum + 1) new in
         let fits = copy_fits s v.entry id lnum (a.scan.top_sqnum + 1) new slot number half wide no_cause.is_new.some
@@ -254,7 +254,7 @@ module _ (change : Changing) where
         let sound = copy_sound s v.entry id lnum (a.scan.top_sqnum + 1) new slot number half wide no_cause.is_new.some
         fits_leb in
         survives s bs a.meaning id lnum new (mapped_plan s bs a v.entry id lnum new b old)
-        (length (prepare s bs a b) + suc (whole_place s new))
+        (length (prepare s bs a b) + suc (pages_needed s new))
         (one-copy s g (ready_bytes s bs a b) made.2.size h fits sound refl b new (prepare s bs a b)
         (release s bs a old (ec_at s bs old)) (on.prepare_fails image g a att b)
         (on.release_fails image g a att old (ec_at s bs old))) mapped_turn
@@ -416,7 +416,7 @@ module _ (change : Changing) where
         (on.prepare_fails image g a att b1)
 
     -- where the new is meant from
-    steps_turn : turn s steps new ≡ length mount0 + (length (prepare s bs a b1) + suc (whole_place s new))
+    steps_turn : turn s steps new ≡ length mount0 + (length (prepare s bs a b1) + suc (pages_needed s new))
     steps_turn =
         let fits = copy_fits s v.entry id lnum (a.scan.top_sqnum + 1 + 1) new slot number half wide no_cause.is_new.some
         fits_leb many in
@@ -436,7 +436,7 @@ module _ (change : Changing) where
         (copy_header 0 (data_pad s v.entry) id lnum k new) ∷ []) ++ program_text s b1 new ++ rel0)) two
 
     pub unmapped_turn : turn s (unmapped_plan s bs a v.entry id lnum new e0 b1) new
-        ≡ length mount0 + (length (prepare s bs a b1) + suc (whole_place s new))
+        ≡ length mount0 + (length (prepare s bs a b1) + suc (pages_needed s new))
     unmapped_turn = ap (λ xs. turn s xs new) plan-steps ∙ steps_turn
 
     unmapped_survives : SurvivesCuts s bs a.meaning id lnum new steps
@@ -448,7 +448,7 @@ module _ (change : Changing) where
         let one = one-copy s g (ready_bytes s bs a b1) made1.2.size header1 fits sound refl b1 new
         (mount0 ++ prepare s bs a b1) rel0 mount_fails (on.release_fails image g a att e0 (ready_ec s bs a e0)) in
         survives s bs a.meaning id lnum new steps
-        (length mount0 + (length (prepare s bs a b1) + suc (whole_place s new)))
+        (length mount0 + (length (prepare s bs a b1) + suc (pages_needed s new)))
         (ap (count_by (programs_copy s)) (sym steps-are) ∙ one)
         steps_turn
         (first.unmapped s g bs a.meaning acc id lnum v.entry held.0 was slot number half no_cause.is_new.inside e0

@@ -1,19 +1,19 @@
 -- What an attached image gives all plans for it: what its eraseblocks are, and what the parts of a plan do there.
-use Rattle.ubi_change.proofs.Prelude.{◌≡◌, ℕ, ◌+◌, ◌/◌, ◌^◌, ◌<◌, inl, inr, Bool, true, false, cond, List, [], length, refl, sym, ◌∙◌, subst, arith, Option, Sizes, IsGeometry, EcHeader, Image, block, eraseblocks, length-of_chunk, length-first_chunks, clean_from_none, Agrees, seq_agrees, AcceptsBlocks, Whole, programs_copy, next_ec, prepare, release, renew, is_clean, is_sole_carrier, is_worn, stays}
+use Rattle.ubi_change.proofs.Prelude.{◌≡◌, ℕ, ◌+◌, ◌/◌, ◌^◌, ◌<◌, inl, inr, Bool, true, false, cond, List, [], length, refl, sym, ◌∙◌, subst, arith, Option, Sizes, IsGeometry, EcHeader, Image, block, eraseblocks, length-of_chunk, length-first_chunks, clean_from_none, Agrees, seq_agrees, AcceptsBlocks, AttachValue, programs_copy, next_ec, prepare, release, renew, is_clean, is_sole_carrier, is_worn, stays}
 use Rattle.std.proofs.Math.Nat as nat
 use Rattle.ubi_change.proofs.CopyReplaced.{IsRelease}
 use Rattle.ubi_change.proofs.Emptied.{AreBelow}
-use Rattle.ubi_change.proofs.Mean.{mean_narrow}
+use Rattle.ubi_change.proofs.MeanCounter.{mean_narrow}
 use Rattle.ubi_change.proofs.Premises.{neither}
 use Rattle.ubi_change.proofs.Renewed.{IsCounter}
 use Rattle.ubi_change.proofs.Seq.{NamedBeside, not_sole}
-use Rattle.ubi_change.proofs.Top.{member_below}
+use Rattle.ubi_change.proofs.TopSqnum.{member_below}
 use Rattle.ubi_change.proofs.Turned.{AllFail, renew_fails}
-use Rattle.ubi_change.proofs.Shown.{IsShown}
+use Rattle.ubi_change.proofs.PlanPremises.{IsShown}
 use Rattle.ubi_change.proofs.Runs.{if_renewed}
 
 -- its numbers have 31 and 32 bits
-module _ (image : Image) (a : Whole) (att : IsShown image a) where
+module _ (image : Image) (a : AttachValue) (att : IsShown image a) where
   pub mean_few : a.scan.mean_ec < 2 ^ 31
   mean_few = subst (λ (n : ℕ). n < 2 ^ 31) (sym att.scan.mean_ec) (mean_narrow image.sizes (eraseblocks image))
 
@@ -23,7 +23,7 @@ module _ (image : Image) (a : Whole) (att : IsShown image a) where
       let means = att.accepted.accepted.means in
       subst (λ (n : ℕ). n < 2 ^ 32) (means.image_seq ∙ sym att.scan.image_seq) means.meaning.image_seq
 
-module _ (image : Image) (g : IsGeometry image.sizes) (a : Whole) (att : IsShown image a) where
+module _ (image : Image) (g : IsGeometry image.sizes) (a : AttachValue) (att : IsShown image a) where
   abbrev s : Sizes
   s = image.sizes
 

@@ -1,6 +1,6 @@
 -- The steps of a plan that avoids something touch none of it: what is taken isn't avoided, since the plan sees that as
 -- used; and what is given up isn't, since it holds a LEB, and the listed eraseblocks begin blank.
-use Rattle.ubi_change.proofs.Prelude.{◌≡◌, ℕ, zero, suc, ◌<◌, ◌≤◌, Bool, true, false, List, [], ◌∷◌, length, take, get_or, refl, ap, sym, ◌∙◌, subst, arith, ◌&&◌, ◌||◌, IfSome, None, Option, Some, option_map, slice_get, option_map_or, IsGeometry, Sizes, Image, block, ec, eraseblocks, in_image, Leb, Wins, layout, Records, IsAttached, StateIs, Whole, records_of, BlockState, Volume, found_wins, TouchesOnly, given_up, needs, plan_of, taken, first_cause, rename_plan, MayBeNamed, ReadBlank, MayTouch, Avoided, Avoids, avoiding, is_avoided, is_blank_one, is_listed, state_avoiding, target, ec_at, is_unused, stays, takeable, Step}
+use Rattle.ubi_change.proofs.Prelude.{◌≡◌, ℕ, zero, suc, ◌<◌, ◌≤◌, Bool, true, false, List, [], ◌∷◌, length, take, get_or, refl, ap, sym, ◌∙◌, subst, arith, ◌&&◌, ◌||◌, IfSome, None, Option, Some, option_map, slice_get, option_map_or, IsGeometry, Sizes, Image, block, ec, eraseblocks, of_blocks, Leb, Wins, layout, Records, IsAttached, BlockStateIs, AttachValue, records_of, BlockState, Volume, found_wins, TouchesOnly, given_up, needs, plan_of, taken, first_cause, rename_plan, MayBeNamed, ReadBlank, MayTouch, Avoided, Avoids, avoiding, is_avoided, is_blank_one, is_listed, state_avoiding, target, ec_at, is_unused, stays, takeable, Step}
 use Rattle.std.specs.Prelude.{not}
 use Rattle.std.specs.FinMap as finite
 use Rattle.ubi_media.specs.declared.ec.EcRead.TheVariants as ec_read
@@ -12,7 +12,7 @@ use Rattle.ubi_change.proofs.Premises.{left_of}
 use Rattle.ubi_change.proofs.RenameAttached as rename
 use Rattle.ubi_change.proofs.RenameAttached.{Renaming}
 use Rattle.ubi_change.proofs.RenameFrugal.{rename_frugal}
-use Rattle.ubi_change.proofs.Shown.{IsShown, seen_state, shown_avoiding, not_avoided}
+use Rattle.ubi_change.proofs.PlanPremises.{IsShown, seen_state, shown_avoiding, not_avoided}
 use Rattle.ubi_change.proofs.Touched.{plan_touches}
 use Rattle.ubi_change.proofs.Unused.{nameless_ec, nameless_loses}
 
@@ -53,7 +53,7 @@ module _ (s : Sizes) (bs : List (List ℕ)) (av : Avoided) where
       (unread (is_listed av.marks p) (λ c. full (blank p w.member.inside c)), λ on e. full e)
 
   module _ (t : Records) (p : ℕ) where
-    by_state : (o : Option BlockState) → IfSome o (StateIs s bs t p)
+    by_state : (o : Option BlockState) → IfSome o (BlockStateIs s bs t p)
         → option_map_or is_unused (option_map (state_avoiding av p) o) false ≡ true → MayTouch s bs av p
     by_state None h u = absurd (cc)
     by_state (Some st) h u =
@@ -69,7 +69,7 @@ module _ (s : Sizes) (bs : List (List ℕ)) (av : Avoided) where
             ∙ ap (λ b. is_listed av.marks p || (b && true)) on
             ∙ or_true (is_listed av.marks p)
 
-module _ (image : Image) (av : Avoided) (from : Whole) (att : IsAttached image from) (blank : in_image ReadBlank image av) where
+module _ (image : Image) (av : Avoided) (from : AttachValue) (att : IsAttached image from) (blank : of_blocks ReadBlank image av) where
   abbrev s : Sizes
   s = image.sizes
 
@@ -77,7 +77,7 @@ module _ (image : Image) (av : Avoided) (from : Whole) (att : IsAttached image f
   bs = eraseblocks image
 
   -- the image as the plan sees it
-  abbrev a : Whole
+  abbrev a : AttachValue
   a = avoiding av from
 
   -- what may be taken may be touched
@@ -125,7 +125,7 @@ module _ (image : Image) (av : Avoided) (from : Whole) (att : IsAttached image f
       (plan_touches s bs a v.entry id lnum new enough)
       (given_may id lnum enough, takeable_may (needs s bs a id lnum))
 
-  pub rename_avoids : (g : IsGeometry s) (id : ℕ) (name : List ℕ) (allowed : in_image MayBeNamed image a id name)
+  pub rename_avoids : (g : IsGeometry s) (id : ℕ) (name : List ℕ) (allowed : of_blocks MayBeNamed image a id name)
       → Avoids s bs av (rename_plan s bs a id name)
   rename_avoids g id name allowed =
       let r : Renaming = record {

@@ -1,5 +1,5 @@
 -- Lines and pages stand for the steps that they were taken from.
-use Rattle.ubi_change.proofs.Prelude.{◌≡◌, ◌∙◌, ℕ, zero, suc, arith, List, [], ◌∷◌, ◌++◌, ap, ap₂, drop, map, refl, sym, take, drop-append_seam, take-append_seam, take-take, Sizes, AllWithin, FitsBlock, PagesCarry, line_of, programmed, with_pages, after, step_done, Step}
+use Rattle.ubi_change.proofs.Prelude.{◌≡◌, ◌∙◌, ℕ, zero, suc, arith, List, [], ◌∷◌, ◌++◌, ap, ap₂, drop, map, refl, sym, take, drop-append_seam, take-append_seam, take-take, Sizes, AllWithin, FitsBlock, PagesCarry, line_of, programmed, with_pages, blocks_after, step_done, Step}
 use Rattle.std.proofs.Common.{fold}
 use Rattle.ubi_change.specs.declared.step.Step.TheVariants as step
 
@@ -29,5 +29,5 @@ rebuilt s (step.Program p page bytes ∷ xs) (also here rest) =
 
 pub pages_carry : PagesCarry
 pages_carry s bs n steps k within =
-    ap (λ xs. after s bs xs k) (rebuilt s (take k steps) (paged_take s k steps (paged s n steps within)))
+    ap (λ xs. blocks_after s bs xs k) (rebuilt s (take k steps) (paged_take s k steps (paged s n steps within)))
     ∙ ap (fold (step_done s) bs) (take-take k k steps (omega arith))

@@ -1,7 +1,7 @@
 -- Which cause applies against a change, by those that depend on the request alone and those that depend on the image.
-use Rattle.ubi_change.proofs.Prelude.{◌≡◌, ◌≢◌, ℕ, Bool, true, false, List, [], ◌∷◌, ◌++◌, refl, ap, ◌∙◌, None, Option, Some, option_map, then_some, option_map_or, Sizes, VolumeRecord, Refusal, Image, eraseblocks, IsAttached, Whole, Volume, image_causes, own_causes, IsChangeRefusalAvoiding, causes, first_cause, first_of, Avoided, avoiding, ChangeRefusal}
+use Rattle.ubi_change.proofs.Prelude.{◌≡◌, ◌≢◌, ℕ, Bool, true, false, List, [], ◌∷◌, ◌++◌, refl, ap, ◌∙◌, None, Option, Some, option_map, then_some, option_map_or, Sizes, VolumeRecord, Refusal, Image, eraseblocks, IsAttached, AttachValue, Volume, image_causes, own_causes, IsChangeRefusalAvoiding, causes, first_cause, first_of, Avoided, avoiding, ChangeRefusal}
 use Rattle.std.specs.FinMap as finite
-use Rattle.ubi_change.specs.declared.refusal.ChangeRefusal.TheVariants as refusal
+use Rattle.ubi_change.specs.declared.errors.ChangeRefusal.TheVariants as refusal
 
 -- the first of causes and of others behind them
 front_stands : (xs ys : List (Option ChangeRefusal)) (c : ChangeRefusal) → first_of xs ≡ Some c
@@ -36,7 +36,7 @@ weak_own : (o : Option ℕ) → IsOwn (option_map refusal.WeakCheck o)
 weak_own None c e = absurd (cc)
 weak_own (Some k) c e = absurd (cc)
 
-module _ (s : Sizes) (bs : List (List ℕ)) (a : Whole) (r : VolumeRecord) (id lnum : ℕ) (new : List ℕ) where
+module _ (s : Sizes) (bs : List (List ℕ)) (a : AttachValue) (r : VolumeRecord) (id lnum : ℕ) (new : List ℕ) where
   are_own : AreOwn (causes s bs a r id lnum new)
   are_own = (
     some_own _ refusal.StaticVolume (λ c e. absurd (cc)),
@@ -63,9 +63,9 @@ module _ (s : Sizes) (bs : List (List ℕ)) (a : Whole) (r : VolumeRecord) (id l
   no_attach c e = first_own (causes s bs a r id lnum new) are_own c
       (front_stands (own_causes s r lnum new) (image_causes s bs a id lnum) (refusal.Attach c) e)
 
-module _ (image : Image) (av : Avoided) (from : Whole) (att : IsAttached image from) (id lnum : ℕ) (new : List ℕ) where
+module _ (image : Image) (av : Avoided) (from : AttachValue) (att : IsAttached image from) (id lnum : ℕ) (new : List ℕ) where
   -- the image as the plan sees it
-  abbrev a : Whole
+  abbrev a : AttachValue
   a = avoiding av from
 
   abbrev s : Sizes

@@ -1,6 +1,6 @@
 -- A copy is written to an eraseblock: its header and then the pages of its contents. What holds while the copy is bad
 -- holds before the commit point, and what holds once it is good holds from it on.
-use Rattle.ubi_change.proofs.Prelude.{◌≡◌, ◌≢◌, ℕ, zero, suc, ◌+◌, ◌-◌, ◌*◌, ◌/◌, ◌%◌, ◌<◌, ◌≤◌, true, false, List, [], ◌∷◌, ◌++◌, append_assoc, append-nil, length, map, set, take, drop, refl, ap, sym, ◌∙◌, subst, arith, length-drop, take-add, ◌==◌, None, enumerate_from, first_chunks, length-take-le, set-set, check, ec_reading, blank, filled, overwrite, Sizes, IsGeometry, vid_bytes, vid_fault, VidFits, EcHeader, VidHeader, IsMislaid, leb, IsMember, Leb, has_members, is_good, leb_of, sqnum_at, seq_of, length-first_chunks, program_header, program_text, fold-append, after, step_done, pages_of, torn, weak_place, whole_place, Step, filled-by, join_blank, laid}
+use Rattle.ubi_change.proofs.Prelude.{◌≡◌, ◌≢◌, ℕ, zero, suc, ◌+◌, ◌-◌, ◌*◌, ◌/◌, ◌%◌, ◌<◌, ◌≤◌, true, false, List, [], ◌∷◌, ◌++◌, append_assoc, append-nil, length, map, set, take, drop, refl, ap, sym, ◌∙◌, subst, arith, length-drop, take-add, ◌==◌, None, enumerate_from, first_chunks, length-take-le, set-set, crc_of, ec_reading, blank, filled, overwrite, Sizes, IsGeometry, vid_bytes, vid_fault, VidFits, EcHeader, VidHeader, IsMislaid, leb, IsMember, Leb, has_members, is_good, leb_of, sqnum_at, seq_of, length-first_chunks, program_header, program_text, fold-append, blocks_after, step_done, pages_of, torn, weak_pages, pages_needed, Step, filled-by, join_blank, laid}
 use Rattle.std.proofs.Common as lists
 use Rattle.std.proofs.lemmas.Nat as nat
 use Rattle.std.proofs.lemmas.List.{get_or-set_same}
@@ -90,10 +90,10 @@ pub record IsCopy (s : Sizes) (bs : List (List ℕ)) (seq : ℕ) (of : Leb) (byt
   pub above : (other : Leb) (q : ℕ) → IsMember s bs other q → sqnum_at s bs q < h.sqnum
   pub copied : h.copy_flag ≡ true
   pub data_size : h.data_size ≡ length new
-  pub data_crc : h.data_crc ≡ check new
+  pub data_crc : h.data_crc ≡ crc_of new
   pub paged : length new % s.page ≡ 0
   pub room : s.data_offset + length new ≤ s.peb_size
-  pub strong : weak_place s new ≡ None
+  pub strong : weak_pages s new ≡ None
 
 module _ (s : Sizes) (g : IsGeometry s) (bs : List (List ℕ)) (b : ℕ) (inside : b < length bs) (seq : ℕ) (of : Leb)
     (bytes : List ℕ) (e : EcHeader) (h : VidHeader) (new : List ℕ)
@@ -130,14 +130,14 @@ module _ (s : Sizes) (g : IsGeometry s) (bs : List (List ℕ)) (b : ℕ) (inside
       leb-part s g bytes e c.size c.reads h c.fits c.sound c.known c.placed (take (j * s.page) new) (within j l)
       ∙ ap (λ n. take (j * s.page) new ++ blank (s.peb_size - (s.data_offset + n))) (front j l)
 
-  pub good_at : (j : ℕ) → j ≤ pages_of s new → is_good s (part_at j) h ≡ (check (torn s new j) == check new)
+  pub good_at : (j : ℕ) → j ≤ pages_of s new → is_good s (part_at j) h ≡ (crc_of (torn s new j) == crc_of new)
   good_at j l =
       part-good s (part_at j) h new j (s.peb_size - (s.data_offset + j * s.page)) c.copied c.data_size c.data_crc
       (short j l) (leb_at j l)
       (let k = short j l in let r = c.room in omega arith)
 
   -- from the place on where the text is whole, the LEB reads it
-  pub whole_at : (j : ℕ) → whole_place s new ≤ j → j ≤ pages_of s new
+  pub whole_at : (j : ℕ) → pages_needed s new ≤ j → j ≤ pages_of s new
       → leb s (part_at j) ≡ new ++ blank (s.peb_size - (s.data_offset + length new))
   whole_at j w l =
       let k = short j l in
@@ -167,7 +167,7 @@ module _ (s : Sizes) (g : IsGeometry s) (bs : List (List ℕ)) (b : ℕ) (inside
   start_inside : b < length (set bs b (filled s.peb_size bytes))
   start_inside = omega (arith, lists.length-set bs b (filled s.peb_size bytes))
 
-  after_steps : (j : ℕ) → j ≤ pages_of s new → after s (set bs b (filled s.peb_size bytes)) copy_steps (suc j)
+  after_steps : (j : ℕ) → j ≤ pages_of s new → blocks_after s (set bs b (filled s.peb_size bytes)) copy_steps (suc j)
       ≡ set bs b (part_at j)
   after_steps j l =
       after-on s (set bs b (filled s.peb_size bytes)) b copy_steps (suc j) start_inside on_steps
@@ -185,17 +185,17 @@ module _ (s : Sizes) (g : IsGeometry s) (bs : List (List ℕ)) (b : ℕ) (inside
       → ((x : List ℕ) → IsMount s seq bs of h x → is_good s x h ≡ false → P (set bs b x))
       → ((x : List ℕ) → IsMount s seq bs of h x → is_good s x h ≡ true
       → leb s x ≡ new ++ blank (s.peb_size - (s.data_offset + length new)) → Q (set bs b x))
-      → TurnsAt s P Q (set bs b (filled s.peb_size bytes)) copy_steps (suc (whole_place s new))
+      → TurnsAt s P Q (set bs b (filled s.peb_size bytes)) copy_steps (suc (pages_needed s new))
   copy_turns start bad good = record {
     comes = (let m = whole_place-is s new c.paged in let k = m.most in let n = length_steps in omega arith);
     before = before;
     from = from;
   }
     where
-      place : whole_place s new ≤ pages_of s new
+      place : pages_needed s new ≤ pages_of s new
       place = (whole_place-is s new c.paged).most
 
-      before : (k : ℕ) → k < suc (whole_place s new) → P (after s (set bs b (filled s.peb_size bytes)) copy_steps k)
+      before : (k : ℕ) → k < suc (pages_needed s new) → P (blocks_after s (set bs b (filled s.peb_size bytes)) copy_steps k)
       before zero l = start
       before (suc j) l =
           let most = place in
@@ -203,19 +203,19 @@ module _ (s : Sizes) (g : IsGeometry s) (bs : List (List ℕ)) (b : ℕ) (inside
           subst P (sym (after_steps j m))
           (bad (part_at j) (mount_at j m) (good_at j m ∙ told-before s new c.paged c.strong j (omega arith)))
 
-      from : (k : ℕ) → suc (whole_place s new) ≤ k → k ≤ length copy_steps
-          → Q (after s (set bs b (filled s.peb_size bytes)) copy_steps k)
+      from : (k : ℕ) → suc (pages_needed s new) ≤ k → k ≤ length copy_steps
+          → Q (blocks_after s (set bs b (filled s.peb_size bytes)) copy_steps k)
       from zero l n = absurd (omega arith)
       from (suc j) l n =
           let m : j ≤ pages_of s new = (let k = length_steps in omega arith) in
-          let w : whole_place s new ≤ j = omega arith in
+          let w : pages_needed s new ≤ j = omega arith in
           subst Q (sym (after_steps j m))
           (good (part_at j) (mount_at j m) (good_at j m ∙ told-from s new c.paged j w m) (whole_at j w m))
 
   -- the eraseblocks once the copy is written
-  pub copy_done : after s (set bs b (filled s.peb_size bytes)) copy_steps (length copy_steps)
+  pub copy_done : blocks_after s (set bs b (filled s.peb_size bytes)) copy_steps (length copy_steps)
       ≡ set bs b (part_at (pages_of s new))
-  copy_done = ap (after s (set bs b (filled s.peb_size bytes)) copy_steps) length_steps
+  copy_done = ap (blocks_after s (set bs b (filled s.peb_size bytes)) copy_steps) length_steps
       ∙ after_steps (pages_of s new) (omega arith)
 
   -- the whole atomic copy: made ready by some steps, written, and then what was there before is given up by others
@@ -226,21 +226,21 @@ module _ (s : Sizes) (g : IsGeometry s) (bs : List (List ℕ)) (b : ℕ) (inside
       → leb s x ≡ new ++ blank (s.peb_size - (s.data_offset + length new)) → Q (set bs b x))
       → AtEachCut s Q (set bs b (part_at (pages_of s new))) rel
       → TurnsAt s P Q bs ((prep ++ program_header s b bytes h ∷ []) ++ program_text s b new ++ rel)
-      (length prep + suc (whole_place s new))
+      (length prep + suc (pages_needed s new))
   atomic_turns prep rel early ready bad good late =
       let start : P (set bs b (filled s.peb_size bytes)) = subst P (after-all s bs prep ∙ ready)
       (early (length prep) (omega arith)) in
       let turns = copy_turns start bad good in
-      let first : TurnsAt s P Q bs (prep ++ copy_steps) (length prep + suc (whole_place s new)) =
-      turns-behind s P Q bs prep copy_steps (suc (whole_place s new)) early
-      (subst (λ (z : List (List ℕ)). TurnsAt s P Q z copy_steps (suc (whole_place s new))) (sym ready) turns) in
+      let first : TurnsAt s P Q bs (prep ++ copy_steps) (length prep + suc (pages_needed s new)) =
+      turns-behind s P Q bs prep copy_steps (suc (pages_needed s new)) early
+      (subst (λ (z : List (List ℕ)). TurnsAt s P Q z copy_steps (suc (pages_needed s new))) (sym ready) turns) in
       let end : done s bs (prep ++ copy_steps) ≡ set bs b (part_at (pages_of s new)) =
       fold-append (step_done s) bs prep copy_steps ∙ ap (λ (z : List (List ℕ)). done s z copy_steps) ready
       ∙ sym (after-all s (set bs b (filled s.peb_size bytes)) copy_steps) ∙ copy_done in
       let joined : prep ++ copy_steps ≡ (prep ++ program_header s b bytes h ∷ []) ++ program_text s b new =
       sym (append_assoc prep (program_header s b bytes h ∷ []) (program_text s b new)) in
-      subst (λ (xs : List Step). TurnsAt s P Q bs (xs ++ rel) (length prep + suc (whole_place s new))) joined
-      (turns-before s P Q bs (prep ++ copy_steps) rel (length prep + suc (whole_place s new)) first
+      subst (λ (xs : List Step). TurnsAt s P Q bs (xs ++ rel) (length prep + suc (pages_needed s new))) joined
+      (turns-before s P Q bs (prep ++ copy_steps) rel (length prep + suc (pages_needed s new)) first
       (subst (λ (z : List (List ℕ)). AtEachCut s Q z rel) (sym end) late))
 
   -- the eraseblocks at its end

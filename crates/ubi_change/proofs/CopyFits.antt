@@ -1,5 +1,5 @@
 -- The steps of a copy fit: the header on an eraseblock that was made ready, and then the pages of its contents.
-use Rattle.ubi_change.proofs.Prelude.{◌≡◌, ℕ, zero, suc, ◌+◌, ◌-◌, ◌*◌, ◌/◌, ◌%◌, ◌^◌, ◌<◌, ◌≤◌, inl, inr, Bool, true, false, cond, List, [], ◌∷◌, ◌++◌, append_assoc, length, map, take, drop, replicate, refl, ap, ap₂, sym, ◌∙◌, subst, arith, length-append, length-drop, length-set, get_or-set_same, nat_lt, byte_at, bytes_high_first, enumerate_from, first_chunks, div-add-mod, div-eq_of_lt, mod-lt, nat_tests, length-take-le, mul-le, cases_lt, check, ec_bytes, ec_front, AreBytes, blank, filled, overwrite, IsGeometry, Sizes, fields_from, kind_number, vid_bytes, vid_front, EcHeader, VidHeader, VolKind, bytes-append, bytes-blank, bytes-drop, bytes-take, zero_or_more, block, filled-by, filled-is, length-blank, length-filled, laid, only_clears, page_of, vid_page, program_header, program_text, step_done, pages_of}
+use Rattle.ubi_change.proofs.Prelude.{◌≡◌, ℕ, zero, suc, ◌+◌, ◌-◌, ◌*◌, ◌/◌, ◌%◌, ◌^◌, ◌<◌, ◌≤◌, inl, inr, Bool, true, false, cond, List, [], ◌∷◌, ◌++◌, append_assoc, length, map, take, drop, replicate, refl, ap, ap₂, sym, ◌∙◌, subst, arith, length-append, length-drop, length-set, get_or-set_same, nat_lt, byte_at, bytes_high_first, enumerate_from, first_chunks, div-add-mod, div-eq_of_lt, mod-lt, nat_tests, length-take-le, mul-le, cases_lt, crc_of, ec_bytes, ec_front, AreBytes, blank, filled, overwrite, IsGeometry, Sizes, fields_from, kind_number, vid_bytes, vid_front, EcHeader, VidHeader, VolKind, bytes-append, bytes-blank, bytes-drop, bytes-take, zero_or_more, block, filled-by, filled-is, length-blank, length-filled, laid, only_clears, page_of, vid_page, program_header, program_text, step_done, pages_of}
 use Rattle.std.specs.Prelude.{slice_range}
 use Rattle.ubi_media.specs.declared.vid.VolKind.TheVariants as kind
 use Rattle.ubi_scan.proofs.Parts as parts
@@ -50,8 +50,8 @@ bytes-ec s e =
     then (then
     (then (then (then (then (number 4 0x55424923) (1 ∷ 0 ∷ 0 ∷ 0 ∷ [], version)) (number 8 e.counter))
     (number 4 s.vid_offset)) (number 4 s.data_offset)) (number 4 e.image_seq)) (zeros 32) in
-    bytes-append (ec_front s e) (bytes_high_first 4 (check (ec_front s e))) front.1
-    (bytes-number 4 (check (ec_front s e)))
+    bytes-append (ec_front s e) (bytes_high_first 4 (crc_of (ec_front s e))) front.1
+    (bytes-number 4 (crc_of (ec_front s e)))
 
 pub bytes-vid : (h : VidHeader) → h.compat < 256 → AreBytes (vid_bytes h)
 unfolding fields_from
@@ -66,8 +66,8 @@ bytes-vid h small =
     (number 4 h.data_pad) in
     let front : Proved = then (then (then (then sizes (number 4 h.data_crc)) (zeros 4)) (number 8 h.sqnum))
     (zeros 12) in
-    bytes-append (vid_front (fields_from h)) (bytes_high_first 4 (check (vid_front (fields_from h)))) front.1
-    (bytes-number 4 (check (vid_front (fields_from h))))
+    bytes-append (vid_front (fields_from h)) (bytes_high_first 4 (crc_of (vid_front (fields_from h)))) front.1
+    (bytes-number 4 (crc_of (vid_front (fields_from h))))
 
 bytes-filled : (n : ℕ) (xs : List ℕ) → AreBytes xs → AreBytes (filled n xs)
 bytes-filled n xs a = subst AreBytes (sym (filled-is n xs))

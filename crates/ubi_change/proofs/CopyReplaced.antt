@@ -1,6 +1,6 @@
 -- The cuts of an atomic copy of any LEB that has a winner and counts: before the commit point the old is meant, and
 -- from it on what holds for a good copy and an emptied old winner holds.
-use Rattle.ubi_change.proofs.Prelude.{◌≡◌, ◌≢◌, ℕ, zero, suc, ◌+◌, ◌-◌, ◌<◌, ◌≤◌, ◌⊎◌, inl, inr, true, false, List, [], ◌∷◌, ◌++◌, length, set, refl, sym, ◌∙◌, subst, arith, length-set, ec_bytes, ec_reading, blank, filled, Sizes, IsGeometry, EcHeader, VidHeader, block, leb, Leb, Wins, is_good, seq_of, AllBlank, AcceptsBlocks, IsOutside, Meant, program_header, program_text, renew, after, pages_of, whole_place, Step, Agrees}
+use Rattle.ubi_change.proofs.Prelude.{◌≡◌, ◌≢◌, ℕ, zero, suc, ◌+◌, ◌-◌, ◌<◌, ◌≤◌, ◌⊎◌, inl, inr, true, false, List, [], ◌∷◌, ◌++◌, length, set, refl, sym, ◌∙◌, subst, arith, length-set, ec_bytes, ec_reading, blank, filled, Sizes, IsGeometry, EcHeader, VidHeader, block, leb, Leb, Wins, is_good, seq_of, AllBlank, AcceptsBlocks, IsOutside, Meant, program_header, program_text, renew, blocks_after, pages_of, pages_needed, Step, Agrees}
 use Rattle.ubi_media.specs.declared.ec.EcRead.TheVariants as ec_read
 use Rattle.ubi_change.proofs.Copied as copy
 use Rattle.ubi_change.proofs.Copied.{IsCopy}
@@ -53,7 +53,7 @@ module _ (s : Sizes) (g : IsGeometry s) (bs : List (List ℕ)) (m : Meant) (a : 
   abbrev full : List ℕ
   full = copy.part_at s g bs b inside seq of bytes e h new c P Q (pages_of s new)
 
-  place : whole_place s new ≤ pages_of s new
+  place : pages_needed s new ≤ pages_of s new
   place = (whole_place-is s new c.paged).most
 
   full_copy : IsGoodCopy s seq bs of h new full
@@ -94,7 +94,7 @@ module _ (s : Sizes) (g : IsGeometry s) (bs : List (List ℕ)) (m : Meant) (a : 
   late_by (inl z) = subst (AtEachCut s Q (set bs b full)) (sym z) (λ k l. subst Q (sym (none_after k))
       (copied full full_copy))
     where
-      none_after : (k : ℕ) → after s (set bs b full) [] k ≡ set bs b full
+      none_after : (k : ℕ) → blocks_after s (set bs b full) [] k ≡ set bs b full
       none_after zero = refl
       none_after (suc k) = refl
   late_by (inr z) =
@@ -106,7 +106,7 @@ module _ (s : Sizes) (g : IsGeometry s) (bs : List (List ℕ)) (m : Meant) (a : 
 
   pub replaced : TurnsAt s P Q bs
       ((prep ++ program_header s b bytes h ∷ []) ++ program_text s b new ++ rel)
-      (length prep + suc (whole_place s new))
+      (length prep + suc (pages_needed s new))
   replaced =
       copy.atomic_turns s g bs b inside seq of bytes e h new c P Q prep rel prepared.cuts prepared.ready bad
       (λ x mount good text. copied x (record { mount = mount; good = good; text = text })) (late_by release)

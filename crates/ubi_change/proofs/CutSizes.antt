@@ -1,6 +1,6 @@
 -- The bytes of an image after steps within its eraseblocks: there are as many, and they are cut into what the steps
 -- leave.
-use Rattle.ubi_change.proofs.Prelude.{◌≡◌, ◌≢◌, ℕ, zero, suc, ◌*◌, ◌/◌, ◌<◌, Bool, true, false, List, [], ◌∷◌, length, get_or, set, refl, ap, sym, ◌∙◌, subst, arith, length-set, get_or-set_other, get_or-set_same, concat, first_chunks, div-add-mod, div-mul-le_self, nat_tests, length-replicate, Sizes, IsWholeSize, block, blocks_of, first_chunks-concat, length-concat, length-first_chunks, length-of_chunk, AllWithin, FitsBlock, after, block_after, step_done, target, Step}
+use Rattle.ubi_change.proofs.Prelude.{◌≡◌, ◌≢◌, ℕ, zero, suc, ◌*◌, ◌/◌, ◌<◌, Bool, true, false, List, [], ◌∷◌, length, get_or, set, refl, ap, sym, ◌∙◌, subst, arith, length-set, get_or-set_other, get_or-set_same, concat, first_chunks, div-add-mod, div-mul-le_self, nat_tests, length-replicate, Sizes, IsWholeSize, block, blocks_of, first_chunks-concat, length-concat, length-first_chunks, length-of_chunk, AllWithin, FitsBlock, blocks_after, block_after, step_done, target, Step}
 use Rattle.std.proofs.Common.{◌==◌}
 use Rattle.ubi_change.specs.declared.step.Step.TheVariants as step
 use Rattle.ubi_change.proofs.Stepped.{length-written}
@@ -39,7 +39,7 @@ module _ (s : Sizes) (some : 0 < s.page) where
           ∙ all i below
 
   after_sized : (n : ℕ) (bs : List (List ℕ)) → length bs ≡ n → AllSized bs → (steps : List Step) → AllWithin s n steps → (k : ℕ)
-      → AllSized (after s bs steps k) × (length (after s bs steps k) ≡ n)
+      → AllSized (blocks_after s bs steps k) × (length (blocks_after s bs steps k) ≡ n)
   after_sized n bs count all [] within zero = (all, count)
   after_sized n bs count all [] within (suc k) = (all, count)
   after_sized n bs count all (x ∷ xs) within zero = (all, count)
@@ -51,7 +51,7 @@ module _ (s : Sizes) (some : 0 < s.page) where
   module _ (bytes : List ℕ) (whole : IsWholeSize s (length bytes)) (steps : List Step)
       (within : AllWithin s (length bytes / s.peb_size) steps) (k : ℕ) where
     abbrev left : List (List ℕ)
-    left = after s (blocks_of s bytes) steps k
+    left = blocks_after s (blocks_of s bytes) steps k
 
     sized : AllSized left × (length left ≡ length bytes / s.peb_size)
     sized = after_sized (length bytes / s.peb_size) (blocks_of s bytes) (length-first_chunks s.peb_size (length bytes / s.peb_size) bytes)

@@ -1,7 +1,7 @@
 -- What stays when an eraseblock that wins no LEB that counts is emptied: winners, who wins nothing, and the greatest
 -- sequence number.
 use Rattle.ubi_change.proofs.Prelude.{◌≡◌, ℕ, ◌<◌, inl, inr, List, length, set, ap, subst, arith, cases_eq, Some, Sizes, NoFault, IsMember, Leb, named_in, sqnum_at, sqnum_in, Records, IsOutside}
-use Rattle.ubi_change.proofs.Kept.{KeepsLeb, kept_back}
+use Rattle.ubi_change.proofs.MeaningKept.{KeepsLeb, kept_back}
 use Rattle.ubi_change.proofs.Replaced.{block_other, keeps_vacated, member_was, named_here}
 use Rattle.ubi_change.proofs.Vacated.{IsVacant, LosesAll}
 

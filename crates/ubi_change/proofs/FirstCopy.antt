@@ -1,11 +1,11 @@
 -- Copy 0 of the table is rewritten: before the commit point the old is meant, and from it on the renamed, by copy 0
 -- alone.
-use Rattle.ubi_change.proofs.Prelude.{◌≡◌, ◌≢◌, ℕ, suc, ◌+◌, ◌<◌, List, [], ◌∷◌, ◌++◌, length, set, ap, sym, ◌∙◌, subst, arith, length-set, IsGeometry, Sizes, EcHeader, VidHeader, NoFault, block, leb, Leb, Wins, layout, AreRecords, Records, copy_of, AcceptsBlocks, IsOutside, Meant, records_of, records_meant, program_header, program_text, layout_header, table_pages, whole_place, Step, records_are, Agrees}
+use Rattle.ubi_change.proofs.Prelude.{◌≡◌, ◌≢◌, ℕ, suc, ◌+◌, ◌<◌, List, [], ◌∷◌, ◌++◌, length, set, ap, sym, ◌∙◌, subst, arith, length-set, IsGeometry, Sizes, EcHeader, VidHeader, NoFault, block, leb, Leb, Wins, layout, AreRecords, Records, copy_of, AcceptsBlocks, IsOutside, Meant, records_of, records_meant, program_header, program_text, layout_header, table_pages, pages_needed, Step, records_are, Agrees}
 use Rattle.ubi_table.specs.declared.copy.CopyRead.TheVariants as copy
 use Rattle.ubi_change.proofs.Copied.{IsCopy}
 use Rattle.ubi_change.proofs.CopyReplaced.{IsGoodCopy, IsPrepared, IsRelease, ends_beside, replaced}
 use Rattle.ubi_change.proofs.Emptied.{AreBelow, emptied_below, emptied_keeps, emptied_loses}
-use Rattle.ubi_change.proofs.Kept.{KeepsLeb}
+use Rattle.ubi_change.proofs.MeaningKept.{KeepsLeb}
 use Rattle.ubi_change.proofs.NamedAccepted.{meant_fit, named_accepted, table_by_first}
 use Rattle.ubi_change.proofs.Newest.{newest_below, old_loses, others_lose}
 use Rattle.ubi_change.proofs.TableCopied.{copied_clean, copied_keeps, copied_reads, copied_volumes, copied_wins}
@@ -148,7 +148,7 @@ module _ (s : Sizes) (g : IsGeometry s) (bs : List (List ℕ)) (m n : Meant) (a 
       (release : IsRelease s bs old0 seq rel) where
     pub first_turns : TurnsAt s (λ x. AcceptsBlocks s x m) IsHalf bs
         ((prep ++ program_header s b0 bytes header ∷ []) ++ program_text s b0 new ++ rel)
-        (length prep + suc (whole_place s new))
+        (length prep + suc (pages_needed s new))
     first_turns =
         replaced s g bs m a (used_by_winner s bs (layout, 0) old0 wins0) (layout, 0) (layout_counts a.records 0) b0
         inside seq agrees beside0 (subst (λ (t : Records). LosesAll s bs t b0) same loses0) prep bytes e prepared header

@@ -1,5 +1,5 @@
 -- Once the copy is whole, a plan erases the eraseblock that is given up, unless that is then worn or the sole carrier.
-use Rattle.ubi_change.proofs.Prelude.{◌≡◌, ℕ, zero, suc, ◌+◌, ◌%◌, ◌≤◌, false, cond, List, [], ◌∷◌, ◌++◌, length, refl, ap, ◌∙◌, arith, length-append, None, Option, Some, slice_get, option_map_or, Sizes, data_pad, EcHeader, VidHeader, Whole, turn, given_up, stays_then, Erases, blank_header, copy_header, next_ec, atomic_copy, mapped_plan, mount, plan_of, prepare, program_header, program_text, ready_bytes, ready_ec, release, renew, taken, unmapped_plan, ec_at, stays, whole_place, Step}
+use Rattle.ubi_change.proofs.Prelude.{◌≡◌, ℕ, zero, suc, ◌+◌, ◌%◌, ◌≤◌, false, cond, List, [], ◌∷◌, ◌++◌, length, refl, ap, ◌∙◌, arith, length-append, None, Option, Some, slice_get, option_map_or, Sizes, data_pad, EcHeader, VidHeader, AttachValue, turn, given_up, stays_then, Erases, blank_header, copy_header, next_ec, atomic_copy, mapped_plan, mount, plan_of, prepare, program_header, program_text, ready_bytes, ready_ec, release, renew, taken, unmapped_plan, ec_at, stays, pages_needed, Step}
 use Rattle.std.specs.FinMap as finite
 use Rattle.ubi_change.proofs.Attached as attached
 use Rattle.ubi_change.proofs.Copied.{length-program_text}
@@ -18,7 +18,7 @@ step_before [] ys k x e = absurd (cc)
 step_before (y ∷ xs) ys zero x e = e
 step_before (y ∷ xs) ys (suc k) x e = step_before xs ys k x e
 
-module _ (s : Sizes) (bs : List (List ℕ)) (a : Whole) where
+module _ (s : Sizes) (bs : List (List ℕ)) (a : AttachValue) where
   -- what doesn't stay is erased by the first step of its release
   pub erased_behind : (front : List Step) (p : ℕ) (now : Option EcHeader) → stays s bs p now ≡ false
       → Erases (front ++ release s bs a p now) (length front) p
@@ -31,7 +31,7 @@ module _ (s : Sizes) (bs : List (List ℕ)) (a : Whole) where
     written = mount s bs a b h ++ program_text s b new
 
     -- by the end of its text a copy is whole
-    pub whole_by : length new % s.page ≡ 0 → length (prepare s bs a b) + suc (whole_place s new) ≤ length written
+    pub whole_by : length new % s.page ≡ 0 → length (prepare s bs a b) + suc (pages_needed s new) ≤ length written
     whole_by paged =
         let n = length-append (mount s bs a b h) (program_text s b new) in
         let m = length-append (prepare s bs a b) (program_header s b (ready_bytes s bs a b) h ∷ []) in

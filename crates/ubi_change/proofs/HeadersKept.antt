@@ -1,5 +1,5 @@
 -- A program of page 0 comes right after an erase, or keeps the bytes of the erase-counter header as they stand.
-use Rattle.ubi_change.proofs.Prelude.{◌≡◌, ℕ, zero, suc, ◌+◌, ◌-◌, ◌*◌, ◌/◌, ◌%◌, ◌<◌, ◌≤◌, ◌⊎◌, inl, inr, true, cond, List, [], ◌∷◌, ◌++◌, append_assoc, length, map, set, take, refl, ap, sym, ◌∙◌, subst, arith, get_or-set_same, None, Option, Some, nat_lt, slice_get, enumerate_from, option_map_or, first_chunks, div-add-mod, mod-lt, nat_tests, take_at, same_Some, blank, filled, IsGeometry, Sizes, data_pad, vid_bytes, EcHeader, VidHeader, block, ec_area, filled-by, filled-is, Whole, ComesFirst, Programs, blank_header, copy_header, vid_page, atomic_copy, mapped_plan, mount, plan_of, prepare, program_header, program_text, ready_bytes, ready_ec, release, renew, taken, unmapped_plan, after, step_done, ec_at, is_clean, stays, pages_of, Step}
+use Rattle.ubi_change.proofs.Prelude.{◌≡◌, ℕ, zero, suc, ◌+◌, ◌-◌, ◌*◌, ◌/◌, ◌%◌, ◌<◌, ◌≤◌, ◌⊎◌, inl, inr, true, cond, List, [], ◌∷◌, ◌++◌, append_assoc, length, map, set, take, refl, ap, sym, ◌∙◌, subst, arith, get_or-set_same, None, Option, Some, nat_lt, slice_get, enumerate_from, option_map_or, first_chunks, div-add-mod, mod-lt, nat_tests, take_at, same_Some, blank, filled, IsGeometry, Sizes, data_pad, vid_bytes, EcHeader, VidHeader, block, ec_area, filled-by, filled-is, AttachValue, ComesFirst, Programs, blank_header, copy_header, vid_page, atomic_copy, mapped_plan, mount, plan_of, prepare, program_header, program_text, ready_bytes, ready_ec, release, renew, taken, unmapped_plan, blocks_after, step_done, ec_at, is_clean, stays, pages_of, Step}
 use Rattle.std.specs.FinMap as finite
 use Rattle.ubi_change.specs.declared.step.Step.TheVariants as step
 use Rattle.ubi_change.proofs.Attached as attached
@@ -33,7 +33,7 @@ module _ (s : Sizes) where
 
   abbrev Kept : Option ℕ → List (List ℕ) → List Step → ℕ → ℕ → List ℕ → Type 0
   Kept last bs steps k p bytes = (((k ≡ 0) × (last ≡ Some p)) ⊎ ComesFirst steps k p)
-      ⊎ (ec_area bytes ≡ ec_area (block (after s bs steps k) p))
+      ⊎ (ec_area bytes ≡ ec_area (block (blocks_after s bs steps k) p))
 
   -- the step before the next
   one_back : (x : Step) (xs : List Step) (j p : ℕ) → ComesFirst xs j p → ComesFirst (x ∷ xs) (suc j) p
@@ -82,7 +82,7 @@ module _ (s : Sizes) where
 
   pub keeps_all : (bs : List (List ℕ)) (steps : List Step) → KeepAll None bs steps → (k p : ℕ) (bytes : List ℕ)
       → Programs steps k p 0 bytes
-      → ComesFirst steps k p ⊎ (ec_area bytes ≡ ec_area (block (after s bs steps k) p))
+      → ComesFirst steps k p ⊎ (ec_area bytes ≡ ec_area (block (blocks_after s bs steps k) p))
   keeps_all bs steps a k p bytes at = elim (kept_at None bs steps a k p bytes at) [
     | inr h ↦ inr h
     | inl f ↦ elim f [
@@ -127,7 +127,7 @@ module _ (s : Sizes) (g : IsGeometry s) where
       ∙ append_assoc (bytes ++ gap) (vid_bytes h) rest ∙ append_assoc bytes gap (vid_bytes h ++ rest))
       ∙ take_at bytes (gap ++ (vid_bytes h ++ rest)) 64 size
 
-  module _ (bs : List (List ℕ)) (a : Whole) where
+  module _ (bs : List (List ℕ)) (a : AttachValue) where
     prepare_keeps : (last : Option ℕ) (cs : List (List ℕ)) (p : ℕ) → KeepAll s last cs (prepare s bs a p)
     prepare_keeps last cs p = if_renewed (KeepAll s last cs) (is_clean s bs a.states p) tt (renew_keeps s last cs p _)
 
@@ -204,7 +204,7 @@ module _ (change : Changing) where
 
   pub plan_keeps : (k p : ℕ) (bytes : List ℕ) → Programs (plan_of s bs a v.entry id lnum new) k p 0 bytes
       → ComesFirst (plan_of s bs a v.entry id lnum new) k p
-      ⊎ (ec_area bytes ≡ ec_area (block (after s bs (plan_of s bs a v.entry id lnum new) k) p))
+      ⊎ (ec_area bytes ≡ ec_area (block (blocks_after s bs (plan_of s bs a v.entry id lnum new) k) p))
   plan_keeps = keeps_all s bs (plan_of s bs a v.entry id lnum new)
       (by_winner (finite.get a.scan.winners (id, lnum)) refl)
     where

@@ -1,5 +1,5 @@
 -- The header of a new copy of the table breaks no rule, and its contents can be written under it.
-use Rattle.ubi_change.proofs.Prelude.{◌≡◌, ℕ, ◌*◌, ◌/◌, ◌^◌, ◌<◌, ◌≤◌, inl, inr, List, length, refl, arith, None, nat_tests, IsGeometry, Sizes, leb_size, slots, breaks, fields_from, first_fault, vid_fault, VidFits, EcHeader, check_from-lt, IsMislaid, layout, Records, table_bytes, Meant, layout_header, table_pages, weak_place, Step}
+use Rattle.ubi_change.proofs.Prelude.{◌≡◌, ℕ, ◌*◌, ◌/◌, ◌^◌, ◌<◌, ◌≤◌, inl, inr, List, length, refl, arith, None, nat_tests, IsGeometry, Sizes, leb_size, slots, breaks, fields_from, first_fault, vid_fault, VidFits, EcHeader, check_from-lt, IsMislaid, layout, Records, table_bytes, Meant, layout_header, table_pages, weak_pages, Step}
 use Rattle.ubi_change.proofs.Copied.{IsCopy}
 use Rattle.ubi_change.proofs.CopyReplaced.{IsPrepared}
 use Rattle.ubi_change.proofs.Emptied.{AreBelow}
@@ -38,7 +38,7 @@ module _ (s : Sizes) (g : IsGeometry s) (c sqnum : ℕ) (new : List ℕ) (two : 
 pub layout_copy : (s : Sizes) (g : IsGeometry s) (bs : List (List ℕ)) (m : Meant) (b seq : ℕ) (prep : List Step)
     (bytes : List ℕ) (e : EcHeader) → IsPrepared s bs m b seq prep bytes e → (c sqnum : ℕ) → c < 2 → sqnum < 2 ^ 64
     → AreBelow s bs sqnum → (t : Records) → length (table_bytes t) ≡ slots s * 172
-    → weak_place s (table_pages s t) ≡ None
+    → weak_pages s (table_pages s t) ≡ None
     → IsCopy s bs seq (layout, c) bytes e (layout_header c sqnum (table_pages s t)) (table_pages s t)
 layout_copy s g bs m b seq prep bytes e prepared c sqnum two few above t held strong =
     let new = table_pages s t in

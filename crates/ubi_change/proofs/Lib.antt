@@ -16,16 +16,17 @@ pub mod CountsErases
 pub mod CutSizes
 pub mod Emptied
 pub mod FirstCopy
+pub mod FirstTwoTakeable
 pub mod Fits
 pub mod GivenUp
 pub mod Grounded
 pub mod HeadersKept
-pub mod Kept
 pub mod Laid
 pub mod LayoutHeader
 pub mod Listed
 pub mod Mapped
-pub mod Mean
+pub mod MeanCounter
+pub mod MeaningKept
 pub mod Mounted
 pub mod NamedAccepted
 pub mod Newest
@@ -38,6 +39,7 @@ pub mod PlanFits
 pub mod PlanFrugal
 pub mod PlanKept
 pub mod PlanMade
+pub mod PlanPremises
 pub mod PlanRises
 pub mod PlanSurvives
 pub mod PlanVectors
@@ -60,7 +62,6 @@ pub mod SameButName
 pub mod SameTables
 pub mod SecondCopy
 pub mod Seq
-pub mod Shown
 pub mod Sited
 pub mod StepPages
 pub mod Stepped
@@ -69,8 +70,7 @@ pub mod Surveys
 pub mod Survives
 pub mod TableCopied
 pub mod TablePages
-pub mod Taken
-pub mod Top
+pub mod TopSqnum
 pub mod Torn
 pub mod Touched
 pub mod Turned

@@ -1,6 +1,6 @@
 -- The cuts of an atomic copy of a LEB that has a winner: before the commit point the old is meant, and from it on the
 -- new.
-use Rattle.ubi_change.proofs.Prelude.{◌≡◌, ◌≢◌, ℕ, suc, ◌+◌, ◌-◌, ◌/◌, ◌%◌, ◌^◌, ◌<◌, ◌≤◌, inl, inr, true, List, [], ◌∷◌, ◌++◌, length, set, take, refl, ap, sym, ◌∙◌, subst, arith, length-set, None, Option, Some, FinMap, nat_cmp, nat_tests, filled, Sizes, IsGeometry, leb_size, data_pad, usable, breaks, fields_from, first_fault, vid_fault, VidFits, EcHeader, VolumeRecord, VidHeader, check_from-lt, block, leb, IsMember, Leb, Wins, has_members, layout, sqnum_at, Agrees, Records, AllBlank, AcceptsBlocks, IsUnlike, IsOutside, SlotMeans, Meant, Volume, changed, copy_header, program_header, program_text, weak_place, whole_place, Step}
+use Rattle.ubi_change.proofs.Prelude.{◌≡◌, ◌≢◌, ℕ, suc, ◌+◌, ◌-◌, ◌/◌, ◌%◌, ◌^◌, ◌<◌, ◌≤◌, inl, inr, true, List, [], ◌∷◌, ◌++◌, length, set, take, refl, ap, sym, ◌∙◌, subst, arith, length-set, None, Option, Some, FinMap, nat_cmp, nat_tests, filled, Sizes, IsGeometry, leb_size, data_pad, usable, breaks, fields_from, first_fault, vid_fault, VidFits, EcHeader, VolumeRecord, VidHeader, check_from-lt, block, leb, IsMember, Leb, Wins, has_members, layout, sqnum_at, Agrees, Records, AllBlank, AcceptsBlocks, IsUnlike, IsOutside, SlotMeans, Meant, Volume, changed, copy_header, program_header, program_text, weak_pages, pages_needed, Step}
 use Rattle.std.specs.FinMap as finite
 use Rattle.ubi_media.specs.declared.vid.VolKind.TheVariants as kind
 use Rattle.ubi_volume.specs.declared.content.Content.TheVariants as content
@@ -60,7 +60,7 @@ pub record IsNew (s : Sizes) (r : VolumeRecord) (lnum : ℕ) (new : List ℕ) : 
   pub some : 1 ≤ length new
   pub short : length new ≤ usable s r
   pub paged : length new % s.page ≡ 0
-  pub strong : weak_place s new ≡ None
+  pub strong : weak_pages s new ≡ None
 
 module _ (s : Sizes) (g : IsGeometry s) (bs : List (List ℕ)) (m : Meant) (a : AcceptsBlocks s bs m) (id lnum : ℕ)
     (r : VolumeRecord) (lebs : FinMap nat_cmp (List ℕ))
@@ -168,11 +168,11 @@ module _ (s : Sizes) (g : IsGeometry s) (bs : List (List ℕ)) (m : Meant) (a : 
   -- cut after any step, the eraseblocks are accepted: before the turn with the old meaning, from it on with the new
   pub mapped : TurnsAt s (λ x. AcceptsBlocks s x m) (λ x. AcceptsBlocks s x (changed m id lnum new)) bs
       ((prep ++ program_header s b bytes header ∷ []) ++ program_text s b new ++ rel)
-      (length prep + suc (whole_place s new))
+      (length prep + suc (pages_needed s new))
   mapped =
       subst (λ (k : Meant). TurnsAt s (λ x. AcceptsBlocks s x m) (λ x. AcceptsBlocks s x k) bs
       ((prep ++ program_header s b bytes header ∷ []) ++ program_text s b new ++ rel)
-      (length prep + suc (whole_place s new)))
+      (length prep + suc (pages_needed s new)))
       (sym (change.changed-is m a.means.meaning id lnum new r lebs was n.inside short))
       (replaced s g bs m a used of counts b inside seq agrees beside loses prep bytes e prepared header new copy_is old
       wins rel release Q copied emptied)

@@ -3,7 +3,7 @@
 use Rattle.ubi_change.proofs.Prelude.{◌≡◌, ℕ, inl, inr, List, refl, ap, sym, ◌∙◌, subst, None, Option, Some, option_map, Sizes, VolumeRecord, NoFault, block, leb, Wins, layout, member, image_seq, HasSpace, Records, IsTable, copy_of, AcceptsBlocks, NoMismatch, Means, SlotMeans, VolumeReads, Meant, records_of, Volume, record_of, records_meant, records_fit}
 use Rattle.std.specs.FinMap as finite
 use Rattle.ubi_table.specs.declared.copy.CopyRead.TheVariants as copy
-use Rattle.ubi_change.proofs.Kept.{KeepsVolumes, kept_back, volume_kept}
+use Rattle.ubi_change.proofs.MeaningKept.{KeepsVolumes, kept_back, volume_kept}
 use Rattle.ubi_change.proofs.RenamedMeaning.{AreRenamed, IsRenamed, records_alike, renamed_at}
 use Rattle.ubi_change.proofs.SameButName.{AreAlike, IsAlike, reads_named, recorded_was, unlike_was, within_was}
 

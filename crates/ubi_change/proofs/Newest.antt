@@ -2,7 +2,7 @@
 -- the others, and what wins nothing. The old winner no longer wins anything.
 use Rattle.ubi_change.proofs.Prelude.{◌≡◌, ◌≢◌, ℕ, ◌+◌, ◌<◌, inl, inr, true, List, length, set, ap, ◌∙◌, subst, arith, cases_eq, option_map_or, Option, Sizes, VidHeader, NoFault, block, Leb, Wins, is_good, sqnum_at, sqnum_in, Wins-unique, Records, Agrees}
 use Rattle.ubi_change.proofs.Emptied.{AreBelow}
-use Rattle.ubi_change.proofs.Kept.{KeepsLeb, kept_back}
+use Rattle.ubi_change.proofs.MeaningKept.{KeepsLeb, kept_back}
 use Rattle.ubi_change.proofs.Mounted.{IsMount, leb_same, mount_named, mounted_clean, mounted_wins}
 use Rattle.ubi_change.proofs.Replaced.{block_other, block_same, keeps_others, member_was}
 use Rattle.ubi_change.proofs.Unused.{one_name}

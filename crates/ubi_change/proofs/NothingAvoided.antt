@@ -1,29 +1,29 @@
 -- If nothing is avoided, a plan that avoids it is one that doesn't.
-use Rattle.ubi_change.proofs.Prelude.{◌≡◌, ℕ, List, subst, None, Some, Image, in_image, Whole, IsFrugal, plan_of, IsChangeRefusal, IsChangeRefusalAvoiding, IsFrugalOf, IsFrugalAvoiding, IsPlan, IsPlanAvoiding, first_cause, rename_plan, IsFrugalRename, IsFrugalRenameOf, IsFrugalRenameAvoiding, IsRename, IsRenameRefusal, IsRenameRefusalAvoiding, IsRenameAvoiding, IsFirstCause, MayBeNamed, nothing, avoiding, ChangeRefusal, RenameRefusal, Step}
-use Rattle.ubi_change.specs.declared.refusal.ChangeRefusal.TheVariants as change
-use Rattle.ubi_change.specs.declared.rename_refusal.RenameRefusal.TheVariants as rename
-use Rattle.ubi_change.proofs.Shown.{avoiding_nothing}
+use Rattle.ubi_change.proofs.Prelude.{◌≡◌, ℕ, List, subst, None, Some, Image, of_blocks, AttachValue, IsFrugal, plan_of, IsChangeRefusal, IsChangeRefusalAvoiding, IsFrugalOf, IsFrugalAvoiding, IsThePlan, IsPlanAvoiding, first_cause, rename_plan, IsFrugalRename, IsFrugalRenameOf, IsFrugalRenameAvoiding, IsTheRename, IsRenameRefusal, IsRenameRefusalAvoiding, IsRenameAvoiding, IsFirstCause, MayBeNamed, nothing, avoiding, ChangeRefusal, RenameRefusal, Step}
+use Rattle.ubi_change.specs.declared.errors.ChangeRefusal.TheVariants as change
+use Rattle.ubi_change.specs.declared.errors.RenameRefusal.TheVariants as rename
+use Rattle.ubi_change.proofs.PlanPremises.{avoiding_nothing}
 
 -- a fact of what a plan sees
-as_is : (fact : Whole → Type 0) (a : Whole) → fact (avoiding nothing a) → fact a
+as_is : (fact : AttachValue → Type 0) (a : AttachValue) → fact (avoiding nothing a) → fact a
 as_is fact a h = subst fact (avoiding_nothing a) h
 
 module _ (image : Image) (id lnum : ℕ) (new : List ℕ) where
-  pub plan_nothing : (steps : List Step) → IsPlanAvoiding image nothing id lnum new steps → IsPlan image id lnum new steps
+  pub plan_nothing : (steps : List Step) → IsPlanAvoiding image nothing id lnum new steps → IsThePlan image id lnum new steps
   plan_nothing steps h = record {
     from = h.from;
     attached = h.attached;
-    allowed = as_is (λ a. in_image first_cause image a id lnum new ≡ None) h.from h.allowed;
+    allowed = as_is (λ a. of_blocks first_cause image a id lnum new ≡ None) h.from h.allowed;
     volume = h.volume;
     there = h.there;
-    plan = as_is (λ a. steps ≡ in_image plan_of image a h.volume.entry id lnum new) h.from h.plan;
+    plan = as_is (λ a. steps ≡ of_blocks plan_of image a h.volume.entry id lnum new) h.from h.plan;
   }
 
   pub frugal_nothing : (steps : List Step) → IsFrugalAvoiding image nothing id lnum new steps → IsFrugalOf image id lnum new steps
-  frugal_nothing steps h = (h.0, h.1, as_is (λ a. in_image IsFrugal image a id lnum new steps) h.0 h.2)
+  frugal_nothing steps h = (h.0, h.1, as_is (λ a. of_blocks IsFrugal image a id lnum new steps) h.0 h.2)
 
-  abbrev Causes : ChangeRefusal → Whole → Type 0
-  Causes c a = in_image first_cause image a id lnum new ≡ Some c
+  abbrev Causes : ChangeRefusal → AttachValue → Type 0
+  Causes c a = of_blocks first_cause image a id lnum new ≡ Some c
 
   pub refusal_nothing : (c : ChangeRefusal) → IsChangeRefusalAvoiding image nothing id lnum new c → IsChangeRefusal image id lnum new c
   refusal_nothing change.Memory h = tt
@@ -38,19 +38,19 @@ module _ (image : Image) (id lnum : ℕ) (new : List ℕ) where
   refusal_nothing change.NoFree h = (h.0, h.1, as_is (Causes change.NoFree) h.0 h.2)
 
 module _ (image : Image) (id : ℕ) (name : List ℕ) where
-  pub rename_nothing : (steps : List Step) → IsRenameAvoiding image nothing id name steps → IsRename image id name steps
+  pub rename_nothing : (steps : List Step) → IsRenameAvoiding image nothing id name steps → IsTheRename image id name steps
   rename_nothing steps h = record {
     from = h.from;
     attached = h.attached;
-    allowed = as_is (λ a. in_image MayBeNamed image a id name) h.from h.allowed;
-    plan = as_is (λ a. steps ≡ in_image rename_plan image a id name) h.from h.plan;
+    allowed = as_is (λ a. of_blocks MayBeNamed image a id name) h.from h.allowed;
+    plan = as_is (λ a. steps ≡ of_blocks rename_plan image a id name) h.from h.plan;
   }
 
   pub frugal_rename_nothing : (steps : List Step) → IsFrugalRenameAvoiding image nothing id name steps → IsFrugalRenameOf image id name steps
-  frugal_rename_nothing steps h = (h.0, h.1, as_is (λ a. in_image IsFrugalRename image a id name steps) h.0 h.2)
+  frugal_rename_nothing steps h = (h.0, h.1, as_is (λ a. of_blocks IsFrugalRename image a id name steps) h.0 h.2)
 
-  abbrev Stops : RenameRefusal → Whole → Type 0
-  Stops c a = in_image IsFirstCause image a id name c
+  abbrev Stops : RenameRefusal → AttachValue → Type 0
+  Stops c a = of_blocks IsFirstCause image a id name c
 
   pub rename_refusal_nothing : (c : RenameRefusal) → IsRenameRefusalAvoiding image nothing id name c → IsRenameRefusal image id name c
   rename_refusal_nothing rename.Memory h = tt

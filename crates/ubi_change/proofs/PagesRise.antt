@@ -1,6 +1,6 @@
 -- Between two erases of an eraseblock a plan programs its pages in ascending order, none twice except page 0, and that
 -- at most twice.
-use Rattle.ubi_change.proofs.Prelude.{◌≡◌, ◌≢◌, ℕ, zero, suc, ◌+◌, ◌/◌, ◌<◌, ◌≤◌, ◌⊎◌, inl, inr, Bool, true, false, cond, List, [], ◌∷◌, ◌++◌, append_assoc, length, map, refl, ap, sym, ◌∙◌, subst, arith, None, Option, Some, enumerate_from, option_map_or, first_chunks, same_Some, cases_eq, IsGeometry, Sizes, EcHeader, data_pad, VolumeRecord, VidHeader, Whole, NoErase, Programs, blank_header, copy_header, next_ec, vid_page, atomic_copy, mapped_plan, mount, needs, plan_of, prepare, program_header, program_text, ready_bytes, ready_ec, release, renew, taken, unmapped_plan, ec_at, is_clean, stays, takeable, pages_of, Step}
+use Rattle.ubi_change.proofs.Prelude.{◌≡◌, ◌≢◌, ℕ, zero, suc, ◌+◌, ◌/◌, ◌<◌, ◌≤◌, ◌⊎◌, inl, inr, Bool, true, false, cond, List, [], ◌∷◌, ◌++◌, append_assoc, length, map, refl, ap, sym, ◌∙◌, subst, arith, None, Option, Some, enumerate_from, option_map_or, first_chunks, same_Some, cases_eq, IsGeometry, Sizes, EcHeader, data_pad, VolumeRecord, VidHeader, AttachValue, NoErase, Programs, blank_header, copy_header, next_ec, vid_page, atomic_copy, mapped_plan, mount, needs, plan_of, prepare, program_header, program_text, ready_bytes, ready_ec, release, renew, taken, unmapped_plan, ec_at, is_clean, stays, takeable, pages_of, Step}
 use Rattle.std.specs.FinMap as finite
 use Rattle.ubi_change.specs.declared.step.Step.TheVariants as step
 use Rattle.ubi_change.proofs.Choosing.{two_apart}
@@ -196,7 +196,7 @@ pages_order p q n i (e ∷ es) rest low some any = (
   λ apart. pages_order p q n (i + 1) es rest (λ same. absurd (apart same)) (omega arith) any,
 )
 
-module _ (s : Sizes) (g : IsGeometry s) (bs : List (List ℕ)) (a : Whole) where
+module _ (s : Sizes) (g : IsGeometry s) (bs : List (List ℕ)) (a : AttachValue) where
   release_order : (p old n : ℕ) (now : Option EcHeader) → InOrder p n (release s bs a old now)
   release_order p old n now = if_renewed (InOrder p n) (stays s bs old now) tt (renew_order s p old n (next_ec a.scan now) [] (λ _. tt) (λ _. tt))
 
@@ -233,7 +233,7 @@ module _ (s : Sizes) (g : IsGeometry s) (bs : List (List ℕ)) (a : Whole) where
       (λ same. pages_order p b (s.vid_offset / s.page + 2) d pages rel (λ _. omega arith) (omega arith) any)
       (λ apart. pages_order p b n d pages rel (λ same. absurd (apart same)) (omega arith) any))
 
-module _ (s : Sizes) (g : IsGeometry s) (bs : List (List ℕ)) (a : Whole) (r : VolumeRecord) (id lnum : ℕ) (new : List ℕ)
+module _ (s : Sizes) (g : IsGeometry s) (bs : List (List ℕ)) (a : AttachValue) (r : VolumeRecord) (id lnum : ℕ) (new : List ℕ)
     (enough : needs s bs a id lnum ≤ length (takeable s bs a.states)) where
   pub plan_order : (p : ℕ) → InOrder p 0 (plan_of s bs a r id lnum new)
   plan_order p = by_winner (finite.get a.scan.winners (id, lnum)) refl

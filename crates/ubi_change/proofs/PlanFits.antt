@@ -1,5 +1,5 @@
 -- Each step of a plan fits what those before it leave.
-use Rattle.ubi_change.proofs.Prelude.{◌≡◌, ℕ, ◌+◌, ◌%◌, ◌<◌, ◌≤◌, cond, List, [], ◌∷◌, ◌++◌, length, set, refl, ap, sym, ◌∙◌, subst, arith, length-set, get_or-set_same, None, Option, Some, option_map_or, fold-append, AreBytes, filled, IsGeometry, Sizes, data_pad, vid_bytes, EcHeader, VidHeader, block, eraseblocks, laid, found_wins, Whole, AllFit, blank_header, copy_header, atomic_copy, mapped_plan, plan_of, prepare, program_header, program_text, ready_bytes, ready_ec, release, renew, taken, unmapped_plan, step_done, ec_at, is_clean, stays, Step}
+use Rattle.ubi_change.proofs.Prelude.{◌≡◌, ℕ, ◌+◌, ◌%◌, ◌<◌, ◌≤◌, cond, List, [], ◌∷◌, ◌++◌, length, set, refl, ap, sym, ◌∙◌, subst, arith, length-set, get_or-set_same, None, Option, Some, option_map_or, fold-append, AreBytes, filled, IsGeometry, Sizes, data_pad, vid_bytes, EcHeader, VidHeader, block, eraseblocks, laid, found_wins, AttachValue, AllFit, blank_header, copy_header, atomic_copy, mapped_plan, plan_of, prepare, program_header, program_text, ready_bytes, ready_ec, release, renew, taken, unmapped_plan, step_done, ec_at, is_clean, stays, Step}
 use Rattle.std.specs.FinMap as finite
 use Rattle.ubi_change.proofs.Attached as attached
 use Rattle.ubi_change.proofs.CopyFits.{bytes-ec, header_done, header_fits, text_fits}
@@ -15,7 +15,7 @@ module _ (s : Sizes) where
   length-done bs [] = refl
   length-done bs (x ∷ xs) = length-done (step_done s bs x) xs ∙ length-set bs _ _
 
-module _ (s : Sizes) (g : IsGeometry s) (bs : List (List ℕ)) (a : Whole) where
+module _ (s : Sizes) (g : IsGeometry s) (bs : List (List ℕ)) (a : AttachValue) where
   -- an eraseblock is made ready, or given up, whatever stands in the others
   prepare_fits : (cs : List (List ℕ)) (p : ℕ) → p < length cs → FitAll s cs (prepare s bs a p)
   prepare_fits cs p inside = if_renewed (FitAll s cs) (is_clean s bs a.states p) tt

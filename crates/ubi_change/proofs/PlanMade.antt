@@ -1,7 +1,7 @@
 -- What was read for a change makes its plan: which cause applies, and that the steps are those of the plan.
-use Rattle.ubi_change.proofs.Prelude.{◌≡◌, ℕ, ◌+◌, ◌<◌, ◌≤◌, inl, inr, Bool, true, false, List, [], ◌∷◌, ◌++◌, length, refl, ap, ap₂, sym, ◌∙◌, subst, arith, None, Option, Some, nat_lt, option_map, then_some, option_map_or, nat_tests, Sizes, data_pad, VolumeRecord, carriers, Whole, AreSites, IsSitesRefusal, IsTooFew, image_causes, needed, steps_on, site_at, first_taken, blank_header, copy_header, mapped_plan, mount, needs, plan_of, ready_ec, taken, unmapped_plan, first_of, ec_at, takeable, ChangeRefusal, Site, FirstTwo, Target}
+use Rattle.ubi_change.proofs.Prelude.{◌≡◌, ℕ, ◌+◌, ◌<◌, ◌≤◌, inl, inr, Bool, true, false, List, [], ◌∷◌, ◌++◌, length, refl, ap, ap₂, sym, ◌∙◌, subst, arith, None, Option, Some, nat_lt, option_map, then_some, option_map_or, nat_tests, Sizes, data_pad, VolumeRecord, carriers, AttachValue, AreSites, IsSitesRefusal, IsTooFew, image_causes, change_needs, steps_on, site_at, first_taken, blank_header, copy_header, mapped_plan, mount, needs, plan_of, ready_ec, taken, unmapped_plan, first_of, ec_at, takeable, ChangeRefusal, Site, FirstTwo, Target}
 use Rattle.std.specs.FinMap as finite
-use Rattle.ubi_change.specs.declared.refusal.ChangeRefusal.TheVariants as refusal
+use Rattle.ubi_change.specs.declared.errors.ChangeRefusal.TheVariants as refusal
 use Rattle.ubi_change.specs.declared.sites.Sites.{Sites as OnSites}
 use Rattle.ubi_change.specs.declared.sites.Sites.TheVariants as on
 use Rattle.ubi_change.proofs.Sited.{copy-is, first_missing, first_some, second_missing, second_some, site_none, site_there}
@@ -12,7 +12,7 @@ more_test a b l = grind (arith, nat_tests)
 least_test : (a b : ℕ) → b ≤ a → nat_lt a b ≡ false
 least_test a b l = grind (arith, nat_tests)
 
-module _ (s : Sizes) (bs : List (List ℕ)) (a : Whole) (same : a.scan.carriers ≡ carriers s bs) (id lnum : ℕ)
+module _ (s : Sizes) (bs : List (List ℕ)) (a : AttachValue) (same : a.scan.carriers ≡ carriers s bs) (id lnum : ℕ)
     (winner : Option Site) (two : FirstTwo)
     (won : winner ≡ option_map (site_at s bs a.states) (finite.get a.scan.winners (id, lnum)))
     (taking : two ≡ first_taken s bs a.states) where
@@ -23,12 +23,12 @@ module _ (s : Sizes) (bs : List (List ℕ)) (a : Whole) (same : a.scan.carriers 
   top = a.scan.top_sqnum
 
   -- how many eraseblocks are needed
-  needs_by : (o : Option ℕ) → needed (option_map site o) ≡ option_map_or (λ _. 1) o 2
+  needs_by : (o : Option ℕ) → change_needs (option_map site o) ≡ option_map_or (λ _. 1) o 2
   needs_by None = refl
   needs_by (Some p) = refl
 
-  needs-is : needed winner ≡ needs s bs a id lnum
-  needs-is = ap needed won ∙ needs_by (finite.get a.scan.winners (id, lnum))
+  needs-is : change_needs winner ≡ needs s bs a id lnum
+  needs-is = ap change_needs won ∙ needs_by (finite.get a.scan.winners (id, lnum))
 
   first_taken_is : (t : Site) → two.first ≡ Some t → (1 ≤ length (takeable s bs a.states)) × (t ≡ site (taken s bs a 0))
   first_taken_is t e = first_some site (takeable s bs a.states) t (ap (λ (x : FirstTwo). x.first) (sym taking) ∙ e)
@@ -50,12 +50,12 @@ module _ (s : Sizes) (bs : List (List ℕ)) (a : Whole) (same : a.scan.carriers 
       let n : 1 ≤ needs s bs a id lnum = subst (λ n. 1 ≤ n) needs-is (some_needed winner) in
       omega arith
     where
-      some_needed : (o : Option Site) → 1 ≤ needed o
+      some_needed : (o : Option Site) → 1 ≤ change_needs o
       some_needed None = omega arith
       some_needed (Some t) = omega arith
   too_few (inr none) =
       let l = second_missing site (takeable s bs a.states) (ap (λ (x : FirstTwo). x.second) (sym taking) ∙ none.1) in
-      let n : needs s bs a id lnum ≡ 2 = sym needs-is ∙ ap needed none.0 in
+      let n : needs s bs a id lnum ≡ 2 = sym needs-is ∙ ap change_needs none.0 in
       omega arith
 
   pub sites_stand : (c : ChangeRefusal) → IsSitesRefusal a.scan winner two c → first_of (image_causes s bs a id lnum) ≡ Some c
@@ -75,12 +75,12 @@ module _ (s : Sizes) (bs : List (List ℕ)) (a : Whole) (same : a.scan.carriers 
 
   pub sites_free : (sites : OnSites) → AreSites a.scan winner two sites → first_of (image_causes s bs a id lnum) ≡ None
   sites_free (on.Mapped copy old) are =
-      let n : needs s bs a id lnum ≡ 1 = sym needs-is ∙ ap needed are.0 in
+      let n : needs s bs a id lnum ≡ 1 = sym needs-is ∙ ap change_needs are.0 in
       let t = (first_taken_is copy are.1).0 in
       let few = are.2 in
       free (omega arith) (omega arith)
   sites_free (on.Unmapped first copy) are =
-      let n : needs s bs a id lnum ≡ 2 = sym needs-is ∙ ap needed are.0 in
+      let n : needs s bs a id lnum ≡ 2 = sym needs-is ∙ ap change_needs are.0 in
       let t = (second_taken_is copy are.2).0 in
       let few = are.3 in
       free (omega arith) (omega arith)

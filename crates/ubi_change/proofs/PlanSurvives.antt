@@ -1,5 +1,5 @@
 -- The law: the plan of an attached image, with no cause against it, survives every cut.
-use Rattle.ubi_change.proofs.Prelude.{◌≡◌, ◌≢◌, ◌*◌, ◌/◌, ◌<◌, ◌⊎◌, ◌∷◌, [], List, ap, arith, get_or, get_or-set_other, get_or-set_same, inl, inr, length, length-set, refl, subst, suc, sym, take, true, zero, ◌∙◌, ℕ, concat, first_chunks, div-mul-add, eqb-true, ltb-true, get, IsGeometry, Sizes, below_same_or_above, Image, IsWhole, block, eraseblocks, in_image, first_chunks-concat, length-concat, length-first_chunks, length-blank, AcceptsBlocks, Whole, changed, turn, AllFit, fits, only_clears, page_of, PlanSurvives, left, plan_of, after, block_after, step_done, target, Step}
+use Rattle.ubi_change.proofs.Prelude.{◌≡◌, ◌≢◌, ◌*◌, ◌/◌, ◌<◌, ◌⊎◌, ◌∷◌, [], List, ap, arith, get_or, get_or-set_other, get_or-set_same, inl, inr, length, length-set, refl, subst, suc, sym, take, true, zero, ◌∙◌, ℕ, concat, first_chunks, div-mul-add, eqb-true, ltb-true, get, IsGeometry, Sizes, below_same_or_above, Image, IsWholeImage, block, eraseblocks, of_blocks, first_chunks-concat, length-concat, length-first_chunks, length-blank, AcceptsBlocks, AttachValue, changed, turn, AllFit, fits, only_clears, page_of, PlanSurvives, left, plan_of, blocks_after, block_after, step_done, target, Step}
 use Rattle.std.proofs.Common.{◌==◌, ◌&&◌, nat_lt}
 use Rattle.std.specs.Prelude.{if◌then◌else◌}
 use Rattle.std.proofs.Math.Nat as nat
@@ -9,7 +9,7 @@ use Rattle.ubi_change.proofs.AttachedImage.{whole}
 use Rattle.ubi_change.proofs.PlanFits.{length-done, plan_fits}
 use Rattle.ubi_change.proofs.Premises.{left_of, right_of}
 use Rattle.ubi_change.proofs.Stepped.{length-written}
-use Rattle.ubi_change.proofs.Shown.{IsShown, shown}
+use Rattle.ubi_change.proofs.PlanPremises.{IsShown, shown}
 use Rattle.ubi_change.proofs.Attached.{Changing}
 
 -- ---- the same, of bytes
@@ -61,7 +61,7 @@ module _ (s : Sizes) (g : IsGeometry s) where
       by_case (inr (inr high)) = other (omega arith)
 
   sized_cut : (bs : List (List ℕ)) (steps : List Step) (k : ℕ) → AreSized bs → AllFit s bs steps
-      → AreSized (after s bs steps k)
+      → AreSized (blocks_after s bs steps k)
   sized_cut bs [] zero sized fit = sized
   sized_cut bs [] (suc k) sized fit = sized
   sized_cut bs (x ∷ xs) zero sized fit = sized
@@ -69,13 +69,13 @@ module _ (s : Sizes) (g : IsGeometry s) where
       sized_cut (step_done s bs x) xs k (sized_next bs x sized (fit 0 x refl)) (λ i next at. fit (suc i) next at)
 
 -- the image that is left is whole, and cut into the eraseblocks that are left
-module _ (image : Image) (g : IsGeometry image.sizes) (a : Whole) (att : IsShown image a) (steps : List Step)
-    (fit : in_image AllFit image steps) (k : ℕ) where
+module _ (image : Image) (g : IsGeometry image.sizes) (a : AttachValue) (att : IsShown image a) (steps : List Step)
+    (fit : of_blocks AllFit image steps) (k : ℕ) where
   abbrev size : ℕ
   size = image.sizes.peb_size
 
   abbrev cs : List (List ℕ)
-  cs = in_image after image steps k
+  cs = of_blocks blocks_after image steps k
 
   some : 0 < size
   some = omega (arith, g.page_from, g.peb_from)
@@ -92,12 +92,12 @@ module _ (image : Image) (g : IsGeometry image.sizes) (a : Whole) (att : IsShown
       let none = att.accepted.whole.cut in
       count ∙ ap (λ n. n * size) (kept ∙ blocks) ∙ omega arith
 
-  pub left_whole : IsWhole (left image steps k)
+  pub left_whole : IsWholeImage (left image steps k)
   left_whole =
       let whole = att.accepted.whole in
       record { some = rw many whole.some; cut = rw many whole.cut; fits = rw many whole.fits }
 
-  pub left_cut : eraseblocks (left image steps k) ≡ in_image after image steps k
+  pub left_cut : eraseblocks (left image steps k) ≡ of_blocks blocks_after image steps k
   left_cut =
       let count : length (concat cs) / size ≡ length cs =
       ap (λ n. n / size) (length-concat size cs sized ∙ omega arith) ∙ div-mul-add (length cs) size 0 some in
@@ -118,11 +118,11 @@ plan_survives_law image a id lnum new v g of_image there allowed =
       there = there;
       allowed = allowed;
     } in
-    let steps = in_image plan_of image a v.entry id lnum new in
+    let steps = of_blocks plan_of image a v.entry id lnum new in
     let cuts = survives_all change in (
       cuts,
       λ bytes.
-          let fit : in_image AllFit image steps = plan_fits change bytes in
+          let fit : of_blocks AllFit image steps = plan_fits change bytes in
           λ k few. record {
             whole = left_whole image g a att steps fit k;
             accepted = subst (λ bs. AcceptsBlocks image.sizes bs (if nat_lt k (turn image.sizes steps new) then a.meaning

@@ -1,5 +1,5 @@
 -- Plans, their commit points, and the images that they leave, computed by the definitions.
-use Rattle.ubi_change.proofs.Prelude.{◌≡◌, ℕ, List, [], ◌∷◌, ◌++◌, false, replicate, refl, ⊤, FinMap, check_from, remainder, ec_fields, ec_reading, filled, overwrite, form_of, Sizes, vid_fields, vid_reading, VolumeRecord, leb_cmp, Whole, Meant, BlockState, turn, mapped_plan, unmapped_plan, after, takeable, Step}
+use Rattle.ubi_change.proofs.Prelude.{◌≡◌, ℕ, List, [], ◌∷◌, ◌++◌, false, replicate, refl, ⊤, FinMap, check_from, remainder, ec_fields, ec_reading, filled, overwrite, form_of, Sizes, vid_fields, vid_reading, VolumeRecord, leb_cmp, AttachValue, Meant, BlockState, turn, mapped_plan, unmapped_plan, blocks_after, takeable, Step}
 use Rattle.ubi_media.specs.Ec as ec
 use Rattle.ubi_media.specs.Vid as vid
 use Rattle.ubi_media.specs.declared.vid.VolKind.TheVariants as kind
@@ -24,7 +24,7 @@ root = record {
 
 -- an attached image, by its states, greatest sequence number, image sequence number and mean counter; its plans don't ask
 -- for the number of carriers that the scan found
-abbrev attached : Meant → FinMap leb_cmp ℕ → List BlockState → ℕ → ℕ → ℕ → Whole
+abbrev attached : Meant → FinMap leb_cmp ℕ → List BlockState → ℕ → ℕ → ℕ → AttachValue
 attached m w states top seq mean = record {
   meaning = m;
   scan = record { winners = w; states = []; top_sqnum = top; image_seq = seq; carriers = 0; mean_ec = mean };
@@ -200,7 +200,7 @@ copied_steps = step.Program 5 1 copy_leb_1_at_1 ∷ step.Program 5 2 (replicate 
 abbrev copied_new : List ℕ
 copied_new = replicate 128 97
 
-abbrev copied_at : Meant → FinMap leb_cmp ℕ → Whole
+abbrev copied_at : Meant → FinMap leb_cmp ℕ → AttachValue
 copied_at m w = attached m w (state.Table ∷ state.Table ∷ state.Used ∷ state.Used ∷ state.Used ∷ state.Free ∷ []) 0
     305419896 0
 
@@ -209,7 +209,7 @@ copied : (takeable g1 copied_image
     × ((m : Meant) (w : FinMap leb_cmp ℕ)
     → mapped_plan g1 copied_image (copied_at m w) root 0 1 copied_new 5 3 ≡ copied_steps)
     × (turn g1 copied_steps copied_new ≡ 3)
-    × (after g1 copied_image copied_steps 5
+    × (blocks_after g1 copied_image copied_steps 5
     ≡ peb ec_0_named table_0 table ∷ peb ec_0_named table_1 table ∷ peb ec_0_named leb_0 (replicate 384 65)
     ∷ filled 512 ec_1_named ∷ peb ec_0_named leb_2 (replicate 384 67)
     ∷ peb ec_0_named copy_leb_1_at_1 (replicate 128 97) ∷ [])
@@ -227,14 +227,14 @@ shared_page_steps = step.Program 3 0 (filled 256 (ec_0_wide ++ copy_leb_0_at_1))
 abbrev shared_page_new : List ℕ
 shared_page_new = replicate 256 97
 
-abbrev shared_page_at : Meant → FinMap leb_cmp ℕ → Whole
+abbrev shared_page_at : Meant → FinMap leb_cmp ℕ → AttachValue
 shared_page_at m w = attached m w (state.Table ∷ state.Table ∷ state.Used ∷ state.Free ∷ []) 0 0 0
 
 shared_page : (takeable g2 shared_page_image (state.Table ∷ state.Table ∷ state.Used ∷ state.Free ∷ []) ≡ 3 ∷ [])
     × ((m : Meant) (w : FinMap leb_cmp ℕ)
     → mapped_plan g2 shared_page_image (shared_page_at m w) root 0 0 shared_page_new 3 2 ≡ shared_page_steps)
     × (turn g2 shared_page_steps shared_page_new ≡ 2)
-    × (after g2 shared_page_image shared_page_steps 4
+    × (blocks_after g2 shared_page_image shared_page_steps 4
     ≡ wide_peb ec_0_wide table_0 wide_table ∷ wide_peb ec_0_wide table_1 wide_table ∷ filled 1024 ec_1_wide
     ∷ wide_peb ec_0_wide copy_leb_0_at_1 (replicate 256 97) ∷ [])
 unfolding on_literals
@@ -252,7 +252,7 @@ blank_leb_steps = step.Program 5 1 leb_7_at_1 ∷ step.Program 6 1 copy_leb_7_at
 abbrev blank_leb_new : List ℕ
 blank_leb_new = replicate 64 97
 
-abbrev blank_leb_at : Meant → FinMap leb_cmp ℕ → Whole
+abbrev blank_leb_at : Meant → FinMap leb_cmp ℕ → AttachValue
 blank_leb_at m w = attached m w (state.Table ∷ state.Table ∷ state.Used ∷ state.Used ∷ state.Used ∷ state.Free
     ∷ state.Free ∷ []) 0 305419896 0
 
@@ -261,7 +261,7 @@ blank_leb : (takeable g1 blank_leb_image
     × ((m : Meant) (w : FinMap leb_cmp ℕ)
     → unmapped_plan g1 blank_leb_image (blank_leb_at m w) root 0 7 blank_leb_new 5 6 ≡ blank_leb_steps)
     × (turn g1 blank_leb_steps blank_leb_new ≡ 3)
-    × (after g1 blank_leb_image blank_leb_steps 5
+    × (blocks_after g1 blank_leb_image blank_leb_steps 5
     ≡ peb ec_0_named table_0 table ∷ peb ec_0_named table_1 table ∷ peb ec_0_named leb_0 (replicate 384 65)
     ∷ peb ec_0_named leb_1 (replicate 384 66) ∷ peb ec_0_named leb_2 (replicate 384 67) ∷ filled 512 ec_1_named
     ∷ peb ec_0_named copy_leb_7_at_2 (replicate 64 97) ∷ [])
@@ -279,7 +279,7 @@ reused_steps = step.Erase 2 ∷ step.Program 2 0 ec_5 ∷ step.Program 2 1 copy_
 abbrev reused_new : List ℕ
 reused_new = replicate 64 97
 
-abbrev reused_at : Meant → FinMap leb_cmp ℕ → Whole
+abbrev reused_at : Meant → FinMap leb_cmp ℕ → AttachValue
 reused_at m w = attached m w (state.Table ∷ state.Table ∷ state.Stale ∷ state.Used ∷ state.Stale ∷ []) 9 0 0
 
 reused : (takeable g1 reused_image (state.Table ∷ state.Table ∷ state.Stale ∷ state.Used ∷ state.Stale ∷ [])
@@ -287,7 +287,7 @@ reused : (takeable g1 reused_image (state.Table ∷ state.Table ∷ state.Stale 
     × ((m : Meant) (w : FinMap leb_cmp ℕ)
     → mapped_plan g1 reused_image (reused_at m w) root 0 0 reused_new 2 3 ≡ reused_steps)
     × (turn g1 reused_steps reused_new ≡ 4)
-    × (after g1 reused_image reused_steps 6
+    × (blocks_after g1 reused_image reused_steps 6
     ≡ peb ec_0 table_0 table ∷ peb ec_0 table_1 table ∷ peb ec_5 copy_leb_0_at_10 (replicate 64 97) ∷ filled 512 ec_1
     ∷ peb ec_0 copy_leb_0_at_9 (replicate 64 57) ∷ [])
 unfolding on_literals
@@ -304,7 +304,7 @@ worn_steps = step.Program 5 1 copy_leb_1_at_1 ∷ step.Program 5 2 (replicate 64
 abbrev worn_new : List ℕ
 worn_new = replicate 128 97
 
-abbrev worn_at : Meant → FinMap leb_cmp ℕ → Whole
+abbrev worn_at : Meant → FinMap leb_cmp ℕ → AttachValue
 worn_at m w = attached m w (state.Table ∷ state.Table ∷ state.Used ∷ state.Used ∷ state.Used ∷ state.Free ∷ []) 0
     305419896 357913941
 
@@ -313,7 +313,7 @@ worn : (takeable g1 worn_image (state.Table ∷ state.Table ∷ state.Used ∷ s
     × ((m : Meant) (w : FinMap leb_cmp ℕ) → mapped_plan g1 worn_image (worn_at m w) root 0 1 worn_new 5 3
     ≡ worn_steps)
     × (turn g1 worn_steps worn_new ≡ 3)
-    × (after g1 worn_image worn_steps 3
+    × (blocks_after g1 worn_image worn_steps 3
     ≡ peb ec_0_named table_0 table ∷ peb ec_0_named table_1 table ∷ peb ec_0_named leb_0 (replicate 384 65)
     ∷ peb ec_worn_named leb_1 (replicate 384 66) ∷ peb ec_0_named leb_2 (replicate 384 67)
     ∷ peb ec_0_named copy_leb_1_at_1 (replicate 128 97) ∷ [])
@@ -331,7 +331,7 @@ blank_steps = step.Erase 5 ∷ step.Program 5 0 ec_0_named ∷ step.Program 5 1 
 abbrev blank_new : List ℕ
 blank_new = replicate 64 97
 
-abbrev blank_at : Meant → FinMap leb_cmp ℕ → Whole
+abbrev blank_at : Meant → FinMap leb_cmp ℕ → AttachValue
 blank_at m w = attached m w (state.Table ∷ state.Table ∷ state.Used ∷ state.Used ∷ state.Used ∷ state.Blank ∷ []) 0
     305419896 0
 
@@ -340,7 +340,7 @@ blank : (takeable g1 blank_image
     × ((m : Meant) (w : FinMap leb_cmp ℕ) → mapped_plan g1 blank_image (blank_at m w) root 0 1 blank_new 5 3
     ≡ blank_steps)
     × (turn g1 blank_steps blank_new ≡ 4)
-    × (after g1 blank_image blank_steps 6
+    × (blocks_after g1 blank_image blank_steps 6
     ≡ peb ec_0_named table_0 table ∷ peb ec_0_named table_1 table ∷ peb ec_0_named leb_0 (replicate 384 65)
     ∷ filled 512 ec_1_named ∷ peb ec_0_named leb_2 (replicate 384 67)
     ∷ peb ec_0_named copy_leb_1_at_1_of_64 (replicate 64 97) ∷ [])
@@ -360,7 +360,7 @@ mixed_mapped_steps = step.Erase 3 ∷ step.Program 3 0 ec_1 ∷ step.Program 3 1
 abbrev mixed_mapped_new : List ℕ
 mixed_mapped_new = replicate 64 97
 
-abbrev mixed_mapped_at : Meant → FinMap leb_cmp ℕ → Whole
+abbrev mixed_mapped_at : Meant → FinMap leb_cmp ℕ → AttachValue
 mixed_mapped_at m w = attached m w (state.Table ∷ state.Table ∷ state.Used ∷ state.Stale ∷ state.Orphan ∷ state.Orphan
     ∷ state.Garbage ∷ state.Dropped ∷ state.Corrupt ∷ []) 12 0 0
 
@@ -370,7 +370,7 @@ mixed_mapped : (takeable g1 mixed_mapped_image
     × ((m : Meant) (w : FinMap leb_cmp ℕ)
     → mapped_plan g1 mixed_mapped_image (mixed_mapped_at m w) root 0 0 mixed_mapped_new 3 2 ≡ mixed_mapped_steps)
     × (turn g1 mixed_mapped_steps mixed_mapped_new ≡ 4)
-    × (after g1 mixed_mapped_image mixed_mapped_steps 6
+    × (blocks_after g1 mixed_mapped_image mixed_mapped_steps 6
     ≡ peb ec_0 table_0 table ∷ peb ec_0 table_1 table ∷ filled 512 ec_1 ∷ peb ec_1 copy_leb_0_at_13 (replicate 64 97)
     ∷ peb ec_0 leb_20_at_8 (replicate 384 68) ∷ peb ec_0 static_leb_20_at_7 (replicate 384 68) ∷ peb ec_0 corrupt_vid []
     ∷ peb ec_0 internal [] ∷ filled 512 corrupt_ec ∷ [])
@@ -391,7 +391,7 @@ mixed_unmapped_steps = step.Erase 3 ∷ step.Program 3 0 ec_1 ∷ step.Program 3
 abbrev mixed_unmapped_new : List ℕ
 mixed_unmapped_new = replicate 64 97
 
-abbrev mixed_unmapped_at : Meant → FinMap leb_cmp ℕ → Whole
+abbrev mixed_unmapped_at : Meant → FinMap leb_cmp ℕ → AttachValue
 mixed_unmapped_at m w = attached m w
     (state.Table ∷ state.Table ∷ state.Used ∷ state.Stale ∷ state.Orphan ∷ state.Orphan ∷ state.Garbage ∷ state.Dropped
     ∷ state.Corrupt ∷ []) 12 0 0
@@ -403,7 +403,7 @@ mixed_unmapped : (takeable g1 mixed_unmapped_image
     → unmapped_plan g1 mixed_unmapped_image (mixed_unmapped_at m w) root 0 1 mixed_unmapped_new 3 4
     ≡ mixed_unmapped_steps)
     × (turn g1 mixed_unmapped_steps mixed_unmapped_new ≡ 7)
-    × (after g1 mixed_unmapped_image mixed_unmapped_steps 9
+    × (blocks_after g1 mixed_unmapped_image mixed_unmapped_steps 9
     ≡ peb ec_0 table_0 table ∷ peb ec_0 table_1 table ∷ peb ec_0 leb_0_at_5 (replicate 384 53) ∷ filled 512 ec_2
     ∷ peb ec_1 copy_leb_1_at_14 (replicate 64 97) ∷ peb ec_0 static_leb_20_at_7 (replicate 384 68)
     ∷ peb ec_0 corrupt_vid [] ∷ peb ec_0 internal [] ∷ filled 512 corrupt_ec ∷ [])

@@ -34,7 +34,7 @@ pub use Rattle.ubi_media.proofs.Headers.{ec_read_back, fields_fit, vid_read_back
 pub use Rattle.ubi_media.proofs.Padding.{half_pad, reserved_within}
 pub use Rattle.ubi_media.proofs.Readings.{counter_within, ec_is_of, one_ec_reading, one_vid_reading}
 pub use Rattle.ubi_media.proofs.Writes.{put_all}
-pub use Rattle.ubi_media.specs.Check.{check}
+pub use Rattle.ubi_media.specs.Check.{crc_of}
 unfoldable pub use Rattle.ubi_media.specs.Check.{check_from, remainder}
 pub use Rattle.ubi_media.specs.Ec.{ec_bytes, ec_front}
 unfoldable pub use Rattle.ubi_media.specs.Ec.{ec_fields, ec_reading}
@@ -60,10 +60,10 @@ pub use Rattle.ubi_scan.proofs.Clean.{clean_from_none, none_from_clean}
 pub use Rattle.ubi_scan.proofs.Decided.{Wins-unique, winner_or_none}
 pub use Rattle.ubi_scan.proofs.Entries.{entry_place}
 pub use Rattle.ubi_scan.proofs.FailedReads.{names_part}
-pub use Rattle.ubi_scan.proofs.Filled.{behind, drop_blank, filled-by, filled-is, filled-none, filled_inner, filled_more, join_blank, length-blank, length-filled, overwrite_filled, overwrite_front}
+pub use Rattle.ubi_scan.proofs.FilledWithBlanks.{behind, drop_blank, filled-by, filled-is, filled-none, filled_inner, filled_more, join_blank, length-blank, length-filled, overwrite_filled, overwrite_front}
 pub use Rattle.ubi_scan.proofs.InMemory.{still}
 pub use Rattle.ubi_scan.proofs.Keys.{apart_test, at_itself, at_other, same_test}
-pub use Rattle.ubi_scan.proofs.Narrowed.{source_narrowed}
+pub use Rattle.ubi_scan.proofs.NarrowedSource.{source_narrowed}
 pub use Rattle.ubi_scan.proofs.Parts.{blank_ec, blank_vid, ec-laid, laid, leb-laid, vid-laid}
 pub use Rattle.ubi_scan.proofs.ReadParts.{count_blocks}
 pub use Rattle.ubi_scan.proofs.Revalued.{revalued_is, sum_revalued}
@@ -71,7 +71,7 @@ pub use Rattle.ubi_scan.proofs.Seq.{Agrees, seq_agrees, seq_is}
 pub use Rattle.ubi_scan.proofs.Tops.{used_by}
 pub use Rattle.ubi_scan.specs.Clean.{IsClean, IsSound}
 pub use Rattle.ubi_scan.specs.Faults.{IsMislaid, NoFault}
-pub use Rattle.ubi_scan.specs.Image.{Image, IsWhole, IsWholeSize, block, ec, ec_area, eraseblocks, image_of, in_image, leb, vid, vid_area}
+pub use Rattle.ubi_scan.specs.Image.{Image, IsWholeImage, IsWholeSize, block, ec, ec_area, eraseblocks, image_of, leb, of_blocks, vid, vid_area}
 pub use Rattle.ubi_scan.specs.Marks.{is_listed}
 pub use Rattle.ubi_scan.specs.Members.{IsMember, Leb, NoMember, Wins, foreign, foreign_if, good_at, good_in, has_members, header, header_if, is_good, is_right, layout, leb_of, member, member_if, named_in, sqnum_at, sqnum_in}
 pub use Rattle.ubi_scan.specs.Numbers.{carriers, counters, image_seq, is_carrier, mean, mean_ec, seq_if, seq_of, sqnum_in_use, top_sqnum, valid_ec}
@@ -81,7 +81,7 @@ pub use Rattle.ubi_scan.specs.declared.errors.StreamError.{StreamError}
 pub use Rattle.ubi_table.proofs.NameRules.{sound_named}
 pub use Rattle.ubi_table.proofs.NamedTable.{next-is, some_record}
 pub use Rattle.ubi_table.proofs.Names.{Entry}
-pub use Rattle.ubi_table.proofs.One.{blank_none, copy_unique, decides_unique}
+pub use Rattle.ubi_table.proofs.OneTable.{blank_none, copy_unique, decides_unique}
 pub use Rattle.ubi_table.proofs.ReadBack.{length-table_bytes, reads_back}
 pub use Rattle.ubi_table.proofs.Streamed.{copy_sizes}
 pub use Rattle.ubi_table.specs.Named.{IsFreeName, records_named, with_name}
@@ -94,7 +94,7 @@ pub use Rattle.ubi_volume.proofs.Blanks.{blank_text, other_text, part_is}
 pub use Rattle.ubi_volume.proofs.Equal.{bytes_Decides, record_Decides}
 pub use Rattle.ubi_volume.proofs.Gathered.{listed_at}
 pub use Rattle.ubi_volume.proofs.MeantRecords.{meant_by, records_are, records_fit, volume_is}
-pub use Rattle.ubi_volume.proofs.Narrowed.{error_where, wrote_narrowed, wrote_where}
+pub use Rattle.ubi_volume.proofs.NarrowedPlaces.{error_where, wrote_narrowed, wrote_where}
 pub use Rattle.ubi_volume.proofs.OfSurvey.{survey_narrowed}
 pub use Rattle.ubi_volume.proofs.Pieces.{pieces_few, pieces_suffice}
 pub use Rattle.ubi_volume.proofs.PlacesOf.{refused_in_memory}
@@ -102,8 +102,8 @@ pub use Rattle.ubi_volume.proofs.Received.{Splits, error_behind, error_front, wr
 pub use Rattle.ubi_volume.proofs.Recorded.{record_of, records_meant, space_of}
 pub use Rattle.ubi_volume.proofs.Winners.{found_wins, no_some, none_found}
 pub use Rattle.ubi_volume.specs.Accepts.{Accepts, AcceptsBlocks, IsUnlike, IsWithin, NoMismatch}
-pub use Rattle.ubi_volume.specs.Attached.{AreStates, IsAttached, IsOutside, StateIs, Whole}
-pub use Rattle.ubi_volume.specs.Means.{AreWhole, IsPiece, LebReads, Means, SlotMeans, StaticReads, VolumeReads, piece}
+pub use Rattle.ubi_volume.specs.Attached.{AreBlockStates, AttachValue, BlockStateIs, IsAttached, IsOutside}
+pub use Rattle.ubi_volume.specs.Means.{HoldContents, IsPiece, LebReads, Means, SlotMeans, StaticReads, VolumeReads, piece}
 pub use Rattle.ubi_volume.specs.Meant.{Fits, IsMeaning, IsVolume, KeepsNoBlank, Meant, VolumeMap, pieces, records_of}
 pub use Rattle.ubi_volume.specs.Places.{ArePlacesError}
 pub use Rattle.ubi_volume.specs.Survey.{IsSurvey, IsSurveyOf, Seen}
@@ -119,30 +119,30 @@ pub use Rattle.ubi_change.specs.Laws.{PlanSurvives, RenameSurvives, left}
 pub use Rattle.ubi_change.specs.Order.{ComesFirst, Erases, NoErase, Programs, RisesBetweenErases}
 pub use Rattle.ubi_change.specs.Pages.{PagesCarry, line_of, programmed, with_pages}
 pub use Rattle.ubi_change.specs.Plan.{atomic_copy, blank_header, copy_header, mapped_plan, mount, needs, next_ec, plan_of, prepare, program_header, program_text, ready_bytes, ready_ec, release, renew, taken, unmapped_plan, vid_page}
-pub use Rattle.ubi_change.specs.Planned.{IsChangeError, IsChangeRefusal, IsChangeRefusalAvoiding, IsFrugalAvoiding, IsFrugalOf, IsPlan, IsPlanAvoiding, IsPlanOf, IsPlanned}
+pub use Rattle.ubi_change.specs.Planned.{IsChangeError, IsChangeRefusal, IsChangeRefusalAvoiding, IsFrugalAvoiding, IsFrugalOf, IsPlanAvoiding, IsThePlan, PlanFacts, PlanFactsOfSource}
 pub use Rattle.ubi_change.specs.Refused.{causes, first_cause, first_of, is_bad_length}
 pub use Rattle.ubi_change.specs.RenamePlan.{copy_plan, holder, layout_header, rename_plan, renamed_pages, table_pages}
-pub use Rattle.ubi_change.specs.RenamePlanned.{IsFrugalRename, IsFrugalRenameAvoiding, IsFrugalRenameOf, IsPlannedRename, IsRename, IsRenameAvoiding, IsRenameError, IsRenameOf, IsRenameRefusal, IsRenameRefusalAvoiding, KeepsReading, LeavesBothGood, LeavesBothGoodOf, SurvivesRename, SurvivesRenameOf}
-pub use Rattle.ubi_change.specs.RenameRefused.{BothGood, HasName, IsFirstCause, MayBeNamed, Stands, rank}
+pub use Rattle.ubi_change.specs.RenamePlanned.{IsFrugalRename, IsFrugalRenameAvoiding, IsFrugalRenameOf, IsPlannedRename, IsRenameAvoiding, IsRenameError, IsRenameRefusal, IsRenameRefusalAvoiding, IsTheRename, KeepsReading, LeavesBothGood, LeavesBothGoodOf, RenameFacts, SurvivesRename, SurvivesRenameOf}
+pub use Rattle.ubi_change.specs.RenameRefused.{BothGood, HasName, IsFirstCause, MayBeNamed, RenameStands, rename_rank}
 pub use Rattle.ubi_change.specs.Renamed.{ReadSame, nameless, renamed, volume_named}
-pub use Rattle.ubi_change.specs.Steps.{after, after_text, block_after, step_done, target}
+pub use Rattle.ubi_change.specs.Steps.{after_text, block_after, blocks_after, step_done, target}
 pub use Rattle.ubi_change.specs.Takeable.{able, ec_at, is_clean, is_free, is_sole_carrier, is_takeable, is_unused, is_worn, stays, takeable}
-pub use Rattle.ubi_change.specs.Weak.{is_weak, is_whole, pages_of, torn, weak_place, whole_place}
+pub use Rattle.ubi_change.specs.Weak.{is_weak, is_whole, pages_needed, pages_of, torn, weak_pages}
+pub use Rattle.ubi_change.specs.declared.change.Prepared.{Prepared}
+pub use Rattle.ubi_change.specs.declared.copies.Holders.{Holders}
+pub use Rattle.ubi_change.specs.declared.errors.ChangeRefusal.{ChangeRefusal}
+pub use Rattle.ubi_change.specs.declared.errors.PlanError.{PlanError}
+pub use Rattle.ubi_change.specs.declared.errors.RenameRefusal.{RenameRefusal}
 pub use Rattle.ubi_change.specs.declared.ground.Ground.{Ground}
-pub use Rattle.ubi_change.specs.declared.holders.Holders.{Holders}
-pub use Rattle.ubi_change.specs.declared.plan_error.PlanError.{PlanError}
-pub use Rattle.ubi_change.specs.declared.planning.Prepared.{Prepared}
-pub use Rattle.ubi_change.specs.declared.refusal.ChangeRefusal.{ChangeRefusal}
-pub use Rattle.ubi_change.specs.declared.rename_refusal.RenameRefusal.{RenameRefusal}
-pub use Rattle.ubi_change.specs.declared.renaming.Renamable.{Renamable}
-pub use Rattle.ubi_change.specs.declared.site.Site.{Site}
-pub use Rattle.ubi_change.specs.declared.spares.Spares.{Spares}
+pub use Rattle.ubi_change.specs.declared.plan_steps.Target.{Target}
+pub use Rattle.ubi_change.specs.declared.rename.Renamable.{Renamable}
+pub use Rattle.ubi_change.specs.declared.sites.Site.{Site}
+pub use Rattle.ubi_change.specs.declared.sites.Spares.{Spares}
 pub use Rattle.ubi_change.specs.declared.step.Step.{Step}
-pub use Rattle.ubi_change.specs.declared.taking.FirstTwo.{FirstTwo}
-pub use Rattle.ubi_change.specs.declared.taking.Parted.{Parted}
-pub use Rattle.ubi_change.specs.declared.target.Target.{Target}
-pub use Rattle.ubi_change.specs.inner.Making.{AreSites, AreStepsOf, FitsPrepared, IsPrepared, IsSitesRefusal, IsTarget, IsTooFew, IsUnplanned, from_stream, image_causes, needed, own_causes, shown, steps_on}
-pub use Rattle.ubi_change.specs.inner.Renaming.{AreCopiesOf, AreHolders, AreHoldersOf, AreSpares, BothFit, IsNamable, IsNamingRefusal, IsRenamable, IsSparesRefusal, IsUnrenamed, other_named, pages_for, two_copies}
+pub use Rattle.ubi_change.specs.declared.takeable.FirstTwo.{FirstTwo}
+pub use Rattle.ubi_change.specs.declared.takeable.Parted.{Parted}
+pub use Rattle.ubi_change.specs.inner.Making.{AreSites, AreStepsOf, FitsPrepared, IsPrepared, IsSitesRefusal, IsTarget, IsTooFew, IsUnplanned, change_error, change_needs, image_causes, own_causes, shown, steps_on}
+pub use Rattle.ubi_change.specs.inner.Renaming.{AreCopiesOf, AreHolders, AreHoldersOf, AreSpares, BothFit, IsNamable, IsNamingRefusal, IsRenamable, IsSparesRefusal, IsUnrenamed, other_named, pages_for, rename_error, two_copies}
 pub use Rattle.ubi_change.specs.inner.Sites.{FitsIn, IsSiteAt, copy_on, is_sole_on, mount_on, ready_on, release_on, site_at, stays_on}
 pub use Rattle.ubi_change.specs.inner.Taking.{AreTaken, IsGroundOf, ListedIs, NotBlankIs, SayBlank, TakeableIs, all_of, first_taken, first_two, joined, parted_with, two_joined, two_with, with_next}
 pub use Rattle.ubi_change.specs.inner.Writing.{block_cut, block_step, block_text, front_text}

@@ -1,5 +1,5 @@
 -- The plan of a rename of an attached image, with nothing against it: its parts, and that it survives every cut.
-use Rattle.ubi_change.proofs.Prelude.{◌≡◌, ◌≢◌, ℕ, suc, ◌+◌, ◌*◌, ◌^◌, ◌<◌, ◌≤◌, inl, inr, Bool, true, false, cond, List, ◌++◌, append_assoc, length, refl, ap, sym, ◌∙◌, subst, arith, None, Option, Some, count_by, nat_lt, option_map_or, cases_lt, fold-append, sum_by-append, IsGeometry, Sizes, slots, EcHeader, VidHeader, Image, eraseblocks, in_image, IsMember, Leb, Wins, layout, AreRecords, Records, table_bytes, AllBlank, AcceptsBlocks, Whole, Meant, records_of, Volume, records_are, records_meant, found_wins, none_found, programs_copy, turn, mount, prepare, program_text, ready_bytes, ready_ec, release, taken, copy_plan, holder, layout_header, rename_plan, renamed_pages, table_pages, LeavesBothGood, KeepsReading, SurvivesRename, BothGood, MayBeNamed, ReadSame, renamed, after, step_done, ec_at, weak_place, whole_place, Step}
+use Rattle.ubi_change.proofs.Prelude.{◌≡◌, ◌≢◌, ℕ, suc, ◌+◌, ◌*◌, ◌^◌, ◌<◌, ◌≤◌, inl, inr, Bool, true, false, cond, List, ◌++◌, append_assoc, length, refl, ap, sym, ◌∙◌, subst, arith, None, Option, Some, count_by, nat_lt, option_map_or, cases_lt, fold-append, sum_by-append, IsGeometry, Sizes, slots, EcHeader, VidHeader, Image, eraseblocks, of_blocks, IsMember, Leb, Wins, layout, AreRecords, Records, table_bytes, AllBlank, AcceptsBlocks, AttachValue, Meant, records_of, Volume, records_are, records_meant, found_wins, none_found, programs_copy, turn, mount, prepare, program_text, ready_bytes, ready_ec, release, taken, copy_plan, holder, layout_header, rename_plan, renamed_pages, table_pages, LeavesBothGood, KeepsReading, SurvivesRename, BothGood, MayBeNamed, ReadSame, renamed, blocks_after, step_done, ec_at, weak_pages, pages_needed, Step}
 use Rattle.std.specs.FinMap as finite
 use Rattle.ubi_change.proofs.AttachedImage as on
 use Rattle.ubi_change.proofs.Choosing.{MayBeTaken, may_be_taken, two_apart}
@@ -18,17 +18,17 @@ use Rattle.ubi_change.proofs.TablePages.{bytes_size}
 use Rattle.ubi_change.proofs.Turned.{one-copy, turn-is}
 use Rattle.ubi_change.proofs.Unused.{layout_counts, one_name, used_by_winner}
 use Rattle.ubi_change.proofs.Vacated.{LosesAll}
-use Rattle.ubi_change.proofs.Shown.{IsShown}
+use Rattle.ubi_change.proofs.PlanPremises.{IsShown}
 
 -- a rename of an attached image, against which nothing stands
 pub record Renaming : Type 0 where
   pub image : Image
   pub geometry : IsGeometry image.sizes
-  pub from : Whole
+  pub from : AttachValue
   pub attached : IsShown image from
   pub id : ℕ
   pub name : List ℕ
-  pub allowed : in_image MayBeNamed image from id name
+  pub allowed : of_blocks MayBeNamed image from id name
 
 module _ (r : Renaming) where
   abbrev pub s : Sizes
@@ -37,7 +37,7 @@ module _ (r : Renaming) where
   abbrev pub bs : List (List ℕ)
   bs = eraseblocks r.image
 
-  abbrev pub a : Whole
+  abbrev pub a : AttachValue
   a = r.from
 
   abbrev pub m : Meant
@@ -86,8 +86,8 @@ module _ (r : Renaming) where
   pub new-is : renamed_pages s m r.id r.name ≡ new
   new-is = ap (λ (k : Meant). table_pages s (records_of k)) named-is
 
-  strong : weak_place s new ≡ None
-  strong = ap (weak_place s) (sym new-is) ∙ r.allowed.strong
+  strong : weak_pages s new ≡ None
+  strong = ap (weak_pages s) (sym new-is) ∙ r.allowed.strong
 
   -- the eraseblocks that are taken, and those that hold the copies
   abbrev pub b0 : ℕ
@@ -196,7 +196,7 @@ module _ (r : Renaming) where
   steps0 = written0 ++ rel0
 
   abbrev turn0 : ℕ
-  turn0 = length (prepare s bs a b0) + suc (whole_place s new)
+  turn0 = length (prepare s bs a b0) + suc (pages_needed s new)
 
   abbrev IsHalf : List (List ℕ) → Type 0
   IsHalf = IsHalfway s bs seq n b0 old1 b1 (a.scan.top_sqnum + 1 + 1)
@@ -251,7 +251,7 @@ module _ (r : Renaming) where
   steps1 = written1 ++ rel1
 
   pub second : TurnsAt s (λ x. AcceptsBlocks s x n) (IsWhollyNamed s n) cs steps1
-      (length (prepare s bs a b1) + suc (whole_place s new))
+      (length (prepare s bs a b1) + suc (pages_needed s new))
   second = second_turns s r.geometry bs n b0 b1 old1 seq (a.scan.top_sqnum + 1 + 1) cs half inside1
       (named_then b1 named1) (ready_bytes s bs a b1) made1.0 copy1 (prepare s bs a b1) rel1 made1.2
       (release_is cs old1 (named_then old1))
@@ -275,7 +275,7 @@ module _ (r : Renaming) where
   }) cuts1
     where
       cuts1 : AtEachCut s (λ x. AcceptsBlocks s x n) cs steps1
-      cuts1 k l = elim (cases_lt k (length (prepare s bs a b1) + suc (whole_place s new))) [
+      cuts1 k l = elim (cases_lt k (length (prepare s bs a b1) + suc (pages_needed s new))) [
         | inl h ↦ second.before k h
         | inr h ↦ (second.from k h l).accepted
       ]
@@ -305,9 +305,9 @@ module _ (r : Renaming) where
         two_copies = two;
         comes = (let c = turns.comes in omega arith);
         each = λ k l.
-            subst (λ (t : ℕ). AcceptsBlocks s (after s bs steps k) (cond (nat_lt k t) m (renamed m r.id r.name)))
+            subst (λ (t : ℕ). AcceptsBlocks s (blocks_after s bs steps k) (cond (nat_lt k t) m (renamed m r.id r.name)))
             (sym place)
-            (subst (λ (z : Meant). AcceptsBlocks s (after s bs steps k) (cond (nat_lt k turn0) m z)) (sym named-is)
+            (subst (λ (z : Meant). AcceptsBlocks s (blocks_after s bs steps k) (cond (nat_lt k turn0) m z)) (sym named-is)
             (accepted_at s bs m n steps turn0 turns k l));
       }
 
@@ -324,14 +324,14 @@ module _ (r : Renaming) where
   )
     where
       by_turn : (k : ℕ) → k ≤ length (rename_plan s bs a r.id r.name) → (b : Bool)
-          → AcceptsBlocks s (after s bs (rename_plan s bs a r.id r.name) k) (cond b m (renamed m r.id r.name))
-          → (z : Meant) × AcceptsBlocks s (after s bs (rename_plan s bs a r.id r.name) k) z × ReadSame m z
+          → AcceptsBlocks s (blocks_after s bs (rename_plan s bs a r.id r.name) k) (cond b m (renamed m r.id r.name))
+          → (z : Meant) × AcceptsBlocks s (blocks_after s bs (rename_plan s bs a r.id r.name) k) z × ReadSame m z
       by_turn k l true accepted = (m, accepted, λ i. refl)
       by_turn k l false accepted =
           (renamed m r.id r.name, accepted, subst (ReadSame m) (sym named-is) is_renamed.same)
 
   -- at the end both copies are good
-  both_end : BothGood s (after s bs steps (length steps)) (records_of n)
+  both_end : BothGood s (blocks_after s bs steps (length steps)) (records_of n)
   both_end =
       subst (λ (z : List (List ℕ)). BothGood s z (records_of n))
       (after-all s cs steps1 ∙ sym (fold-append (step_done s) bs steps0 steps1) ∙ sym (after-all s bs steps))
@@ -340,4 +340,4 @@ module _ (r : Renaming) where
   pub leaves_both_good : LeavesBothGood s bs m r.id r.name (rename_plan s bs a r.id r.name)
   leaves_both_good =
       subst (LeavesBothGood s bs m r.id r.name) (sym plan-is)
-      (subst (λ (z : Meant). BothGood s (after s bs steps (length steps)) (records_of z)) (sym named-is) both_end)
+      (subst (λ (z : Meant). BothGood s (blocks_after s bs steps (length steps)) (records_of z)) (sym named-is) both_end)

@@ -1,10 +1,10 @@
 -- Which cause applies first against a rename, by what the functions on the way to its plan found.
-use Rattle.ubi_change.proofs.Prelude.{◌≡◌, ℕ, zero, suc, ◌+◌, ◌<◌, ◌≤◌, inl, inr, true, List, length, ap, ◌∙◌, subst, arith, IsSome, None, Some, option_map, cases_lt, Sizes, is_name, Image, eraseblocks, Records, some_record, Whole, IsSurvey, Seen, Volume, record_of, renamed_pages, IsRenameRefusalAvoiding, BothGood, HasName, IsFirstCause, Stands, rank, takeable, weak_place, IsNamable, IsNamingRefusal, RenameRefusal, Avoided, avoiding}
+use Rattle.ubi_change.proofs.Prelude.{◌≡◌, ℕ, zero, suc, ◌+◌, ◌<◌, ◌≤◌, inl, inr, true, List, length, ap, ◌∙◌, subst, arith, IsSome, None, Some, option_map, cases_lt, Sizes, is_name, Image, eraseblocks, Records, some_record, AttachValue, IsSurvey, Seen, Volume, record_of, renamed_pages, IsRenameRefusalAvoiding, BothGood, HasName, IsFirstCause, RenameStands, rename_rank, takeable, weak_pages, IsNamable, IsNamingRefusal, RenameRefusal, Avoided, avoiding}
 use Rattle.std.specs.FinMap as finite
-use Rattle.ubi_change.specs.declared.rename_refusal.RenameRefusal.TheVariants as refusal
+use Rattle.ubi_change.specs.declared.errors.RenameRefusal.TheVariants as refusal
 use Rattle.ubi_change.proofs.Surveys.{has_none, has_volume, whole}
 
-module _ (s : Sizes) (bs : List (List ℕ)) (a : Whole) (id : ℕ) (name : List ℕ) where
+module _ (s : Sizes) (bs : List (List ℕ)) (a : AttachValue) (id : ℕ) (name : List ℕ) where
   -- what rules out the cause at a place of their order
   abbrev pub RuledOut : ℕ → Type 0
   RuledOut zero = Unit {0}
@@ -12,11 +12,11 @@ module _ (s : Sizes) (bs : List (List ℕ)) (a : Whole) (id : ℕ) (name : List 
   RuledOut (suc (suc zero)) = is_name name ≡ true
   RuledOut (suc (suc (suc zero))) = (slot : ℕ) → HasName a id name slot → ⊥
   RuledOut (suc (suc (suc (suc zero)))) = (t : Records) × BothGood s bs t
-  RuledOut (suc (suc (suc (suc (suc zero))))) = weak_place s (renamed_pages s a.meaning id name) ≡ None
+  RuledOut (suc (suc (suc (suc (suc zero))))) = weak_pages s (renamed_pages s a.meaning id name) ≡ None
   RuledOut (suc (suc (suc (suc (suc (suc zero)))))) = a.scan.top_sqnum + 2 ≤ 0xFFFFFFFFFFFFFFFF
   RuledOut (suc (suc (suc (suc (suc (suc (suc n))))))) = 2 ≤ length (takeable s bs a.states)
 
-  is_out : (c : RenameRefusal) → RuledOut (rank c) → Stands s bs a id name c → ⊥
+  is_out : (c : RenameRefusal) → RuledOut (rename_rank c) → RenameStands s bs a id name c → ⊥
   is_out refusal.NoVolume out h = let v = out.1 in let k = h in absurd (cc)
   is_out refusal.BadName out h = let v = out in let k = h in absurd (cc)
   is_out (refusal.SameName slot) out h = out slot h
@@ -41,8 +41,8 @@ module _ (s : Sizes) (bs : List (List ℕ)) (a : Whole) (id : ℕ) (name : List 
     | inr h ↦ (let same : n ≡ k = omega arith in subst RuledOut same out)
   ]
 
-  pub first_stands : (c : RenameRefusal) → AllOut (rank c) → Stands s bs a id name c → IsFirstCause s bs a id name c
-  first_stands c all h = record { stands = h; first = λ d l k. is_out d (all (rank d) l) k }
+  pub first_stands : (c : RenameRefusal) → AllOut (rename_rank c) → RenameStands s bs a id name c → IsFirstCause s bs a id name c
+  first_stands c all h = record { stands = h; first = λ d l k. is_out d (all (rename_rank d) l) k }
 
 module _ (image : Image) (av : Avoided) (seen : Seen) (is : IsSurvey image seen) (id : ℕ) (name : List ℕ) where
   abbrev s : Sizes
@@ -51,11 +51,11 @@ module _ (image : Image) (av : Avoided) (seen : Seen) (is : IsSurvey image seen)
   abbrev bs : List (List ℕ)
   bs = eraseblocks image
 
-  abbrev from : Whole
+  abbrev from : AttachValue
   from = whole image seen is
 
   -- the image as the plan sees it
-  abbrev a : Whole
+  abbrev a : AttachValue
   a = avoiding av from
 
   pub there : IsSome (finite.get seen.records.of id) → RuledOut s bs a id name 1
@@ -107,11 +107,11 @@ module _ (image : Image) (av : Avoided) (seen : Seen) (is : IsSurvey image seen)
       five : AllOut s bs a id name 5
       five = more_out s bs a id name 4 four good
 
-      pub refused_weak : (k : ℕ) → weak_place s (renamed_pages s is.meaning id name) ≡ Some k
+      pub refused_weak : (k : ℕ) → weak_pages s (renamed_pages s is.meaning id name) ≡ Some k
           → IsRenameRefusalAvoiding image av id name (refusal.WeakCheck k)
       refused_weak k h = (from, is.attached, first_stands s bs a id name (refusal.WeakCheck k) five h)
 
-      module _ (strong : weak_place s (renamed_pages s is.meaning id name) ≡ None) where
+      module _ (strong : weak_pages s (renamed_pages s is.meaning id name) ≡ None) where
         six : AllOut s bs a id name 6
         six = more_out s bs a id name 5 five strong
 

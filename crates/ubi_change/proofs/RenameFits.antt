@@ -1,5 +1,5 @@
 -- Each step of the plan of a rename fits what those before it leave.
-use Rattle.ubi_change.proofs.Prelude.{sym, subst, arith, AreBytes, in_image, records_of, AllFit, ready_bytes, rename_plan, renamed_pages, ec_at}
+use Rattle.ubi_change.proofs.Prelude.{sym, subst, arith, AreBytes, of_blocks, records_of, AllFit, ready_bytes, rename_plan, renamed_pages, ec_at}
 use Rattle.ubi_change.proofs.Fits.{FitAll, all_fit, fit-append}
 use Rattle.ubi_change.proofs.PlanFits.{copy_fits}
 use Rattle.ubi_change.proofs.RenameAttached as rename
@@ -7,7 +7,7 @@ use Rattle.ubi_change.proofs.RenameAttached.{Renaming}
 use Rattle.ubi_change.proofs.TablePages.{pages_paged, pages_room}
 
 module _ (r : Renaming) (bytes : AreBytes (renamed_pages r.image.sizes r.from.meaning r.id r.name)) where
-  pub rename_fits : in_image AllFit r.image (in_image rename_plan r.image r.from r.id r.name)
+  pub rename_fits : of_blocks AllFit r.image (of_blocks rename_plan r.image r.from r.id r.name)
   rename_fits =
       let g = r.geometry in
       let s = rename.s r in

@@ -1,6 +1,6 @@
 -- The plan of a rename touches only what it needs, erases what held the copies once the new ones are good, and counts
 -- each erase.
-use Rattle.ubi_change.proofs.Prelude.{◌≡◌, ℕ, zero, suc, ◌+◌, ◌%◌, ◌<◌, ◌≤◌, false, List, [], ◌∷◌, ◌++◌, append_assoc, length, take, refl, ap, sym, subst, ◌∙◌, arith, length-append, Contains, count_by, Sizes, in_image, CopyIs, Whole, Meant, records_of, erases, Erases, taken, holder, rename_plan, IsFrugalRename, renamed, after, ec_at, stays, takeable, Step}
+use Rattle.ubi_change.proofs.Prelude.{◌≡◌, ℕ, zero, suc, ◌+◌, ◌%◌, ◌<◌, ◌≤◌, false, List, [], ◌∷◌, ◌++◌, append_assoc, length, take, refl, ap, sym, subst, ◌∙◌, arith, length-append, Contains, count_by, Sizes, of_blocks, CopyIs, AttachValue, Meant, records_of, erases, Erases, taken, holder, rename_plan, IsFrugalRename, renamed, blocks_after, ec_at, stays, takeable, Step}
 use Rattle.ubi_table.specs.declared.copy.CopyRead.TheVariants as copy
 use Rattle.ubi_change.proofs.CountsErases.{AllCounted, counted, ec_after, erases-append, erases_none, next_due, release_counted, written_counted}
 use Rattle.ubi_change.proofs.GivenUp.{erased_behind, step_before, step_behind, whole_by}
@@ -19,7 +19,7 @@ module _ (r : Renaming) where
   abbrev bs : List (List ℕ)
   bs = rename.bs r
 
-  abbrev a : Whole
+  abbrev a : AttachValue
   a = rename.a r
 
   abbrev new : List ℕ
@@ -74,7 +74,7 @@ module _ (r : Renaming) where
 
   -- what is given up, by when
   abbrev GivesUp : ℕ → ℕ → Meant → Type 0
-  GivesUp c p n = (k : ℕ) × Erases steps k p × CopyIs s (after s bs steps k) c (copy.Good (records_of n))
+  GivesUp c p n = (k : ℕ) × Erases steps k p × CopyIs s (blocks_after s bs steps k) c (copy.Good (records_of n))
 
   gives_first : stays s bs old0 (ec_at s bs old0) ≡ false → GivesUp 0 old0 (rename.n r)
   gives_first fresh =
@@ -145,7 +145,7 @@ module _ (r : Renaming) where
       (next_counter s bs a (rename.few r) (rename.narrow r) old1)
       (next_due s g bs a old1 ∙ ap (λ n. ec_after s g bs a old1 (suc n)) (sym fresh1)))
 
-  pub rename_frugal : IsFrugalRename s bs a r.id r.name (in_image rename_plan r.image r.from r.id r.name)
+  pub rename_frugal : IsFrugalRename s bs a r.id r.name (of_blocks rename_plan r.image r.from r.id r.name)
   rename_frugal = subst (IsFrugalRename s bs a r.id r.name) (sym (rename.plan-is r)) (record {
     touches = touch_all ps steps touches;
     gives_up = gives_up;

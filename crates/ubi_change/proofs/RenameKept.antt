@@ -1,13 +1,13 @@
 -- What holds for the steps of a rename, since they are those of its plan.
-use Rattle.ubi_change.proofs.Prelude.{ℕ, List, sym, subst, AreBytes, IsGeometry, Image, in_image, AllFit, RisesBetweenErases, renamed_pages, LeavesBothGood, LeavesBothGoodOf, IsFrugalRename, IsFrugalRenameAvoiding, IsRenameOf, IsRenameAvoiding, KeepsReading, SurvivesRename, SurvivesRenameOf, ReadBlank, Avoided, Avoids, avoiding, Step}
+use Rattle.ubi_change.proofs.Prelude.{ℕ, List, sym, subst, AreBytes, IsGeometry, Image, of_blocks, AllFit, RisesBetweenErases, renamed_pages, LeavesBothGood, LeavesBothGoodOf, IsFrugalRename, IsFrugalRenameAvoiding, RenameFacts, IsRenameAvoiding, KeepsReading, SurvivesRename, SurvivesRenameOf, ReadBlank, Avoided, Avoids, avoiding, Step}
 use Rattle.ubi_change.proofs.RenameAttached.{Renaming, leaves_both_good, keeps_reading, survives_rename}
 use Rattle.ubi_change.proofs.RenameFits.{rename_fits}
 use Rattle.ubi_change.proofs.RenameFrugal.{rename_frugal}
 use Rattle.ubi_change.proofs.RenameRises.{rename_rises}
-use Rattle.ubi_change.proofs.Shown.{shown_avoiding}
+use Rattle.ubi_change.proofs.PlanPremises.{shown_avoiding}
 use Rattle.ubi_change.proofs.AvoidedKept.{rename_avoids}
 
-module _ (image : Image) (av : Avoided) (g : IsGeometry image.sizes) (blank : in_image ReadBlank image av) (id : ℕ)
+module _ (image : Image) (av : Avoided) (g : IsGeometry image.sizes) (blank : of_blocks ReadBlank image av) (id : ℕ)
     (name : List ℕ) (steps : List Step) (is : IsRenameAvoiding image av id name steps) where
   abbrev r : Renaming
   r = record {
@@ -24,7 +24,7 @@ module _ (image : Image) (av : Avoided) (g : IsGeometry image.sizes) (blank : in
   kept_survives = (
     is.from.meaning,
     is.attached.accepted,
-    subst (in_image SurvivesRename image is.from.meaning id name) (sym is.plan) (survives_rename r),
+    subst (of_blocks SurvivesRename image is.from.meaning id name) (sym is.plan) (survives_rename r),
   )
 
   kept_reads : KeepsReading image steps
@@ -34,27 +34,27 @@ module _ (image : Image) (av : Avoided) (g : IsGeometry image.sizes) (blank : in
   kept_copies = (
     is.from.meaning,
     is.attached.accepted,
-    subst (in_image LeavesBothGood image is.from.meaning id name) (sym is.plan) (leaves_both_good r),
+    subst (of_blocks LeavesBothGood image is.from.meaning id name) (sym is.plan) (leaves_both_good r),
   )
 
-  kept_fits : AreBytes (renamed_pages image.sizes is.from.meaning id name) → in_image AllFit image steps
-  kept_fits bytes = subst (in_image AllFit image) (sym is.plan) (rename_fits r bytes)
+  kept_fits : AreBytes (renamed_pages image.sizes is.from.meaning id name) → of_blocks AllFit image steps
+  kept_fits bytes = subst (of_blocks AllFit image) (sym is.plan) (rename_fits r bytes)
 
-  kept_rises : in_image RisesBetweenErases image steps
-  kept_rises = subst (in_image RisesBetweenErases image) (sym is.plan) (rename_rises r)
+  kept_rises : of_blocks RisesBetweenErases image steps
+  kept_rises = subst (of_blocks RisesBetweenErases image) (sym is.plan) (rename_rises r)
 
   kept_frugal : IsFrugalRenameAvoiding image av id name steps
   kept_frugal = (
     is.from,
     is.attached,
-    subst (in_image IsFrugalRename image (avoiding av is.from) id name) (sym is.plan) (rename_frugal r),
+    subst (of_blocks IsFrugalRename image (avoiding av is.from) id name) (sym is.plan) (rename_frugal r),
   )
 
-  kept_avoids : in_image Avoids image av steps
-  kept_avoids = subst (in_image Avoids image av) (sym is.plan)
+  kept_avoids : of_blocks Avoids image av steps
+  kept_avoids = subst (of_blocks Avoids image av) (sym is.plan)
       (rename_avoids image av is.from is.attached blank g id name is.allowed)
 
-  pub rename_kept : AreBytes (renamed_pages image.sizes is.from.meaning id name) → IsRenameOf image av id name steps
+  pub rename_kept : AreBytes (renamed_pages image.sizes is.from.meaning id name) → RenameFacts image av id name steps
   rename_kept bytes = record {
     survives = kept_survives;
     reads = kept_reads;

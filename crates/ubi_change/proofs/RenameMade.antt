@@ -1,6 +1,6 @@
 -- What the functions on the way to a rename found makes its plan: nothing applies against it, and the steps are its
 -- own.
-use Rattle.ubi_change.proofs.Prelude.{◌≡◌, ◌≢◌, ℕ, ◌+◌, ◌≤◌, inl, inr, Bool, true, false, cond, List, ◌++◌, length, refl, ap, ap₂, sym, ◌∙◌, subst, None, Option, Some, option_map, option_map_or, nat_cmp_total, nat_cmp-IsAntisymmetric, eq_by_cmp, nat_cmp, Sizes, VolumeRecord, Image, eraseblocks, layout, records_named, with_name, Records, Decides, IsTable, next-is, blank_none, decides_unique, AcceptsBlocks, Whole, Meant, records_of, IsSurvey, Seen, Volume, record_of, records_meant, atomic_copy, taken, copy_plan, holder, layout_header, renamed_pages, table_pages, IsRenameAvoiding, BothGood, MayBeNamed, renamed, volume_named, weak_place, AreHolders, AreSpares, IsNamable, two_copies, copy_on, site_at, first_taken, Holders, ec_at, takeable, Site, Spares, Step, FirstTwo, Avoided, avoiding}
+use Rattle.ubi_change.proofs.Prelude.{◌≡◌, ◌≢◌, ℕ, ◌+◌, ◌≤◌, inl, inr, Bool, true, false, cond, List, ◌++◌, length, refl, ap, ap₂, sym, ◌∙◌, subst, None, Option, Some, option_map, option_map_or, nat_cmp_total, nat_cmp-IsAntisymmetric, eq_by_cmp, nat_cmp, Sizes, VolumeRecord, Image, eraseblocks, layout, records_named, with_name, Records, Decides, IsTable, next-is, blank_none, decides_unique, AcceptsBlocks, AttachValue, Meant, records_of, IsSurvey, Seen, Volume, record_of, records_meant, atomic_copy, taken, copy_plan, holder, layout_header, renamed_pages, table_pages, IsRenameAvoiding, BothGood, MayBeNamed, renamed, volume_named, weak_pages, AreHolders, AreSpares, IsNamable, two_copies, copy_on, site_at, first_taken, Holders, ec_at, takeable, Site, Spares, Step, FirstTwo, Avoided, avoiding}
 use Rattle.std.specs.FinMap as finite
 use Rattle.ubi_table.specs.declared.copy.CopyRead.TheVariants as copy
 use Rattle.ubi_change.proofs.RenameCauses.{free, there}
@@ -39,11 +39,11 @@ module _ (image : Image) (av : Avoided) (seen : Seen) (is : IsSurvey image seen)
   abbrev bs : List (List ℕ)
   bs = eraseblocks image
 
-  abbrev from : Whole
+  abbrev from : AttachValue
   from = whole image seen is
 
   -- the image as the plan sees it
-  abbrev a : Whole
+  abbrev a : AttachValue
   a = avoiding av from
 
   abbrev m : Meant
@@ -104,7 +104,7 @@ module _ (image : Image) (av : Avoided) (seen : Seen) (is : IsSurvey image seen)
     second_spare = second_some (site_at s bs a.states) (takeable s bs a.states) on.second
         (ap (λ (x : FirstTwo). x.second) (sym taking) ∙ spares.second)
 
-    pub may_be_named : weak_place s (renamed_pages s m id name) ≡ None → MayBeNamed s bs a id name
+    pub may_be_named : weak_pages s (renamed_pages s m id name) ≡ None → MayBeNamed s bs a id name
     may_be_named strong = record {
       volume = volume;
       there = found.1;
@@ -137,7 +137,7 @@ module _ (image : Image) (av : Avoided) (seen : Seen) (is : IsSurvey image seen)
         ∙ copy-is s bs a same (taken s bs a 1) i new second.0 (ec_at s bs second.0)
         ∙ ap (λ p. atomic_copy s bs a (taken s bs a 1) i new p (ec_at s bs p)) (sym (holder_is 1 second.0 second.1)))
 
-    unfoldable pub is_rename : weak_place s (renamed_pages s m id name) ≡ None → (steps : List Step)
+    unfoldable pub is_rename : weak_pages s (renamed_pages s m id name) ≡ None → (steps : List Step)
         → steps ≡ two_copies s seen.scan old on (renamed_pages s m id name) → IsRenameAvoiding image av id name steps
     is_rename strong steps made = record {
       from = from;

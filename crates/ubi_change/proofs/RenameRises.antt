@@ -1,5 +1,5 @@
 -- The plan of a rename programs the pages of an eraseblock in ascending order between two erases.
-use Rattle.ubi_change.proofs.Prelude.{ℕ, inl, inr, List, sym, subst, arith, None, cases_eq, Sizes, in_image, Whole, RisesBetweenErases, rename_plan, ec_at}
+use Rattle.ubi_change.proofs.Prelude.{ℕ, inl, inr, List, sym, subst, arith, None, cases_eq, Sizes, of_blocks, AttachValue, RisesBetweenErases, rename_plan, ec_at}
 use Rattle.ubi_change.proofs.HeadersKept.{KeepAll, copy_keeps, keep-append, keeps_all}
 use Rattle.ubi_change.proofs.PagesRise.{InOrder, copy_order, page_0_twice, pages_rise}
 use Rattle.ubi_change.proofs.RenameAttached as rename
@@ -13,7 +13,7 @@ module _ (r : Renaming) where
   abbrev bs : List (List ℕ)
   bs = rename.bs r
 
-  abbrev a : Whole
+  abbrev a : AttachValue
   a = rename.a r
 
   -- copy 0 doesn't touch the eraseblock of copy 1
@@ -53,7 +53,7 @@ module _ (r : Renaming) where
       (λ l. copy_keeps s r.geometry bs a l (rename.cs r) (rename.b1 r) (rename.inside1 r) (rename.made1 r).2.size
       (rename.header1 r) (rename.made1 r).2.ready (rename.new r) (rename.old1 r) (ec_at s bs (rename.old1 r)))
 
-  pub rename_rises : in_image RisesBetweenErases r.image (in_image rename_plan r.image r.from r.id r.name)
+  pub rename_rises : of_blocks RisesBetweenErases r.image (of_blocks rename_plan r.image r.from r.id r.name)
   rename_rises = subst (RisesBetweenErases s bs) (sym (rename.plan-is r)) (record {
     rises = pages_rise (rename.steps r) order;
     twice = page_0_twice (rename.steps r) order;

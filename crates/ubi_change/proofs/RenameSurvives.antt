@@ -1,7 +1,7 @@
 -- The law: the plan of a rename of an attached image, with nothing against it, survives every cut, and leaves both
 -- copies good.
 use Rattle.ubi_change.proofs.Prelude.{RenameSurvives}
-use Rattle.ubi_change.proofs.Shown.{shown}
+use Rattle.ubi_change.proofs.PlanPremises.{shown}
 use Rattle.ubi_change.proofs.RenameAttached.{Renaming, leaves_both_good, survives_rename}
 
 pub rename_survives : RenameSurvives

@@ -1,6 +1,6 @@
 -- One eraseblock is given other bytes: what is then a member, what wins, and that nothing is at fault.
 use Rattle.ubi_change.proofs.Prelude.{◌≡◌, ◌≢◌, ℕ, ◌<◌, ◌≤◌, inl, inr, Bool, true, false, List, [], length, set, ap, sym, ◌∙◌, subst, arith, length-set, get_or-set_same, get_or-set_other, Some, None, cases_eq, Sizes, IsClean, IsSound, block, IsMember, Leb, NoMember, Wins, good_at, good_in, named_in, sqnum_at, sqnum_in, seq_of}
-use Rattle.ubi_change.proofs.Kept.{KeepsLeb}
+use Rattle.ubi_change.proofs.MeaningKept.{KeepsLeb}
 
 module _ (s : Sizes) (bs : List (List ℕ)) (b : ℕ) (x : List ℕ) (inside : b < length bs) where
   pub block_other : (p : ℕ) → p ≢ b → block (set bs b x) p ≡ block bs p

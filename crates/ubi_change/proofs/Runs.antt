@@ -1,5 +1,5 @@
 -- The eraseblocks after some steps: after two lists of steps, and after steps on one eraseblock.
-use Rattle.ubi_change.proofs.Prelude.{◌≡◌, ℕ, zero, suc, ◌+◌, ◌-◌, ◌<◌, ◌≤◌, inl, inr, List, [], ◌∷◌, ◌++◌, length, take, set, refl, ap, sym, ◌∙◌, subst, arith, length-append, get_or-set_same, fold, take_all, set-set, set-get_or, fold-append, take-append-add, take-append-le, Sizes, within_or_past, block, after, block_after, step_done, target, Step, Bool, true, false, cond}
+use Rattle.ubi_change.proofs.Prelude.{◌≡◌, ℕ, zero, suc, ◌+◌, ◌-◌, ◌<◌, ◌≤◌, inl, inr, List, [], ◌∷◌, ◌++◌, length, take, set, refl, ap, sym, ◌∙◌, subst, arith, length-append, get_or-set_same, fold, take_all, set-set, set-get_or, fold-append, take-append-add, take-append-le, Sizes, within_or_past, block, blocks_after, block_after, step_done, target, Step, Bool, true, false, cond}
 
 -- what holds of no steps, and of some, holds of those that a test decides to do
 pub if_renewed : (P : List Step → Type 0) (b : Bool) {xs : List Step} → P [] → P xs → P (cond b [] xs)
@@ -11,21 +11,21 @@ module _ (s : Sizes) where
   abbrev pub done : List (List ℕ) → List Step → List (List ℕ)
   done bs steps = fold (step_done s) bs steps
 
-  pub after-all : (bs : List (List ℕ)) (steps : List Step) → after s bs steps (length steps) ≡ done bs steps
+  pub after-all : (bs : List (List ℕ)) (steps : List Step) → blocks_after s bs steps (length steps) ≡ done bs steps
   after-all bs steps = ap (fold (step_done s) bs) (take_all (length steps) steps (omega arith))
 
   pub after-front : (bs : List (List ℕ)) (xs ys : List Step) (k : ℕ) → k ≤ length xs
-      → after s bs (xs ++ ys) k ≡ after s bs xs k
+      → blocks_after s bs (xs ++ ys) k ≡ blocks_after s bs xs k
   after-front bs xs ys k l = ap (fold (step_done s) bs) (take-append-le k xs ys l)
 
   pub after-back : (bs : List (List ℕ)) (xs ys : List Step) (k : ℕ)
-      → after s bs (xs ++ ys) (length xs + k) ≡ after s (done bs xs) ys k
+      → blocks_after s bs (xs ++ ys) (length xs + k) ≡ blocks_after s (done bs xs) ys k
   after-back bs xs ys k = ap (fold (step_done s) bs) (take-append-add xs ys k)
       ∙ fold-append (step_done s) bs xs (take k ys)
 
   -- what holds at each cut of one list, and at each of another behind it, holds at each cut of both
   abbrev pub AtEachCut : (List (List ℕ) → Type 0) → List (List ℕ) → List Step → Type 0
-  AtEachCut P bs steps = (k : ℕ) → k ≤ length steps → P (after s bs steps k)
+  AtEachCut P bs steps = (k : ℕ) → k ≤ length steps → P (blocks_after s bs steps k)
 
   pub cuts-append : (P : List (List ℕ) → Type 0) (bs : List (List ℕ)) (xs ys : List Step) → AtEachCut P bs xs
       → AtEachCut P (done bs xs) ys → AtEachCut P bs (xs ++ ys)
@@ -34,15 +34,15 @@ module _ (s : Sizes) where
     | inr h ↦
         let n = length-append xs ys in
         let e : k ≡ length xs + (k - length xs) = omega arith in
-        subst P (sym (ap (after s bs (xs ++ ys)) e ∙ after-back bs xs ys (k - length xs)))
+        subst P (sym (ap (blocks_after s bs (xs ++ ys)) e ∙ after-back bs xs ys (k - length xs)))
         (b (k - length xs) (omega arith))
   ]
 
   -- before a turn the one holds, and from it on the other
   pub record TurnsAt (P Q : List (List ℕ) → Type 0) (bs : List (List ℕ)) (steps : List Step) (turn : ℕ) : Type 0 where
     pub comes : turn ≤ length steps
-    pub before : (k : ℕ) → k < turn → P (after s bs steps k)
-    pub from : (k : ℕ) → turn ≤ k → k ≤ length steps → Q (after s bs steps k)
+    pub before : (k : ℕ) → k < turn → P (blocks_after s bs steps k)
+    pub from : (k : ℕ) → turn ≤ k → k ≤ length steps → Q (blocks_after s bs steps k)
 
   pub turns-behind : (P Q : List (List ℕ) → Type 0) (bs : List (List ℕ)) (xs ys : List Step) (turn : ℕ)
       → AtEachCut P bs xs → TurnsAt P Q (done bs xs) ys turn → TurnsAt P Q bs (xs ++ ys) (length xs + turn)
@@ -52,13 +52,13 @@ module _ (s : Sizes) where
       | inl h ↦ subst P (sym (after-front bs xs ys k h)) (a k h)
       | inr h ↦
           let e : k ≡ length xs + (k - length xs) = omega arith in
-          subst P (sym (ap (after s bs (xs ++ ys)) e ∙ after-back bs xs ys (k - length xs)))
+          subst P (sym (ap (blocks_after s bs (xs ++ ys)) e ∙ after-back bs xs ys (k - length xs)))
           (t.before (k - length xs) (omega arith))
     ];
     from = λ k l m.
         (let n = length-append xs ys in
         let e : k ≡ length xs + (k - length xs) = omega arith in
-        subst Q (sym (ap (after s bs (xs ++ ys)) e ∙ after-back bs xs ys (k - length xs)))
+        subst Q (sym (ap (blocks_after s bs (xs ++ ys)) e ∙ after-back bs xs ys (k - length xs)))
         (t.from (k - length xs) (omega arith) (omega arith)));
   }
 
@@ -72,7 +72,7 @@ module _ (s : Sizes) where
       | inr h ↦
           let n = length-append xs ys in
           let e : k ≡ length xs + (k - length xs) = omega arith in
-          subst Q (sym (ap (after s bs (xs ++ ys)) e ∙ after-back bs xs ys (k - length xs)))
+          subst Q (sym (ap (blocks_after s bs (xs ++ ys)) e ∙ after-back bs xs ys (k - length xs)))
           (b (k - length xs) (omega arith))
     ];
   }
@@ -114,5 +114,5 @@ module _ (s : Sizes) where
       ∙ done_from bs p (block bs p) steps l on
 
   pub after-on : (bs : List (List ℕ)) (p : ℕ) (steps : List Step) (k : ℕ) → p < length bs → AllOn p steps
-      → after s bs steps k ≡ set bs p (run (block bs p) (take k steps))
+      → blocks_after s bs steps k ≡ set bs p (run (block bs p) (take k steps))
   after-on bs p steps k l on = done-on bs p (take k steps) l (on-take p k steps on)

@@ -1,5 +1,5 @@
 -- Copy 1 of the table is rewritten after copy 0: the meaning stays, and then both copies are good.
-use Rattle.ubi_change.proofs.Prelude.{◌≡◌, ◌≢◌, ℕ, suc, ◌+◌, ◌<◌, List, [], ◌∷◌, ◌++◌, length, set, ap, ◌∙◌, subst, arith, length-set, IsGeometry, Sizes, EcHeader, VidHeader, NoFault, block, leb, Wins, layout, AreRecords, Records, copy_of, AcceptsBlocks, Meant, records_of, records_meant, program_header, program_text, BothGood, layout_header, table_pages, whole_place, Step, records_are}
+use Rattle.ubi_change.proofs.Prelude.{◌≡◌, ◌≢◌, ℕ, suc, ◌+◌, ◌<◌, List, [], ◌∷◌, ◌++◌, length, set, ap, ◌∙◌, subst, arith, length-set, IsGeometry, Sizes, EcHeader, VidHeader, NoFault, block, leb, Wins, layout, AreRecords, Records, copy_of, AcceptsBlocks, Meant, records_of, records_meant, program_header, program_text, BothGood, layout_header, table_pages, pages_needed, Step, records_are}
 use Rattle.ubi_table.specs.declared.copy.CopyRead.TheVariants as copy
 use Rattle.ubi_change.proofs.Copied.{IsCopy}
 use Rattle.ubi_change.proofs.CopyReplaced.{IsGoodCopy, IsPrepared, IsRelease, replaced}
@@ -104,7 +104,7 @@ module _ (s : Sizes) (g : IsGeometry s) (os : List (List ℕ)) (n : Meant) (b0 b
   pub second_turns : (prep rel : List Step) → IsPrepared s bs n b1 seq prep bytes e → IsRelease s bs old1 seq rel
       → TurnsAt s (λ x. AcceptsBlocks s x n) (IsWhollyNamed s n) bs
       ((prep ++ program_header s b1 bytes header ∷ []) ++ program_text s b1 new ++ rel)
-      (length prep + suc (whole_place s new))
+      (length prep + suc (pages_needed s new))
   second_turns prep rel prepared release =
       replaced s g bs n a (used_by_winner s bs (layout, 0) b0 half.wins_first) (layout, 1) (layout_counts a.records 1)
       b1 inside seq half.agrees beside1 (subst (λ (t : Records). LosesAll s bs t b1) same half.loses) prep bytes e

@@ -1,9 +1,9 @@
 -- What is read of an eraseblock, and the parts of a plan, given that.
-use Rattle.ubi_change.proofs.Prelude.{◌≡◌, ℕ, ◌<◌, ◌≤◌, cond, List, [], ◌∷◌, ◌++◌, length, map, refl, ap, sym, subst, arith, ◌&&◌, ◌||◌, ◌==◌, IfSome, None, Option, Some, option_map, slice_get, slice_index, option_map_or, same_Some, ec_reading, Sizes, EcHeader, carriers, valid_ec, Source, blocks_in, Whole, atomic_copy, mount, next_ec, program_text, renew, ec_at, is_sole_carrier, is_worn, stays, FitsIn, copy_on, is_sole_on, site_at, stays_on, VidHeader, Site}
+use Rattle.ubi_change.proofs.Prelude.{◌≡◌, ℕ, ◌<◌, ◌≤◌, cond, List, [], ◌∷◌, ◌++◌, length, map, refl, ap, sym, subst, arith, ◌&&◌, ◌||◌, ◌==◌, IfSome, None, Option, Some, option_map, slice_get, slice_index, option_map_or, same_Some, ec_reading, Sizes, EcHeader, carriers, valid_ec, Source, blocks_in, AttachValue, atomic_copy, mount, next_ec, program_text, renew, ec_at, is_sole_carrier, is_worn, stays, FitsIn, copy_on, is_sole_on, site_at, stays_on, VidHeader, Site}
 use Rattle.std.specs.Prelude.{not}
 use Rattle.ubi_change.proofs.Premises.{by_reading}
 
-module _ (s : Sizes) (bs : List (List ℕ)) (a : Whole) (same : a.scan.carriers ≡ carriers s bs) where
+module _ (s : Sizes) (bs : List (List ℕ)) (a : AttachValue) (same : a.scan.carriers ≡ carriers s bs) where
   sole-is : (p : ℕ) → is_sole_on a.scan (site_at s bs a.states p) ≡ is_sole_carrier s bs p
   sole-is p = ap (λ (n : ℕ). not (option_map_or (λ h. h.image_seq) (ec_at s bs p) 0 == 0) && (n == 1)) same
 

@@ -1,5 +1,5 @@
 -- Steps on other eraseblocks: those of a copy and of what is given up don't change the order of an eraseblock's pages.
-use Rattle.ubi_change.proofs.Prelude.{◌≡◌, ◌≢◌, ℕ, ◌+◌, ◌/◌, ◌≤◌, ◌⊎◌, inl, inr, List, [], ◌∷◌, ◌++◌, refl, sym, ◌∙◌, Option, first_chunks, IsGeometry, Sizes, EcHeader, VidHeader, Whole, mount, prepare, program_header, program_text, ready_bytes, release, renew, target, stays, pages_of, Step}
+use Rattle.ubi_change.proofs.Prelude.{◌≡◌, ◌≢◌, ℕ, ◌+◌, ◌/◌, ◌≤◌, ◌⊎◌, inl, inr, List, [], ◌∷◌, ◌++◌, refl, sym, ◌∙◌, Option, first_chunks, IsGeometry, Sizes, EcHeader, VidHeader, AttachValue, mount, prepare, program_header, program_text, ready_bytes, release, renew, target, stays, pages_of, Step}
 use Rattle.ubi_change.specs.declared.step.Step.TheVariants as step
 use Rattle.ubi_change.proofs.CountsErases.{pages_on, prepare_on}
 use Rattle.ubi_change.proofs.PagesRise.{InOrder}
@@ -41,7 +41,7 @@ order_skip p n (step.Erase q ∷ xs) ys off o = ((λ same. absurd (off.0 same)),
 order_skip p n (step.Program q b zs ∷ xs) ys off o =
     ((λ same. absurd (off.0 same)), (λ apart. order_skip p n xs ys off.1 o))
 
-module _ (s : Sizes) (g : IsGeometry s) (bs : List (List ℕ)) (a : Whole) where
+module _ (s : Sizes) (g : IsGeometry s) (bs : List (List ℕ)) (a : AttachValue) where
   -- a copy is written by steps on its eraseblock, and another is given up by steps on that
   pub copy_on : (b : ℕ) (h : VidHeader) (new : List ℕ) → AllOn s b (mount s bs a b h ++ program_text s b new)
   copy_on b h new =

@@ -1,5 +1,5 @@
 -- What a survey of an image shows of its meaning.
-use Rattle.ubi_change.proofs.Prelude.{◌≡◌, ℕ, refl, ap, sym, ◌∙◌, None, Option, Some, option_map, get, same_Some, VolumeRecord, Image, Records, Whole, IsSurvey, Seen, Content, Volume, record_of, no_some}
+use Rattle.ubi_change.proofs.Prelude.{◌≡◌, ℕ, refl, ap, sym, ◌∙◌, None, Option, Some, option_map, get, same_Some, VolumeRecord, Image, Records, AttachValue, IsSurvey, Seen, Content, Volume, record_of, no_some}
 
 with_entry : (o : Option Volume) (r : VolumeRecord) → option_map (λ (v : Volume). v.entry) o ≡ Some r
     → (c : Content) × (o ≡ Some (record { entry = r; content = c }))
@@ -13,7 +13,7 @@ without_entry (Some v) e = absurd (no_some v.entry (sym e))
 
 module _ (image : Image) (seen : Seen) (is : IsSurvey image seen) where
   -- what an attach gives
-  abbrev pub whole : Whole
+  abbrev pub whole : AttachValue
   whole = record { meaning = is.meaning; scan = seen.scan; states = seen.states }
 
   recorded : (id : ℕ) → get seen.records.of id ≡ option_map (λ (v : Volume). v.entry) (get is.meaning.volumes id)

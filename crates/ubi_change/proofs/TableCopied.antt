@@ -4,7 +4,7 @@ use Rattle.ubi_change.proofs.Prelude.{◌≡◌, ◌≢◌, ℕ, ◌<◌, List, 
 use Rattle.std.specs.FinMap as finite
 use Rattle.ubi_table.specs.declared.copy.CopyRead.TheVariants as copy
 use Rattle.ubi_change.proofs.CopyReplaced.{IsGoodCopy}
-use Rattle.ubi_change.proofs.Kept.{KeepsLeb, KeepsVolumes}
+use Rattle.ubi_change.proofs.MeaningKept.{KeepsLeb, KeepsVolumes}
 use Rattle.ubi_change.proofs.Newest.{newest_clean, newest_wins, others_keep}
 use Rattle.ubi_change.proofs.Replaced.{block_same}
 use Rattle.ubi_change.proofs.TablePages.{pages_read}

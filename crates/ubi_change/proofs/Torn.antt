@@ -1,5 +1,5 @@
 -- From which number of pages on contents that were cut short are whole, and that their CRC shows the cut before.
-use Rattle.ubi_change.proofs.Prelude.{◌≡◌, ℕ, zero, suc, ◌+◌, ◌-◌, ◌*◌, ◌%◌, ◌<◌, ◌≤◌, ◌⊎◌, inl, inr, Bool, true, false, cond, not, List, [], ◌∷◌, ◌++◌, length, take, drop, refl, ap, ap₂, sym, ◌∙◌, subst, arith, None, Option, Some, ◌==◌, ◌&&◌, find, nat_eq, unwrap_or, range_with_len, div-add-mod, nat_tests, drop-drop, drop_at, length-take-le, take-append-drop, take_all, check, blank, filled, same_bytes, Sizes, is_weak, is_whole, pages_of, torn, weak_place, whole_place, drop_blank, filled-by}
+use Rattle.ubi_change.proofs.Prelude.{◌≡◌, ℕ, zero, suc, ◌+◌, ◌-◌, ◌*◌, ◌%◌, ◌<◌, ◌≤◌, ◌⊎◌, inl, inr, Bool, true, false, cond, not, List, [], ◌∷◌, ◌++◌, length, take, drop, refl, ap, ap₂, sym, ◌∙◌, subst, arith, None, Option, Some, ◌==◌, ◌&&◌, find, nat_eq, unwrap_or, range_with_len, div-add-mod, nat_tests, drop-drop, drop_at, length-take-le, take-append-drop, take_all, crc_of, blank, filled, same_bytes, Sizes, is_weak, is_whole, pages_of, torn, weak_pages, pages_needed, drop_blank, filled-by}
 use Rattle.std.proofs.lemmas.Nat as nat
 
 same_true : (xs ys : List ℕ) → same_bytes xs ys ≡ true → xs ≡ ys
@@ -78,7 +78,7 @@ module _ (s : Sizes) (new : List ℕ) (paged : length new % s.page ≡ 0) where
     pub whole : torn s new w ≡ new
     pub before : (j : ℕ) → j < w → is_whole s new j ≡ false
 
-  pub whole_place-is : IsWholePlace (whole_place s new)
+  pub whole_place-is : IsWholePlace (pages_needed s new)
   whole_place-is = elim (find_range (is_whole s new) 0 (pages_of s new)) [
     | inl r ↦ subst IsWholePlace (sym (ap (λ (o : Option ℕ). unwrap_or o (pages_of s new)) r.0))
         (record { most = omega arith; whole = torn-all; before = λ j l. r.1 j (omega arith) (omega arith) })
@@ -109,18 +109,18 @@ module _ (s : Sizes) (new : List ℕ) (paged : length new % s.page ≡ 0) where
       drop_twice : (k n : ℕ) (xs : List ℕ) → drop n (drop k xs) ≡ drop (k + n) xs
       drop_twice k n xs = drop-drop n k xs
 
-  pub whole-from : (j : ℕ) → whole_place s new ≤ j → j ≤ pages_of s new → torn s new j ≡ new
+  pub whole-from : (j : ℕ) → pages_needed s new ≤ j → j ≤ pages_of s new → torn s new j ≡ new
   whole-from j l h =
       let p = pages-all in
-      later (whole_place s new * s.page) (j * s.page) new (mul-mono (whole_place s new) j s.page l)
+      later (pages_needed s new * s.page) (j * s.page) new (mul-mono (pages_needed s new) j s.page l)
       (let m = mul-mono j (pages_of s new) s.page h in omega arith) whole_place-is.whole
     where
       mul-mono : (a b c : ℕ) → a ≤ b → a * c ≤ b * c
       mul-mono a b c h = nat.mul-le a c b c h (omega arith)
 
   -- before it is whole the check tells, where none is weak
-  pub told-before : weak_place s new ≡ None → (j : ℕ) → j < whole_place s new
-      → (check (torn s new j) == check new) ≡ false
+  pub told-before : weak_pages s new ≡ None → (j : ℕ) → j < pages_needed s new
+      → (crc_of (torn s new j) == crc_of new) ≡ false
   told-before strong j l =
       let w = whole_place-is in
       let below : j < pages_of s new = (let m = w.most in omega arith) in
@@ -128,10 +128,10 @@ module _ (s : Sizes) (new : List ℕ) (paged : length new % s.page ≡ 0) where
         | inl r ↦ r.1 j (omega arith) (omega arith)
         | inr r ↦ (let e = r.1 in let f = strong in absurd (cc))
       ] in
-      sym (ap (λ b. not b && (check (torn s new j) == check new)) (w.before j l)) ∙ each
+      sym (ap (λ b. not b && (crc_of (torn s new j) == crc_of new)) (w.before j l)) ∙ each
 
-  pub told-from : (j : ℕ) → whole_place s new ≤ j → j ≤ pages_of s new → (check (torn s new j) == check new) ≡ true
-  told-from j l h = ap (λ t. check t == check new) (whole-from j l h) ∙ one (check new)
+  pub told-from : (j : ℕ) → pages_needed s new ≤ j → j ≤ pages_of s new → (crc_of (torn s new j) == crc_of new) ≡ true
+  told-from j l h = ap (λ t. crc_of t == crc_of new) (whole-from j l h) ∙ one (crc_of new)
     where
       one : (x : ℕ) → (x == x) ≡ true
       one x = grind (arith, nat_tests)

@@ -1,5 +1,5 @@
 -- Which eraseblocks the steps of a plan touch.
-use Rattle.ubi_change.proofs.Prelude.{◌≡◌, ℕ, zero, suc, ◌+◌, ◌/◌, ◌<◌, ◌≤◌, List, [], ◌∷◌, ◌++◌, length, map, take, get_or, refl, ap, subst, arith, Contains, None, Option, Some, enumerate_from, option_map_or, first_chunks, same_Some, Sizes, EcHeader, VolumeRecord, VidHeader, Whole, TouchesOnly, given_up, touched, data_pad, blank_header, copy_header, next_ec, atomic_copy, mapped_plan, mount, needs, plan_of, prepare, program_header, program_text, ready_bytes, ready_ec, release, renew, taken, unmapped_plan, target, ec_at, is_clean, stays, takeable, pages_of, Step}
+use Rattle.ubi_change.proofs.Prelude.{◌≡◌, ℕ, zero, suc, ◌+◌, ◌/◌, ◌<◌, ◌≤◌, List, [], ◌∷◌, ◌++◌, length, map, take, get_or, refl, ap, subst, arith, Contains, None, Option, Some, enumerate_from, option_map_or, first_chunks, same_Some, Sizes, EcHeader, VolumeRecord, VidHeader, AttachValue, TouchesOnly, given_up, touched, data_pad, blank_header, copy_header, next_ec, atomic_copy, mapped_plan, mount, needs, plan_of, prepare, program_header, program_text, ready_bytes, ready_ec, release, renew, taken, unmapped_plan, target, ec_at, is_clean, stays, takeable, pages_of, Step}
 use Rattle.std.specs.FinMap as finite
 use Rattle.ubi_change.specs.declared.step.Step.TheVariants as step
 use Rattle.ubi_change.proofs.Runs.{if_renewed}
@@ -33,7 +33,7 @@ front_length (suc n) (suc k) (x ∷ xs) l m = let h = front_length n k xs (omega
 pub in_front : (n k : ℕ) (xs : List ℕ) (y : ℕ) → k < n → k < length xs → Contains (y ∷ take n xs) (get_or xs k 0)
 in_front n k xs y l m = (suc k, (let h = front_length n k xs l m in omega arith), at_front n k xs (get_or xs k 0) l m)
 
-module _ (s : Sizes) (bs : List (List ℕ)) (a : Whole) (ps : List ℕ) where
+module _ (s : Sizes) (bs : List (List ℕ)) (a : AttachValue) (ps : List ℕ) where
   renew_touches : (p : ℕ) (e : EcHeader) → Contains ps p → TouchAll ps (renew s p e)
   renew_touches p e c = (c, (c, tt))
 
@@ -61,7 +61,7 @@ module _ (s : Sizes) (bs : List (List ℕ)) (a : Whole) (ps : List ℕ) where
       (pages_touch b (s.data_offset / s.page) (first_chunks s.page (pages_of s new) new) c))
       (release_touches old now d)
 
-module _ (s : Sizes) (bs : List (List ℕ)) (a : Whole) (r : VolumeRecord) (id lnum : ℕ) (new : List ℕ)
+module _ (s : Sizes) (bs : List (List ℕ)) (a : AttachValue) (r : VolumeRecord) (id lnum : ℕ) (new : List ℕ)
     (enough : needs s bs a id lnum ≤ length (takeable s bs a.states)) where
   -- the eraseblock that is given up is the first of those that a plan may touch
   given : (p : ℕ) → given_up s bs a id lnum ≡ p → Contains (touched s bs a id lnum) p

@@ -1,5 +1,5 @@
 -- Where in a plan the header of the copy is programmed: once, after the steps that make its eraseblock ready.
-use Rattle.ubi_change.proofs.Prelude.{◌≡◌, ◌≢◌, ℕ, suc, ◌+◌, ◌-◌, ◌*◌, ◌/◌, ◌%◌, ◌<◌, ◌≤◌, ◌⊎◌, inl, inr, Bool, true, false, cond, List, [], ◌∷◌, ◌++◌, append_assoc, length, map, take, drop, refl, ap, sym, ◌∙◌, arith, None, ◌==◌, ◌&&◌, count_by, fold, nat_lt, enumerate_from, position_or_len, first_chunks, div-add-mod, div-eq_of_lt, nat_tests, take_at, drop_at, fold-append, cases_lt, ec_bytes, blank, filled, Sizes, IsGeometry, vid_bytes, vid_fault, vid_reading, VidFits, EcHeader, VidHeader, fields_fit, vid_read_back, one_vid_reading, zero_or_more, header_in, is_copy, programs_copy, turn, vid_page, program_header, program_text, renew, pages_of, whole_place, Step, behind, filled-by, filled-is, length-filled, blank_vid}
+use Rattle.ubi_change.proofs.Prelude.{◌≡◌, ◌≢◌, ℕ, suc, ◌+◌, ◌-◌, ◌*◌, ◌/◌, ◌%◌, ◌<◌, ◌≤◌, ◌⊎◌, inl, inr, Bool, true, false, cond, List, [], ◌∷◌, ◌++◌, append_assoc, length, map, take, drop, refl, ap, sym, ◌∙◌, arith, None, ◌==◌, ◌&&◌, count_by, fold, nat_lt, enumerate_from, position_or_len, first_chunks, div-add-mod, div-eq_of_lt, nat_tests, take_at, drop_at, fold-append, cases_lt, ec_bytes, blank, filled, Sizes, IsGeometry, vid_bytes, vid_fault, vid_reading, VidFits, EcHeader, VidHeader, fields_fit, vid_read_back, one_vid_reading, zero_or_more, header_in, is_copy, programs_copy, turn, vid_page, program_header, program_text, renew, pages_of, pages_needed, Step, behind, filled-by, filled-is, length-filled, blank_vid}
 use Rattle.std.specs.Prelude.{slice_range}
 use Rattle.ubi_media.specs.declared.vid.VidRead.TheVariants as vid_read
 use Rattle.ubi_change.specs.declared.step.Step.TheVariants as step
@@ -145,10 +145,10 @@ module _ (s : Sizes) (g : IsGeometry s) where
     steps-are = append_assoc (prep ++ program_header s p ec h ∷ []) (program_text s p new) rest
         ∙ append_assoc prep (program_header s p ec h ∷ []) (program_text s p new ++ rest)
 
-    pub turn-is : turn s steps new ≡ length prep + suc (whole_place s new)
+    pub turn-is : turn s steps new ≡ length prep + suc (pages_needed s new)
     turn-is =
         ap (λ xs. turn s xs new) steps-are
-        ∙ ap (λ k. k + 1 + whole_place s new)
+        ∙ ap (λ k. k + 1 + pages_needed s new)
         (position-one (programs_copy s) prep (program_text s p new ++ rest) (program_header s p ec h) a
         (header_passes ec size h fits sound p copied)) ∙ omega arith
 

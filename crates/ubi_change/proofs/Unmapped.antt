@@ -1,5 +1,5 @@
 -- A LEB without a winner is first mapped with a plain blank eraseblock: the meaning stays, and then it has a winner.
-use Rattle.ubi_change.proofs.Prelude.{◌≡◌, ◌≢◌, ℕ, zero, suc, ◌+◌, ◌-◌, ◌/◌, ◌^◌, ◌<◌, ◌≤◌, inl, inr, true, List, [], ◌∷◌, ◌++◌, length, set, take, refl, ap, sym, ◌∙◌, subst, arith, length-set, None, Option, Some, unwrap_or, FinMap, nat_cmp, nat_tests, set-set, take-replicate, fold-append, blank, filled, Sizes, IsGeometry, leb_size, data_pad, usable, breaks, fields_from, first_fault, vid_bytes, vid_fault, VidFits, EcHeader, VolumeRecord, VidHeader, leb, IsMember, Leb, NoMember, Wins, has_members, sqnum_at, Agrees, Records, AllBlank, AcceptsBlocks, IsUnlike, SlotMeans, LebReads, Meant, Volume, changed, blank_header, copy_header, program_header, program_text, block_after, step_done, whole_place, Step, laid}
+use Rattle.ubi_change.proofs.Prelude.{◌≡◌, ◌≢◌, ℕ, zero, suc, ◌+◌, ◌-◌, ◌/◌, ◌^◌, ◌<◌, ◌≤◌, inl, inr, true, List, [], ◌∷◌, ◌++◌, length, set, take, refl, ap, sym, ◌∙◌, subst, arith, length-set, None, Option, Some, unwrap_or, FinMap, nat_cmp, nat_tests, set-set, take-replicate, fold-append, blank, filled, Sizes, IsGeometry, leb_size, data_pad, usable, breaks, fields_from, first_fault, vid_bytes, vid_fault, VidFits, EcHeader, VolumeRecord, VidHeader, leb, IsMember, Leb, NoMember, Wins, has_members, sqnum_at, Agrees, Records, AllBlank, AcceptsBlocks, IsUnlike, SlotMeans, LebReads, Meant, Volume, changed, blank_header, copy_header, program_header, program_text, block_after, step_done, pages_needed, Step, laid}
 use Rattle.std.specs.FinMap as finite
 use Rattle.std.proofs.lemmas.List.{get_or-set_same}
 use Rattle.ubi_volume.specs.declared.content.Content.TheVariants as content
@@ -192,14 +192,14 @@ module _ (s : Sizes) (g : IsGeometry s) (bs : List (List ℕ)) (m : Meant) (a : 
         (mount_steps
         ++ ((next_prep ++ program_header s p next_bytes (copy_header 0 (data_pad s r) id lnum (sqnum + 1) new) ∷ [])
         ++ program_text s p new ++ rel))
-        (length mount_steps + (length next_prep + suc (whole_place s new)))
+        (length mount_steps + (length next_prep + suc (pages_needed s new)))
     unmapped =
         let steps = (next_prep ++ program_header s p next_bytes (copy_header 0 (data_pad s r) id lnum (sqnum + 1) new)
         ∷ []) ++ program_text s p new ++ rel in
         turns-behind s (λ x. AcceptsBlocks s x m) (λ x. AcceptsBlocks s x (changed m id lnum new)) bs mount_steps steps
-        (length next_prep + suc (whole_place s new)) mount_cuts
+        (length next_prep + suc (pages_needed s new)) mount_cuts
         (subst (λ (z : List (List ℕ)). TurnsAt s (λ x. AcceptsBlocks s x m)
-        (λ x. AcceptsBlocks s x (changed m id lnum new)) z steps (length next_prep + suc (whole_place s new)))
+        (λ x. AcceptsBlocks s x (changed m id lnum new)) z steps (length next_prep + suc (pages_needed s new)))
         (sym mount_done)
         (mapped s g then_blocks m mounted_accepted id lnum r lebs was slot number half new n p within_then seq
         now_agrees (now_beside p named) lost_then next_prep next_bytes next_ec next_prepared

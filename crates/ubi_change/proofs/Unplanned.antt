@@ -1,8 +1,8 @@
 -- What was read of a source for a change holds for whatever it may hold: its plan, or why it has none.
-use Rattle.ubi_change.proofs.Prelude.{◌≡◌, ℕ, inl, inr, List, [], length, sym, ◌∙◌, subst, Sizes, Refusal, Image, IsWholeSize, image_of, in_image, Agreed, Narrows, Source, WhereHeld, blocks_of, holds, memory, StreamError, still, Whole, ArePlacesError, IsSurvey, Seen, Volume, refused_in_memory, AreStepsOf, IsPrepared, IsUnplanned, from_stream, shown, IsChangeError, IsChangeRefusal, IsChangeRefusalAvoiding, IsPlanAvoiding, Avoided, ReadBlank, nothing, avoiding, PlanError, Prepared, ChangeRefusal, Step}
+use Rattle.ubi_change.proofs.Prelude.{◌≡◌, ℕ, inl, inr, List, [], length, sym, ◌∙◌, subst, Sizes, Refusal, Image, IsWholeSize, image_of, of_blocks, Agreed, Narrows, Source, WhereHeld, blocks_of, holds, memory, StreamError, still, AttachValue, ArePlacesError, IsSurvey, Seen, Volume, refused_in_memory, AreStepsOf, IsPrepared, IsUnplanned, change_error, shown, IsChangeError, IsChangeRefusal, IsChangeRefusalAvoiding, IsPlanAvoiding, Avoided, ReadBlank, nothing, avoiding, PlanError, Prepared, ChangeRefusal, Step}
 use Rattle.ubi_scan.specs.declared.errors.StreamError.TheVariants as stream
-use Rattle.ubi_change.specs.declared.plan_error.PlanError.TheVariants as error
-use Rattle.ubi_change.specs.declared.refusal.ChangeRefusal.TheVariants as refusal
+use Rattle.ubi_change.specs.declared.errors.PlanError.TheVariants as error
+use Rattle.ubi_change.specs.declared.errors.ChangeRefusal.TheVariants as refusal
 use Rattle.ubi_change.proofs.ChangeCauses as causes
 use Rattle.ubi_change.proofs.NothingAvoided.{refusal_nothing}
 use Rattle.ubi_change.proofs.PlanMade as make
@@ -23,11 +23,11 @@ module _ (s : Sizes) (k : Source) (agrees : Agreed) (av : Avoided) (id lnum : �
     survey : IsSurvey image seen
     survey = is.ground.survey.held bytes holds
 
-    abbrev from : Whole
+    abbrev from : AttachValue
     from = whole image seen survey
 
     -- the image as the plan sees it
-    abbrev a : Whole
+    abbrev a : AttachValue
     a = avoiding av from
 
     pub plan_is : (steps : List Step) → AreStepsOf s p id lnum new steps → IsPlanAvoiding image av id lnum new steps
@@ -70,9 +70,9 @@ module _ (s : Sizes) (k : Source) (agrees : Agreed) (av : Avoided) (id lnum : �
   no_attach x (inr (inr sites)) = sites.2
 
   -- no listed eraseblock holds anything
-  module _ (blank : WhereHeld agrees (λ bytes. in_image ReadBlank (image_of s bytes) av)) where
+  module _ (blank : WhereHeld agrees (λ bytes. of_blocks ReadBlank (image_of s bytes) av)) where
     other : (c : ChangeRefusal) → IsUnplanned s p id lnum new c
-        → IsWholeSize s k.size × WhereHeld agrees (λ bytes. in_image ReadBlank (image_of s bytes) av × IsChangeRefusalAvoiding (image_of s bytes) av id lnum new c)
+        → IsWholeSize s k.size × WhereHeld agrees (λ bytes. of_blocks ReadBlank (image_of s bytes) av × IsChangeRefusalAvoiding (image_of s bytes) av id lnum new c)
     other c h = (is.ground.survey.scan.whole, λ bytes holds. (blank bytes holds, refused_is bytes holds c h))
 
     pub error_is : (c : ChangeRefusal) → IsUnplanned s p id lnum new c → IsChangeError s k agrees av id lnum new (error.Refused c)
@@ -89,7 +89,7 @@ module _ (s : Sizes) (k : Source) (agrees : Agreed) (av : Avoided) (id lnum : �
 
 -- an error of what reads for a plan
 pub error_read : (s : Sizes) (k : Source) (agrees : Agreed) (av : Avoided) (id lnum : ℕ) (new : List ℕ) (e : StreamError)
-    → ArePlacesError s k agrees e → IsChangeError s k agrees av id lnum new (from_stream e)
+    → ArePlacesError s k agrees e → IsChangeError s k agrees av id lnum new (change_error e)
 error_read s k agrees av id lnum new (stream.Refused c) h = h
 error_read s k agrees av id lnum new (stream.Read p written) h = (h.0, h.1.0)
 error_read s k agrees av id lnum new (stream.Write written) h = absurd h
@@ -97,7 +97,7 @@ error_read s k agrees av id lnum new stream.Memory h = tt
 
 -- why the change of bytes in memory isn't planned
 module _ (s : Sizes) (image left : List ℕ) (narrows : Narrows (holds image) (holds left)) (id lnum : ℕ) (new : List ℕ) where
-  stands : (c : ChangeRefusal) → IsWholeSize s (length image) × WhereHeld (holds left) (λ bytes. in_image ReadBlank (image_of s bytes) nothing × IsChangeRefusalAvoiding (image_of s bytes) nothing id lnum new c)
+  stands : (c : ChangeRefusal) → IsWholeSize s (length image) × WhereHeld (holds left) (λ bytes. of_blocks ReadBlank (image_of s bytes) nothing × IsChangeRefusalAvoiding (image_of s bytes) nothing id lnum new c)
       → IsChangeRefusal (image_of s image) id lnum new c
   stands c h = refusal_nothing (image_of s image) id lnum new c (h.1 image (still image left narrows)).1
 

@@ -1,10 +1,9 @@
 -- What was read of a source for a rename holds for whatever it may hold: its plan, or why it has none.
-use Rattle.ubi_change.proofs.Prelude.{◌≡◌, ℕ, ◌<◌, inl, inr, List, length, ap, sym, ◌∙◌, subst, arith, None, Some, AreBytes, IsGeometry, Sizes, Refusal, Image, IsWholeSize, image_of, in_image, Agreed, Narrows, Source, WhereHeld, blocks_of, holds, memory, StreamError, still, ArePlacesError, IsSurvey, Seen, refused_in_memory, renamed_pages, IsRenameError, IsRenameOf, IsRenameRefusal, IsRenameRefusalAvoiding, ReadBlank, Avoided, nothing, states_avoiding, takeable, weak_place, AreCopiesOf, AreHolders, IsNamable, IsRenamable, IsSparesRefusal, IsUnrenamed, pages_for, two_copies, site_at, first_taken, Holders, PlanError, RenameRefusal, Renamable, Step, FirstTwo}
+use Rattle.ubi_change.proofs.Prelude.{◌≡◌, ℕ, ◌<◌, inl, inr, List, length, ap, sym, ◌∙◌, subst, arith, None, Some, AreBytes, IsGeometry, Sizes, Refusal, Image, IsWholeSize, image_of, of_blocks, Agreed, Narrows, Source, WhereHeld, blocks_of, holds, memory, StreamError, still, ArePlacesError, IsSurvey, Seen, refused_in_memory, renamed_pages, IsRenameError, RenameFacts, IsRenameRefusal, IsRenameRefusalAvoiding, ReadBlank, Avoided, nothing, states_avoiding, takeable, weak_pages, AreCopiesOf, AreHolders, IsNamable, IsRenamable, IsSparesRefusal, IsUnrenamed, pages_for, two_copies, site_at, first_taken, Holders, PlanError, RenameRefusal, Renamable, Step, FirstTwo, rename_error}
 use Rattle.std.specs.Prelude.{◌⊎◌}
 use Rattle.ubi_scan.specs.declared.errors.StreamError.TheVariants as stream
-use Rattle.ubi_change.specs.inner.Renaming.{from_stream}
-use Rattle.ubi_change.specs.declared.plan_error.PlanError.TheVariants as error
-use Rattle.ubi_change.specs.declared.rename_refusal.RenameRefusal.TheVariants as refusal
+use Rattle.ubi_change.specs.declared.errors.PlanError.TheVariants as error
+use Rattle.ubi_change.specs.declared.errors.RenameRefusal.TheVariants as refusal
 use Rattle.ubi_change.proofs.NothingAvoided.{rename_refusal_nothing}
 use Rattle.ubi_change.proofs.RenameCauses as cause
 use Rattle.ubi_change.proofs.RenameKept.{rename_kept}
@@ -32,13 +31,13 @@ module _ (s : Sizes) (k : Source) (agrees : Agreed) (av : Avoided) (id : ℕ) (n
     held_by : (old : Holders) → r.holders ≡ Some old → AreHolders s bs av seen (Some old)
     held_by old e = subst (AreHolders s bs av seen) e (is.holders.held bytes holds)
 
-    pub rename_is : IsGeometry s → ReadBlank s bs av → (steps : List Step) → AreCopiesOf s r id name steps → IsRenameOf image av id name steps
+    pub rename_is : IsGeometry s → ReadBlank s bs av → (steps : List Step) → AreCopiesOf s r id name steps → RenameFacts image av id name steps
     unfolding make.is_rename
     rename_is g blank steps made =
         let pages = make.pages-are image av seen survey id name made.may in
         rename_kept image av g blank id name steps
         (make.is_rename image av seen survey id name made.may made.old (held_by made.old made.holders) r.ground.taken taking made.two made.spares
-        (ap (weak_place s) (sym pages) ∙ made.strong) steps
+        (ap (weak_pages s) (sym pages) ∙ made.strong) steps
         (made.is ∙ ap (two_copies s seen.scan made.old made.two) pages))
         (subst AreBytes pages made.bytes)
 
@@ -51,9 +50,9 @@ module _ (s : Sizes) (k : Source) (agrees : Agreed) (av : Avoided) (id : ℕ) (n
         (ap (λ (x : FirstTwo). x.second) (sym taking) ∙ none)
 
     module _ (may : IsNamable seen.records id name) (old : Holders) (e : r.holders ≡ Some old)
-        (strong : weak_place s (pages_for s r id name) ≡ None) where
-      same : weak_place s (renamed_pages s survey.meaning id name) ≡ None
-      same = ap (weak_place s) (sym (make.pages-are image av seen survey id name may)) ∙ strong
+        (strong : weak_pages s (pages_for s r id name) ≡ None) where
+      same : weak_pages s (renamed_pages s survey.meaning id name) ≡ None
+      same = ap (weak_pages s) (sym (make.pages-are image av seen survey id name may)) ∙ strong
 
       refused_spares : (c : RenameRefusal) → IsSparesRefusal seen.scan r.ground.taken c → IsRenameRefusalAvoiding image av id name c
       refused_spares refusal.Exhausted h = cause.refused_exhausted image av seen survey id name may (held_by old e).0 same h
@@ -72,7 +71,7 @@ module _ (s : Sizes) (k : Source) (agrees : Agreed) (av : Avoided) (id : ℕ) (n
         (cause.refused_repair image av seen survey id name may (subst (AreHolders s bs av seen) none.0 (is.holders.held bytes holds)))
     refused_is c (inr (may, inr (old, e, inl weak))) = subst (IsRenameRefusalAvoiding image av id name) (sym weak.2)
         (cause.refused_weak image av seen survey id name may (held_by old e).0 weak.0
-        (ap (weak_place s) (sym (make.pages-are image av seen survey id name may)) ∙ weak.1))
+        (ap (weak_pages s) (sym (make.pages-are image av seen survey id name may)) ∙ weak.1))
     refused_is c (inr (may, inr (old, e, inr (strong, inl spares)))) = refused_spares may old e strong c spares
     refused_is c (inr (may, inr (old, e, inr (strong, inr memory)))) = subst (IsRenameRefusalAvoiding image av id name) (sym memory) tt
 
@@ -85,9 +84,9 @@ module _ (s : Sizes) (k : Source) (agrees : Agreed) (av : Avoided) (id : ℕ) (n
   no_attach x (inr (may, inr (old, e, inr (strong, inr memory)))) = absurd (cc)
 
   -- no listed eraseblock holds anything
-  module _ (blank : WhereHeld agrees (λ bytes. in_image ReadBlank (image_of s bytes) av)) where
+  module _ (blank : WhereHeld agrees (λ bytes. of_blocks ReadBlank (image_of s bytes) av)) where
     other : (c : RenameRefusal) → IsUnrenamed s r id name c
-        → IsWholeSize s k.size × WhereHeld agrees (λ bytes. in_image ReadBlank (image_of s bytes) av × IsRenameRefusalAvoiding (image_of s bytes) av id name c)
+        → IsWholeSize s k.size × WhereHeld agrees (λ bytes. of_blocks ReadBlank (image_of s bytes) av × IsRenameRefusalAvoiding (image_of s bytes) av id name c)
     other c h = (is.ground.survey.scan.whole, λ bytes holds. (blank bytes holds, refused_is bytes holds c h))
 
     pub error_is : (c : RenameRefusal) → IsUnrenamed s r id name c → IsRenameError s k agrees av id name (error.Refused c)
@@ -103,7 +102,7 @@ module _ (s : Sizes) (k : Source) (agrees : Agreed) (av : Avoided) (id : ℕ) (n
 
 -- an error of what reads for a plan
 pub error_read : (s : Sizes) (k : Source) (agrees : Agreed) (av : Avoided) (id : ℕ) (name : List ℕ) (e : StreamError)
-    → ArePlacesError s k agrees e → IsRenameError s k agrees av id name (from_stream e)
+    → ArePlacesError s k agrees e → IsRenameError s k agrees av id name (rename_error e)
 error_read s k agrees av id name (stream.Refused c) h = h
 error_read s k agrees av id name (stream.Read p written) h = (h.0, h.1.0)
 error_read s k agrees av id name (stream.Write written) h = absurd h
@@ -111,7 +110,7 @@ error_read s k agrees av id name stream.Memory h = tt
 
 -- why the rename of bytes in memory isn't planned
 module _ (s : Sizes) (image left : List ℕ) (narrows : Narrows (holds image) (holds left)) (id : ℕ) (name : List ℕ) where
-  stands : (c : RenameRefusal) → IsWholeSize s (length image) × WhereHeld (holds left) (λ bytes. in_image ReadBlank (image_of s bytes) nothing × IsRenameRefusalAvoiding (image_of s bytes) nothing id name c)
+  stands : (c : RenameRefusal) → IsWholeSize s (length image) × WhereHeld (holds left) (λ bytes. of_blocks ReadBlank (image_of s bytes) nothing × IsRenameRefusalAvoiding (image_of s bytes) nothing id name c)
       → IsRenameRefusal (image_of s image) id name c
   stands c h = rename_refusal_nothing (image_of s image) id name c (h.1 image (still image left narrows)).1
 

@@ -1,6 +1,6 @@
 -- Whether the first pages of some contents are weak, by the CRC of their front and the bytes after it; and the least
 -- such place.
-use Rattle.ubi_change.proofs.Prelude.{◌≡◌, ℕ, ◌+◌, ◌-◌, ◌*◌, ◌^◌, ◌<◌, ◌≤◌, inl, inr, Bool, true, false, not, List, [], ◌∷◌, ◌++◌, length, take, drop, refl, ap, ap₂, sym, ◌∙◌, arith, length-drop, None, Some, ◌==◌, ◌&&◌, nat_tests, length-take-le, take-append-drop, take_all, check, check_from, blank, is_blank, same_bytes, Sizes, check_from-append, check_from-empty, below_same_or_above, filled-by, join_blank, is_weak, is_whole, pages_of, torn, weak_place}
+use Rattle.ubi_change.proofs.Prelude.{◌≡◌, ℕ, ◌+◌, ◌-◌, ◌*◌, ◌^◌, ◌<◌, ◌≤◌, inl, inr, Bool, true, false, not, List, [], ◌∷◌, ◌++◌, length, take, drop, refl, ap, ap₂, sym, ◌∙◌, arith, length-drop, None, Some, ◌==◌, ◌&&◌, nat_tests, length-take-le, take-append-drop, take_all, crc_of, check_from, blank, is_blank, same_bytes, Sizes, check_from-append, check_from-empty, below_same_or_above, filled-by, join_blank, is_weak, is_whole, pages_of, torn, weak_pages}
 use Rattle.std.proofs.Math.Seq.{take-add}
 use Rattle.ubi_change.proofs.Torn.{find_range}
 
@@ -34,15 +34,15 @@ module _ (s : Sizes) (new : List ℕ) (k : ℕ) (inside : k * s.page ≤ length 
   whole-is = ap₂ same_bytes torn-is (sym (take-append-drop (k * s.page) new))
       ∙ same_front front (blank (length rest)) rest ∙ same_blank rest
 
-  check-is : check (torn s new k) ≡ check_from (check front) (blank (length rest))
-  check-is = ap check torn-is ∙ check_from-append 0xFFFFFFFF front (blank (length rest)) (omega arith)
+  check-is : crc_of (torn s new k) ≡ check_from (crc_of front) (blank (length rest))
+  check-is = ap crc_of torn-is ∙ check_from-append 0xFFFFFFFF front (blank (length rest)) (omega arith)
 
-  pub weak-is : is_weak s new k ≡ (not (is_blank rest) && (check_from (check front) (blank (length rest)) == check new))
-  weak-is = ap₂ (λ a c. not a && (c == check new)) whole-is check-is
+  pub weak-is : is_weak s new k ≡ (not (is_blank rest) && (check_from (crc_of front) (blank (length rest)) == crc_of new))
+  weak-is = ap₂ (λ a c. not a && (c == crc_of new)) whole-is check-is
 
   -- as the program finds it out
-  pub weak_told : (size start part whole : ℕ) (t : Bool) → size ≡ s.page → start ≡ k * size → part ≡ check front
-      → whole ≡ check new
+  pub weak_told : (size start part whole : ℕ) (t : Bool) → size ≡ s.page → start ≡ k * size → part ≡ crc_of front
+      → whole ≡ crc_of new
       → t
       ≡ (not (is_blank (take (length new - start) (drop start new))) && (check_from part
       (blank (length (take (length new - start) (drop start new)))) == whole)) → is_weak s new k ≡ t
@@ -56,20 +56,20 @@ module _ (s : Sizes) (new : List ℕ) (k : ℕ) (inside : k * s.page ≤ length 
 
 -- the check of a page more
 pub front_more : (s : Sizes) (new : List ℕ) (k size start part next : ℕ) → size ≡ s.page → start ≡ k * size
-    → part ≡ check (take (k * s.page) new)
-    → next ≡ check_from part (take (start + size - start) (drop start new)) → next ≡ check (take ((k + 1) * s.page) new)
+    → part ≡ crc_of (take (k * s.page) new)
+    → next ≡ check_from part (take (start + size - start) (drop start new)) → next ≡ crc_of (take ((k + 1) * s.page) new)
 front_more s new k size start part next same at e f =
     let place : start ≡ k * s.page = at ∙ ap (λ n. k * n) same in
     let count : start + size - start ≡ s.page = omega arith in
     let sum : k * s.page + s.page ≡ (k + 1) * s.page = omega arith in
     f ∙ ap₂ (λ x n. check_from x (take n (drop start new))) e count
-    ∙ ap (λ n. check_from (check (take (k * s.page) new)) (take s.page (drop n new))) place
+    ∙ ap (λ n. check_from (crc_of (take (k * s.page) new)) (take s.page (drop n new))) place
     ∙ sym (check_from-append 0xFFFFFFFF (take (k * s.page) new) (take s.page (drop (k * s.page) new)) (omega arith))
-    ∙ ap check (sym (take-add (k * s.page) s.page new) ∙ ap (λ n. take n new) sum)
+    ∙ ap crc_of (sym (take-add (k * s.page) s.page new) ∙ ap (λ n. take n new) sum)
 
-pub front_none : (s : Sizes) (new : List ℕ) → 0xFFFFFFFF ≡ check (take (0 * s.page) new)
+pub front_none : (s : Sizes) (new : List ℕ) → 0xFFFFFFFF ≡ crc_of (take (0 * s.page) new)
 front_none s new = let e : 0 ≡ 0 * s.page = omega arith in sym (check_from-empty 0xFFFFFFFF (omega arith))
-    ∙ ap (λ n. check (take n new)) e
+    ∙ ap (λ n. crc_of (take n new)) e
 
 -- the check of 64 bytes 0xFF more
 pub blank_more : (state n part : ℕ) → state < 2 ^ 32 → part ≡ check_from state (blank (n * 64))
@@ -80,14 +80,14 @@ blank_more state n part small e =
     ∙ ap (check_from state) (join_blank (n * 64) 64 ∙ ap blank sum)
 
 module _ (s : Sizes) (new : List ℕ) where
-  pub no_place : ((j : ℕ) → j < pages_of s new → is_weak s new j ≡ false) → weak_place s new ≡ None
+  pub no_place : ((j : ℕ) → j < pages_of s new → is_weak s new j ≡ false) → weak_pages s new ≡ None
   no_place none = elim (find_range (is_weak s new) 0 (pages_of s new)) [
     | inl r ↦ r.0
     | inr r ↦ (let f = r.2 in let high = f.high in let e = none r.0 (omega arith) in let p = f.passes in absurd (cc))
   ]
 
   pub first_place : (k : ℕ) → k < pages_of s new → is_weak s new k ≡ true → ((j : ℕ) → j < k → is_weak s new j ≡ false)
-      → weak_place s new ≡ Some k
+      → weak_pages s new ≡ Some k
   first_place k inside here before = elim (find_range (is_weak s new) 0 (pages_of s new)) [
     | inl r ↦ (let e = r.1 k (omega arith) (omega arith) in absurd (cc))
     | inr r ↦ (let f = r.2 in elim (below_same_or_above r.0 k) [

@@ -1,6 +1,6 @@
 -- What the eraseblocks that the steps of a plan leave are: blank, with only an erase-counter header, or with a part of
 -- a copy.
-use Rattle.ubi_change.proofs.Prelude.{◌≡◌, ◌≢◌, ℕ, ◌+◌, ◌-◌, ◌*◌, ◌<◌, ◌≤◌, true, not, List, ◌++◌, length, take, refl, ap, ap₂, sym, ◌∙◌, subst, arith, None, Some, ◌==◌, ◌||◌, option_map, then_some, take_at, take-replicate, length-take-le, take-append-add, same_Some, check, ec_reading, blank, filled, Sizes, IsGeometry, vid_bytes, vid_fault, vid_reading, VidFits, EcHeader, VidHeader, fields_fit, vid_read_back, one_vid_reading, IsMislaid, ec, leb, vid, vid_area, IsMember, Leb, foreign, foreign_if, has_members, is_good, is_right, leb_of, member, member_if, sqnum_at, seq_if, seq_of, torn, behind, filled-by, filled-is, blank_ec, blank_vid, ec-laid, laid, leb-laid, vid-laid}
+use Rattle.ubi_change.proofs.Prelude.{◌≡◌, ◌≢◌, ℕ, ◌+◌, ◌-◌, ◌*◌, ◌<◌, ◌≤◌, true, not, List, ◌++◌, length, take, refl, ap, ap₂, sym, ◌∙◌, subst, arith, None, Some, ◌==◌, ◌||◌, option_map, then_some, take_at, take-replicate, length-take-le, take-append-add, same_Some, crc_of, ec_reading, blank, filled, Sizes, IsGeometry, vid_bytes, vid_fault, vid_reading, VidFits, EcHeader, VidHeader, fields_fit, vid_read_back, one_vid_reading, IsMislaid, ec, leb, vid, vid_area, IsMember, Leb, foreign, foreign_if, has_members, is_good, is_right, leb_of, member, member_if, sqnum_at, seq_if, seq_of, torn, behind, filled-by, filled-is, blank_ec, blank_vid, ec-laid, laid, leb-laid, vid-laid}
 use Rattle.ubi_media.specs.declared.ec.EcRead.TheVariants as ec_read
 use Rattle.ubi_media.specs.declared.vid.VidRead.TheVariants as vid_read
 use Rattle.ubi_change.proofs.Mounted.{IsMount}
@@ -123,11 +123,11 @@ take_filled n xs k h l =
     ∙ ap (λ ys. xs ++ ys) (take-replicate (n - length xs) k 255 (omega arith)) ∙ sym (filled-is n xs)
 
 pub part-good : (s : Sizes) (x : List ℕ) (h : VidHeader) (new : List ℕ) (j k : ℕ) → h.copy_flag ≡ true
-    → h.data_size ≡ length new → h.data_crc ≡ check new
+    → h.data_size ≡ length new → h.data_crc ≡ crc_of new
     → j * s.page ≤ length new → leb s x ≡ take (j * s.page) new ++ blank k → length new ≤ j * s.page + k
-    → is_good s x h ≡ (check (torn s new j) == check new)
+    → is_good s x h ≡ (crc_of (torn s new j) == crc_of new)
 part-good s x h new j k copied size crc inside text room =
     let front : length (take (j * s.page) new) ≡ j * s.page = length-take-le (j * s.page) new inside in
     let cut : take h.data_size (leb s x) ≡ torn s new j =
     ap₂ take size text ∙ take_filled (length new) (take (j * s.page) new) k (omega arith) (omega arith) in
-    ap (λ b. not b || is_right s x h) copied ∙ ap₂ (λ u v. check u == v) cut crc
+    ap (λ b. not b || is_right s x h) copied ∙ ap₂ (λ u v. crc_of u == v) cut crc

@@ -1,5 +1,5 @@
 -- What is written of an image after the steps, eraseblock by eraseblock.
-use Rattle.ubi_change.proofs.Prelude.{◌≡◌, ℕ, ◌+◌, ◌<◌, List, [], ◌∷◌, ◌++◌, append-nil, length, take, drop, slice_range, ap, sym, ◌∙◌, arith, length-set, Option, fold, concat, take_all, take_more, concat-append, Sizes, block, Agreed, IsSource, Source, blocks_in, blocks_of, StreamError, count_blocks, All, IsWroteError, Wrote, part_is, error_where, wrote_where, Splits, error_behind, error_front, wrote_as, wrote_more, wrote_none, after, after_text, step_done, target, block_after, block_cut, block_text, front_text, Step}
+use Rattle.ubi_change.proofs.Prelude.{◌≡◌, ℕ, ◌+◌, ◌<◌, List, [], ◌∷◌, ◌++◌, append-nil, length, take, drop, slice_range, ap, sym, ◌∙◌, arith, length-set, Option, fold, concat, take_all, take_more, concat-append, Sizes, block, Agreed, IsSource, Source, blocks_in, blocks_of, StreamError, count_blocks, All, IsWroteError, Wrote, part_is, error_where, wrote_where, Splits, error_behind, error_front, wrote_as, wrote_more, wrote_none, blocks_after, after_text, step_done, target, block_after, block_cut, block_text, front_text, Step}
 use Rattle.std.proofs.Common.{take-append-drop}
 use Rattle.ubi_change.proofs.BlockSteps.{block_done}
 use Rattle.ubi_change.proofs.WholeReads.{block_whole}
@@ -17,7 +17,7 @@ length-done s bs (x ∷ xs) = length-done s (step_done s bs x) xs ∙ length-set
 
 module _ (s : Sizes) (n : ℕ) (steps : List Step) where
   abbrev left : List ℕ → List (List ℕ)
-  left image = after s (blocks_of s image) steps (length steps)
+  left image = blocks_after s (blocks_of s image) steps (length steps)
 
   left-is : (image : List ℕ) → left image ≡ fold (step_done s) (blocks_of s image) steps
   left-is image = ap (fold (step_done s) (blocks_of s image)) (take_all (length steps) steps (omega arith))

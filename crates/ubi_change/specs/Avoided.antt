@@ -6,7 +6,7 @@ use Rattle.ubi_media.specs.Geometry.{Sizes}
 use Rattle.ubi_media.specs.declared.ec.EcRead.TheVariants as ec_read
 use Rattle.ubi_scan.specs.Image.{block, ec}
 use Rattle.ubi_scan.specs.Marks.{is_listed}
-use Rattle.ubi_volume.specs.Attached.{Whole}
+use Rattle.ubi_volume.specs.Attached.{AttachValue}
 use Rattle.ubi_volume.specs.declared.attached.BlockState.{BlockState}
 use Rattle.ubi_volume.specs.declared.attached.BlockState.TheVariants as state
 use Rattle.ubi_change.specs.Steps.{target}
@@ -46,7 +46,7 @@ module _ (av : Avoided) where
   states_avoiding states = map (λ e. state_avoiding e.0 e.1) (enumerate_from 0 states)
 
   -- what attaching shows, as the plan sees it
-  abbrev pub avoiding : Whole → Whole
+  abbrev pub avoiding : AttachValue → AttachValue
   avoiding a = record a { states = states_avoiding a.states }
 
 -- no step works on a listed eraseblock

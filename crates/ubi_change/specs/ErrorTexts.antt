@@ -1,12 +1,12 @@
 -- The texts that are printed for a change or a rename that isn't planned.
 use Rattle.std.specs.Prelude.{ℕ, List, Option, Some, ◌++◌, codes, decimal}
 use Rattle.ubi_media.specs.ErrorTexts.{refusal_text}
-use Rattle.ubi_change.specs.declared.plan_error.PlanError.{PlanError}
-use Rattle.ubi_change.specs.declared.plan_error.PlanError.TheVariants as plan
-use Rattle.ubi_change.specs.declared.refusal.ChangeRefusal.{ChangeRefusal}
-use Rattle.ubi_change.specs.declared.refusal.ChangeRefusal.TheVariants as change
-use Rattle.ubi_change.specs.declared.rename_refusal.RenameRefusal.{RenameRefusal}
-use Rattle.ubi_change.specs.declared.rename_refusal.RenameRefusal.TheVariants as rename
+use Rattle.ubi_change.specs.declared.errors.PlanError.{PlanError}
+use Rattle.ubi_change.specs.declared.errors.PlanError.TheVariants as plan
+use Rattle.ubi_change.specs.declared.errors.ChangeRefusal.{ChangeRefusal}
+use Rattle.ubi_change.specs.declared.errors.ChangeRefusal.TheVariants as change
+use Rattle.ubi_change.specs.declared.errors.RenameRefusal.{RenameRefusal}
+use Rattle.ubi_change.specs.declared.errors.RenameRefusal.TheVariants as rename
 
 -- the text that says why a change isn't planned
 abbrev pub change_refusal_text : ChangeRefusal → List ℕ

@@ -3,7 +3,7 @@ use Rattle.std.specs.Prelude.{◌≡◌, ℕ, ◌+◌, ◌*◌, ◌/◌, ◌<◌
 use Rattle.std.specs.Cmp.Lexicographic.{pointwise}
 use Rattle.ubi_media.specs.Geometry.{Sizes}
 use Rattle.ubi_scan.specs.Image.{block}
-use Rattle.ubi_change.specs.Steps.{after, target}
+use Rattle.ubi_change.specs.Steps.{blocks_after, target}
 use Rattle.ubi_change.specs.declared.step.Step.{Step}
 use Rattle.ubi_change.specs.declared.step.Step.TheVariants as step
 
@@ -24,7 +24,7 @@ fits s bs (step.Program p page bytes) =
 
 -- each step fits what those before it leave
 abbrev pub AllFit : Sizes → List (List ℕ) → List Step → Type 0
-AllFit s bs steps = (k : ℕ) (next : Step) → slice_get steps k ≡ Some next → fits s (after s bs steps k) next ≡ true
+AllFit s bs steps = (k : ℕ) (next : Step) → slice_get steps k ≡ Some next → fits s (blocks_after s bs steps k) next ≡ true
 
 -- the page of a program lies in its eraseblock, and its bytes are one page
 abbrev pub FitsBlock : Sizes → Step → Type 0

@@ -3,7 +3,7 @@ use Rattle.std.specs.Prelude.{◌≡◌, ℕ, List, [], ◌∷◌, drop, map, ta
 use Rattle.std.specs.List.{flat_map}
 use Rattle.ubi_media.specs.Geometry.{Sizes}
 use Rattle.ubi_change.specs.Fitting.{AllWithin}
-use Rattle.ubi_change.specs.Steps.{after}
+use Rattle.ubi_change.specs.Steps.{blocks_after}
 use Rattle.ubi_change.specs.declared.step.Step.{Step}
 use Rattle.ubi_change.specs.declared.step.Step.TheVariants as step
 
@@ -30,4 +30,4 @@ with_pages size (step.Program p page bytes ∷ lines) pages = step.Program p pag
 -- the lines of the first steps, with the pages that these program, change eraseblocks as the steps do
 abbrev pub PagesCarry : Type 0
 PagesCarry = (s : Sizes) (bs : List (List ℕ)) (n : ℕ) (steps : List Step) (k : ℕ) → AllWithin s n steps
-    → after s bs (with_pages s.page (map line_of (take k steps)) (programmed (take k steps))) k ≡ after s bs steps k
+    → blocks_after s bs (with_pages s.page (map line_of (take k steps)) (programmed (take k steps))) k ≡ blocks_after s bs steps k

@@ -7,7 +7,7 @@ use Rattle.ubi_media.specs.Geometry.{Sizes}
 use Rattle.ubi_media.specs.declared.vid.VidHeader.{VidHeader}
 use Rattle.ubi_scan.specs.Members.{layout}
 use Rattle.ubi_table.specs.Records.{Records, table_bytes}
-use Rattle.ubi_volume.specs.Attached.{Whole}
+use Rattle.ubi_volume.specs.Attached.{AttachValue}
 use Rattle.ubi_volume.specs.Meant.{Meant, pieces, records_of}
 use Rattle.ubi_change.specs.Plan.{atomic_copy, copy_header, taken}
 use Rattle.ubi_change.specs.Renamed.{renamed}
@@ -26,7 +26,7 @@ renamed_pages s m id name = table_pages s (records_of (renamed m id name))
 abbrev pub layout_header : ℕ → ℕ → List ℕ → VidHeader
 layout_header c sqnum new = copy_header 5 0 layout c sqnum new
 
-module _ (s : Sizes) (bs : List (List ℕ)) (a : Whole) where
+module _ (s : Sizes) (bs : List (List ℕ)) (a : AttachValue) where
   -- the eraseblock that holds copy c of the table
   abbrev pub holder : ℕ → ℕ
   holder c = option_map_or (λ p. p) (get a.scan.winners (layout, c)) 0

@@ -11,8 +11,8 @@ ghost use Rattle.ubi_volume.specs.Places.{ArePlacesError};
 ghost use Rattle.ubi_volume.specs.Survey.{IsSurveyOf};
 
 use crate::avoided::Avoided;
-use crate::site::{Site, read_site};
-use crate::taking::{FirstTwo, first_takeable};
+use crate::sites::{Site, read_site};
+use crate::takeable::{FirstTwo, first_takeable};
 use std::alloc::Global;
 use ubi_media::Geometry;
 use ubi_scan::{BlockSource, StreamError};

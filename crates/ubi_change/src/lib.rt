@@ -21,7 +21,7 @@
 //!     new: &[u8],
 //! ) -> Result<Vec<Step>, ChangeRefusal>
 //!     ensures survives { IfOk result (λ steps. SurvivesCutsOf (image_of geometry.now image.now) id 0 new.now steps.items) }
-//!     ensures rises { IfOk result (λ steps. in_image RisesBetweenErases (image_of geometry.now image.now) steps.items) }
+//!     ensures rises { IfOk result (λ steps. of_blocks RisesBetweenErases (image_of geometry.now image.now) steps.items) }
 //! {
 //!     plan_change(alloc, geometry, image, id, 0, new)
 //! }
@@ -29,34 +29,23 @@
 #![tactic(auto)]
 
 mod avoided;
-mod causes;
+mod change;
+mod copies;
+mod errors;
 mod ground;
-mod holders;
+mod image_after;
 pub mod laws;
-mod naming;
 mod pages;
-mod plan_error;
-mod planning;
-mod pushing;
-mod refusal;
-mod rename_refusal;
-mod renaming;
-mod site;
+mod plan_steps;
+mod rename;
 mod sites;
-mod spares;
 mod step;
-mod stepping;
-mod taking;
-mod target;
-mod weakness;
-mod writing;
+mod takeable;
+mod weak_check;
 
 pub use avoided::Avoided;
-pub use plan_error::PlanError;
-pub use planning::{plan_change, plan_change_from};
-pub use refusal::ChangeRefusal;
-pub use rename_refusal::RenameRefusal;
-pub use renaming::{plan_rename, plan_rename_from};
+pub use change::{plan_change, plan_change_from};
+pub use errors::{ChangeRefusal, PlanError, RenameRefusal};
+pub use image_after::{apply, step_fits, write_after};
+pub use rename::{plan_rename, plan_rename_from};
 pub use step::Step;
-pub use stepping::{apply, step_fits};
-pub use writing::write_after;

@@ -1,5 +1,5 @@
 -- Each volume of a built image reads the file that its section names.
-use Rattle.ubi_commands.proofs.Prelude.{None, Accepts, All, AllByRecursion, Appends, AreGathered, ArePartsOf, AreTold, BuildReads, Files, HaveImage, Holds, IfSome, IsNoVolume, IsSized, IsSome, List, MatchOption, Meant, Ok, Option, Outcome, Part, Parts, Reaches, ReadsItsFile, Section, Sized, Sizes, Wrote, [], all_from, ap, arith, built, built_accepted, built_reads, composed, cons_option, crowded, drop, drop-append-add, faulty, file_of, fresh, gathered, get_or_from_slice_get, if◌then◌else◌, image_built, image_of, image_path, image_paths, known_by, len_of, length, length-append, map, no_image, no_path, no_record, numbered, option_map, option_map_or, part_at, read_volume, record_in, refl, row_bytes, same_Some, sections_of, slice_get_within, subst, suc, sum_by, sum_cons, sym, take, take-append-le, take_all, text_of, text_read, ungathered, unmade, unread, unwrap_or, unwritten, usable, zero, ℕ, ◌*◌, ◌++◌, ◌+◌, ◌∙◌, ◌∷◌, ◌≡◌, ◌≤◌}
+use Rattle.ubi_commands.proofs.Prelude.{None, Accepts, All, AllByRecursion, Appends, AreGathered, ArePartsOf, AreTold, BuildReads, Files, HaveImage, Holds, IfSome, IsNoVolume, IsSized, IsSome, List, MatchOption, Meant, Ok, Option, Outcome, Part, Parts, Reaches, ReadsItsFile, Section, Sized, Sizes, Wrote, [], all_from, ap, arith, built, built_accepted, built_reads, composed, cons_option, crowded, drop, drop-append-add, faulty, file_of, fresh, gathered, get_or_from_slice_get, if◌then◌else◌, image_built, image_of, image_path, image_paths, known_by, len_of, length, length-append, map, no_image, no_path, no_record, numbered_parts, option_map, option_map_or, section_part, read_volume, record_in, refl, row_bytes, same_Some, sections_of, slice_get_within, subst, suc, sum_by, sum_cons, sym, take, take-append-le, take_all, text_of, text_read, ungathered, unmade, unread, unwrap_or, unwritten, usable, zero, ℕ, ◌*◌, ◌++◌, ◌+◌, ◌∙◌, ◌∷◌, ◌≡◌, ◌≤◌}
 use Rattle.std.proofs.lemmas.List.{append_assoc}
 use Rattle.std.specs.Prelude.{Some, true}
 use Rattle.ubi_compose.specs.Built.{built as meant}
@@ -128,12 +128,12 @@ module _ (d : Files) (config : List ℕ) where
     reads_files (e ∷ es) (p ∷ ps) front behind start is begins sized are told all reads =
         let f = first_of e es behind sized.0 told all in
         let whole : bytes ≡ front ++ (f.file ++ f.more) = is ∙ ap (λ (b : List ℕ). front ++ b) f.both in
-        let here : text_of bytes (part_at start e are.0) ≡ f.file =
+        let here : text_of bytes (section_part start e are.0) ≡ f.file =
         ap (λ (b : List ℕ). take (len_of e) (drop start b)) whole
         ∙ ap (λ (k : ℕ). take k (drop start (front ++ (f.file ++ f.more)))) f.long
         ∙ ap (λ (k : ℕ). take (length f.file) (drop k (front ++ (f.file ++ f.more)))) begins
         ∙ middle front f.file f.more in
-        let part : ReadsPart (part_at start e are.0) = subst ReadsPart are.2 reads.0 in
+        let part : ReadsPart (section_part start e are.0) = subst ReadsPart are.2 reads.0 in
         let next : bytes ≡ (front ++ f.file) ++ f.more = whole ∙ sym (append_assoc front f.file f.more) in
         let long = length-append front f.file in (
           record {
@@ -166,7 +166,7 @@ received_is d e out ps spares size n reads received image bytes tells known wrot
 module _ (d e : Files) (config out : List ℕ) (s : Sizes) (xs : List Section) (spares seq : ℕ) (parts : List Part)
     (held : List (Option (List ℕ))) (are : AreGathered d s config xs parts held) (image : List ℕ) where
   abbrev recipe : Parts
-  recipe = numbered s seq parts
+  recipe = numbered_parts s seq parts
 
   read_so : (size n : ℕ) (reads : List (ℕ × List ℕ)) (received : Option (List ℕ)) → HaveImage recipe spares
       → IfSome (row_bytes held) (known_by size reads)

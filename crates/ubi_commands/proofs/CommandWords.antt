@@ -1,5 +1,5 @@
 -- What the words of a command give.
-use Rattle.ubi_commands.proofs.Prelude.{◌≡◌, ◌∙◌, ◌<◌, ◌^◌, List, Some, ap, refl, subst, sym, ℕ, same_Some, Bor, Err, Ok, Result, is_some, ParsesUnsigned, digits_value, without_leading_plus, ReadsOne, first_value, one_text, one_of, rows_of, Found, first_value-rows, one_text-rows, HasBelow, HasNumber, HasText, IsOneOf, MayHaveBelow, MayHaveNumber, gives}
+use Rattle.ubi_commands.proofs.Prelude.{◌≡◌, ◌∙◌, ◌<◌, ◌^◌, List, Some, ap, refl, subst, sym, ℕ, same_Some, Bor, Err, Ok, Result, is_some, ParsesUnsigned, digits_value, without_leading_plus, ReadsOne, first_value, one_text, one_of, rows_of, Found, first_value-rows, one_text-rows, HasBelow, HasNumber, HasText, IsOneOf, MayHaveBelow, MayHaveNumber, gives_word}
 use Rattle.std.proofs.Common.{None}
 use Rattle.std.proofs.Common.{Option, option_map}
 
@@ -13,7 +13,7 @@ text_given f name (Some s) same = sym (first_value-rows f name) ∙ sym same
 
 -- whether they give one is whether the words do
 pub is_given : (f : Found) (name : List ℕ) (text : Option (Bor (List ℕ))) → option_map (λ s. s.now) text ≡ first_value f name
-    → is_some text ≡ gives (rows_of f) name
+    → is_some text ≡ gives_word (rows_of f) name
 is_given f name None same = ap is_some (same ∙ first_value-rows f name)
 is_given f name (Some s) same = ap is_some (same ∙ first_value-rows f name)
 

@@ -1,11 +1,11 @@
 -- The image after the first steps of a plan: what was written of it, and what it means.
-use Rattle.ubi_commands.proofs.Prelude.{◌≡◌, ℕ, zero, suc, ◌/◌, ◌<◌, ◌≤◌, List, [], ◌∷◌, length, take, arith, ap, sym, subst, ◌∙◌, Option, fold, if◌then◌else◌, slice_get, concat, take_all, IsGeometry, Sizes, AllWithin, after, after_text, step_done, Step, blocks-cut, length-cut, Image, IsWhole, IsWholeSize, eraseblocks, image_of, Agreed, Source, blocks_of, StreamError, AcceptsBlocks, Meant, First, IsWroteError, Wanted, Wrote, error_as, CutAccepts, IsCut, cut_text, steps_done, nat_lt, None}
+use Rattle.ubi_commands.proofs.Prelude.{◌≡◌, ℕ, zero, suc, ◌/◌, ◌<◌, ◌≤◌, List, [], ◌∷◌, length, take, arith, ap, sym, subst, ◌∙◌, Option, fold, if◌then◌else◌, slice_get, concat, take_all, IsGeometry, Sizes, AllWithin, blocks_after, after_text, step_done, Step, blocks-cut, length-cut, Image, IsWholeImage, IsWholeSize, eraseblocks, image_of, Agreed, Source, blocks_of, StreamError, AcceptsBlocks, Meant, First, IsWroteError, Wanted, Wrote, error_as, CutAccepts, IsCutAfter, cut_text, steps_done, nat_lt, None}
 use Rattle.std.specs.Prelude.{Some}
 use Rattle.ubi_scan.specs.declared.errors.StreamError.TheVariants as stream
 
 -- where the eraseblocks that the steps leave are accepted, so are the bytes
-pub cut_accepts : (image : Image) (steps : List Step) (k turn : ℕ) (old new : Meant) → IsWhole image → IsCut image steps k
-    → AcceptsBlocks image.sizes (after image.sizes (eraseblocks image) steps k) (if nat_lt k turn then old else new)
+pub cut_accepts : (image : Image) (steps : List Step) (k turn : ℕ) (old new : Meant) → IsWholeImage image → IsCutAfter image steps k
+    → AcceptsBlocks image.sizes (blocks_after image.sizes (eraseblocks image) steps k) (if nat_lt k turn then old else new)
     → CutAccepts image steps turn old new k
 cut_accepts image steps k turn old new whole cut accepted = record {
   whole = record { some = rw cut.same whole.some; cut = rw cut.same whole.cut; fits = rw cut.same whole.fits };
@@ -42,7 +42,7 @@ module _ (s : Sizes) (steps : List Step) (k : ℕ) where
 -- the bytes of an image after steps that work within its eraseblocks are cut into what these leave
 module _ (s : Sizes) (g : IsGeometry s) (bytes : List ℕ) (size : ℕ) (whole : IsWholeSize s size) (sized : length bytes ≡ size)
     (steps : List Step) (within : AllWithin s (size / s.peb_size) steps) (k : ℕ) where
-  pub is_cut : IsCut (image_of s bytes) steps k
+  pub is_cut : IsCutAfter (image_of s bytes) steps k
   is_cut =
       let some : 0 < s.page = omega (arith, g.page_from) in
       let here : IsWholeSize s (length bytes) = subst (IsWholeSize s) (sym sized) whole in

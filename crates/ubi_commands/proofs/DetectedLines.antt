@@ -1,5 +1,5 @@
 -- What is found in a part of a file, whatever the source over it may hold.
-use Rattle.ubi_commands.proofs.Prelude.{List, ℕ, subst, sym, AreDetectedOf, IsDetectError, Agreed, IsSource, Source, Detected, Undetected, Gives, says, Detects, detected, undetected, Outcome, FilePart, undetected_told, geometry_told, Format}
+use Rattle.ubi_commands.proofs.Prelude.{List, ℕ, subst, sym, AreDetectedOf, IsDetectError, Agreed, IsSource, Source, Detected, Undetected, Gives, says, Detects, detected, undetected, Outcome, FilePart, undetected_in, geometry_told, Format}
 use Rattle.ubi_detect.specs.declared.detect.DetectError.TheVariants as error
 
 module _ (format : Format) (part : FilePart) (k : Source) (agrees : Agreed) (bytes : List ℕ) (holds : agrees bytes) (o : Outcome) where
@@ -11,6 +11,6 @@ module _ (format : Format) (part : FilePart) (k : Source) (agrees : Agreed) (byt
       detected found (are bytes holds) (subst (λ n. Gives o (says (geometry_told format part n found) 0)) size lines)
 
   -- or the cause for which nothing is
-  pub of_cause : (c : Undetected) → IsDetectError k agrees (error.Undetected c) → Gives o (says (undetected_told format c) 1)
+  pub of_cause : (c : Undetected) → IsDetectError k agrees (error.Undetected c) → Gives o (says (undetected_in format c) 1)
       → Detects format part bytes o
   of_cause c stands line = undetected c (stands bytes holds) line

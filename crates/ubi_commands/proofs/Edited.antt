@@ -1,5 +1,5 @@
 -- What a change or a rename of a source answers: what its file means, for an image in memory, and into a file.
-use Rattle.ubi_commands.proofs.Prelude.{◌≡◌, ℕ, inr, List, [], ◌++◌, length, ap, arith, sym, take, true≢false, ◌∙◌, subst, refl, IfErr, IfOk, OnOk, Option, Result, Ok, Err, codes, AllocError, take_all, IfOk-at_ok, Sizes, image_of, Agreed, Narrows, Source, WhereHeld, holds, memory, still, All, Wrote, Avoided, nothing, changed, turn, programmed, IsPlanned, renamed_pages, IsPlannedRename, renamed, Step, shown_name, Gives, says, Changes, ChangesFrom, CutMeans, HasPlan, IsChangeFault, refused_line, AreCut, HasFile, IsCarryFault, cut_bytes, cut_text, plan_answer, plan_lines, refused_file, steps_done, CutIsNamed, HasRename, IsRenameFault, Renames, RenamesFrom, Outcome, ToolError}
+use Rattle.ubi_commands.proofs.Prelude.{◌≡◌, ℕ, inr, List, [], ◌++◌, length, ap, arith, sym, take, true≢false, ◌∙◌, subst, refl, IfErr, IfOk, OnOk, Option, Result, Ok, Err, codes, AllocError, take_all, IfOk-at_ok, Sizes, image_of, Agreed, Narrows, Source, WhereHeld, holds, memory, still, All, Wrote, Avoided, nothing, changed, turn, programmed, PlanFactsOfSource, renamed_pages, IsPlannedRename, renamed, Step, shown_name, Gives, says, Changes, ChangesFrom, CutMeans, HasPlan, IsChangeFault, refused_line, AreCut, HasFile, IsCarryFault, cut_bytes, cut_text, plan_answer, plan_lines, refused_file, steps_done, CutIsNamed, HasRename, IsRenameFault, Renames, RenamesFrom, Outcome, ToolError}
 use Rattle.std.specs.Prelude.{Some}
 use Rattle.ubi_change.proofs.Unplanned as planning
 use Rattle.ubi_change.proofs.Unrenamed as renaming
@@ -29,13 +29,13 @@ module _ (s : Sizes) (steps : List Step) (k : ℕ) (agrees : Agreed) (bytes : Li
   }
 
 module _ (av : Avoided) (id lnum : ℕ) (new : List ℕ) (stop : Option ℕ) (s : Sizes) where
-  pub change_narrowed : (k : Source) (old later : Agreed) (steps : List Step) → Narrows old later → IsPlanned s k old av id lnum new steps
-      → IsPlanned s k later av id lnum new steps
+  pub change_narrowed : (k : Source) (old later : Agreed) (steps : List Step) → Narrows old later → PlanFactsOfSource s k old av id lnum new steps
+      → PlanFactsOfSource s k later av id lnum new steps
   change_narrowed k old later steps narrows h =
       record { whole = h.whole; within = h.within; beside = h.beside; held = λ bytes agrees. h.held bytes (narrows bytes agrees) }
 
   -- the image after the first steps means the old or the new
-  module _ (k : Source) (agrees : Agreed) (steps : List Step) (plan : IsPlanned s k agrees av id lnum new steps) where
+  module _ (k : Source) (agrees : Agreed) (steps : List Step) (plan : PlanFactsOfSource s k agrees av id lnum new steps) where
     means : AreCut s agrees steps (steps_done steps stop)
         → WhereHeld agrees (λ bytes. CutMeans (image_of s bytes) id lnum new steps (steps_done steps stop))
     means cut bytes agreed =

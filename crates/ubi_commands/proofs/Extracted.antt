@@ -1,8 +1,8 @@
 -- What was extracted if the command did its work, or if a write failed.
-use Rattle.ubi_commands.proofs.Prelude.{◌≡◌, ℕ, List, ap, refl, length, sym, zero-add, ◌∙◌, subst, arith, IfErr-at_err, option_map_or, IfErr, IfOk, Option, Result, Ok, Err, result_map_both, Sizes, Image, image_of, Records, Meant, records_of, read_volume, volume_len, ReadError, take_all, Appends, Agreed, Source, WhereHeld, read_text, ArePlaces, Placed, All, First, NotAll, Wanted, Wrote, HasGot, Gives, says, Extracts, HasFirst, HasTextIn, IsExtractError, IsExtractFault, ReadsVolume, accepted, read, read_key, number_in, bytes_line, Outcome, ToolError, VolumeKey, None}
+use Rattle.ubi_commands.proofs.Prelude.{◌≡◌, ℕ, List, ap, refl, length, sym, zero-add, ◌∙◌, subst, arith, IfErr-at_err, option_map_or, IfErr, IfOk, Option, Result, Ok, Err, result_map_both, Sizes, Image, image_of, Records, Meant, records_of, read_volume, volume_len, ReadError, take_all, Appends, Agreed, Source, WhereHeld, read_text, ArePlaces, Placed, All, First, NotAll, Wanted, Wrote, HasGot, Gives, says, Extracts, HasFirst, HasTextIn, IsExtractError, IsExtractFault, ReadsVolume, accepted, read, read_key, number_in, bytes_line, Outcome, ToolError, VolumeKey, None, HasVolumeText}
 use Rattle.std.specs.Prelude.{Some}
 use Rattle.ubi_volume.specs.declared.errors.ReadError.TheVariants as error
-use Rattle.ubi_commands.specs.Extract.{HasText, refused, unread}
+use Rattle.ubi_commands.specs.Extract.{refused, unread}
 use Rattle.ubi_files.specs.declared.outcome.ToolError.TheVariants as tool
 use Rattle.ubi_commands.proofs.Outcomes.{not_both}
 
@@ -13,7 +13,7 @@ volume_text m key old new o (read text h line got) done = (text, h)
 
 -- work that was done gave the text of a volume
 pub done_text : (image : Image) (key : VolumeKey) (old new : Option (List ℕ)) (o : Outcome) → Extracts image key old new o
-    → o.status ≡ 0 → HasText image key
+    → o.status ≡ 0 → HasVolumeText image key
 done_text image key old new o (accepted m a r) done = let t = volume_text m key old new o r done in (m, t.0, a, t.1)
 done_text image key old new o (refused c h line kept) done = absurd (not_both o done line.status)
 
@@ -39,7 +39,7 @@ nameless m key t same none =
 
 -- a write that failed was one of the text of a volume
 pub failed_text : (image : Image) (key : VolumeKey) (old new : Option (List ℕ)) → IsExtractError image key old new tool.Write
-    → HasText image key
+    → HasVolumeText image key
 failed_text image key old new h = (h.0, h.2.0, h.1, h.2.2)
 
 -- a volume with a length has a text

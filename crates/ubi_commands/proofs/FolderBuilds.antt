@@ -1,5 +1,5 @@
 -- What is built from the config and the files that `unpack` writes for an accepted image is its normal image.
-use Rattle.ubi_commands.proofs.Prelude.{◌≡◌, ℕ, zero, suc, get_or, option_map_or, ◌+◌, ◌≤◌, ◌<◌, List, [], ◌∷◌, ◌++◌, drop, length, map, take, ap, arith, refl, subst, sym, ◌∙◌, append-nil, length-append, same_Some, All, AllByRecursion, IfSome, IsSome, Ok, Option, Result, option_map, Sizes, rec_fault, VolumeRecord, known_by, Accepts, Meant, read_volume, Wrote, sections_of, record_in, Section, image_built, text_of, composed, Part, Parts, AreGathered, ArePartsOf, IsSized, Sized, built, faulty, gathered, image_path, image_paths, len_of, numbered, part_at, ungathered, unwritten, AreTold, file_of, Files, Holds, fresh, row_bytes, volume_len, ReadError, Listed, all_described, file_name, listed_at, Err, is_ok, is_some, then_some, meant_by, records_are, volume_is, volume_read, Volume, parts_build_again, read_fits, read_some, AreItsParts, normal_bytes, is_said, reserved_some, section_gives_record, bytes_reserved, left_out, may_grow, volume_lines, section_at, section_for, sections_at, line_number, ConfigVolume, LeftOut, IsGeometry, slots, Image, IsMeaning, records_of, crowded, unmade, unread, AreAllDescribed, BuildsTheImage, HoldVolumes, described, folder_config, listed, None}
+use Rattle.ubi_commands.proofs.Prelude.{◌≡◌, ℕ, zero, suc, get_or, option_map_or, ◌+◌, ◌≤◌, ◌<◌, List, [], ◌∷◌, ◌++◌, drop, length, map, take, ap, arith, refl, subst, sym, ◌∙◌, append-nil, length-append, same_Some, All, AllByRecursion, IfSome, IsSome, Ok, Option, Result, option_map, Sizes, rec_fault, VolumeRecord, known_by, Accepts, Meant, read_volume, Wrote, sections_of, record_in, Section, image_built, text_of, composed, Part, Parts, AreGathered, ArePartsOf, IsSized, Sized, built, faulty, gathered, image_path, image_paths, len_of, numbered_parts, section_part, ungathered, unwritten, AreTold, file_of, Files, Holds, fresh, row_bytes, volume_len, ReadError, Listed, all_described, file_name, listed_at, Err, is_ok, is_some, then_some, meant_by, records_are, volume_is, volume_read, Volume, parts_build_again, read_fits, read_some, AreItsParts, normal_bytes, is_said, reserved_some, section_gives_record, bytes_reserved, left_out, may_grow, volume_lines, section_at, section_for, sections_at, line_number, ConfigVolume, LeftOut, IsGeometry, slots, Image, IsMeaning, records_of, crowded, unmade, unread, AreAllDescribed, BuildsTheImage, HoldVolumes, described, folder_config, listed, None}
 use Rattle.std.specs.Prelude.{Bool, Some, false, true}
 use Rattle.std.specs.Prelude.{All as Every}
 use Rattle.std.specs.FinMap as finite
@@ -106,7 +106,7 @@ module _ (d : Files) (config : List ℕ) (s : Sizes) (grow : Bool) (len : ℕ �
         ∙ record_of place e here.0 in
         let entry : are.0 ≡ e.1 = (let both = sym are.1 ∙ got in cc) in
         let whole : bytes ≡ front ++ (f.file ++ f.more) = is ∙ ap (λ (b : List ℕ). front ++ b) f.both in
-        let cut : text_of bytes (part_at start x are.0) ≡ f.file =
+        let cut : text_of bytes (section_part start x are.0) ≡ f.file =
         ap (λ (b : List ℕ). take (len_of x) (drop start b)) whole
         ∙ ap (λ (k : ℕ). take k (drop start (front ++ (f.file ++ f.more)))) f.long
         ∙ ap (λ (k : ℕ). take (length f.file) (drop k (front ++ (f.file ++ f.more)))) begins
@@ -116,7 +116,7 @@ module _ (d : Files) (config : List ℕ) (s : Sizes) (grow : Bool) (len : ℕ �
         let numbered_so : (x.0.id, are.0) ≡ (e.0, are.0) = ap (λ (i : ℕ). (i, are.0)) id in
         let recorded_so : (e.0, are.0) ≡ e = ap (λ (r : VolumeRecord). (e.0, r)) entry in
         let one : listing p ≡ e = part ∙ numbered_so ∙ recorded_so in
-        let reads : ReadsText (part_at start x are.0) =
+        let reads : ReadsText (section_part start x are.0) =
         ap read id ∙ here.0.reads ∙ ap Ok (sym (cut ∙ text)) in
         let onward : bytes ≡ (front ++ f.file) ++ f.more = whole ∙ sym (append_assoc front f.file f.more) in
         let size = length-append front f.file in
@@ -189,7 +189,7 @@ module _ (d : Files) (config : List ℕ) (image : Image) (m : Meant) (g : IsGeom
       (said : AreAllDescribed m) (holds : HoldVolumes d config m) (parts : List Part) (held : List (Option (List ℕ)))
       (are : AreGathered d m.sizes config xs parts held) where
     abbrev recipe : Parts
-    recipe = numbered m.sizes m.image_seq parts
+    recipe = numbered_parts m.sizes m.image_seq parts
 
     -- the parts are those of the image's volumes, with the bytes of the files
     its : (bytes : List ℕ) → row_bytes (map d.holds (image_paths config (named d config are.sized))) ≡ Some bytes

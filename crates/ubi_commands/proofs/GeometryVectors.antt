@@ -1,5 +1,5 @@
 -- The lines of what is found in files, and of why nothing is, on literals.
-use Rattle.ubi_commands.proofs.Prelude.{◌≡◌, [], ◌∷◌, Some, refl, digits, Sizes, first_broken, options, options_lines, sizes_options, undetected_line, greatest, whole_file}
+use Rattle.ubi_commands.proofs.Prelude.{◌≡◌, [], ◌∷◌, Some, refl, digits, Sizes, first_broken, options, options_lines, sizes_options, undetected_line, greatest_numbers, whole_file}
 use Rattle.std.proofs.Common.{None}
 use Rattle.std.proofs.Common.{codes}
 use Rattle.ubi_detect.specs.declared.detect.Undetected.TheVariants as cause
@@ -76,6 +76,6 @@ unfolding digits
 no_page = refl
 
 -- the greatest device keeps the limits
-limits : first_broken (numbers.sizes_of greatest) ≡ None
+limits : first_broken (numbers.sizes_of greatest_numbers) ≡ None
 unfolding first_broken
 limits = refl

@@ -1,5 +1,5 @@
 -- What the words of a request say: the volume that they name, what they list as bad, and what they keep.
-use Rattle.ubi_commands.proofs.Prelude.{◌≡◌, ◌∙◌, ◌&&◌, ◌||◌, Bool, List, Some, ap, ap₂, false, not, refl, subst, sym, true, true≢false, ℕ, Bor, ForSome, same_Some, find, is_some, option_and_then, option_map, slice_get, bytes_eq, without_leading_plus, Row, Text, first_of, one_of, is_block_list, Asks, AsksAsked, AsksBlank, AsksDump, AsksKey, AsksPlan, HasNumber, HasText, IsRequest, MayHaveText, command_name, gives, gives_no_geometry, HasOneVolume, Mean, finds, plans, reads_dump, Asked, Dump, Plan, Request, VolumeKey, reading_command, inl, inr, ◌⊎◌, AsksFormat, format_word, formats, Format, comparing_command, comparison_format}
+use Rattle.ubi_commands.proofs.Prelude.{◌≡◌, ◌∙◌, ◌&&◌, ◌||◌, Bool, List, Some, ap, ap₂, false, not, refl, subst, sym, true, true≢false, ℕ, Bor, ForSome, same_Some, find, is_some, option_and_then, option_map, slice_get, bytes_eq, without_leading_plus, Row, Text, first_of, one_of, is_block_list, Asks, AsksAsked, AsksBlank, AsksDump, AsksKey, AsksPlan, HasNumber, HasText, IsRequest, MayHaveText, command_name, gives_word, gives_no_geometry, HasOneVolume, Mean, finds, plans, reads_dump, Asked, Dump, Plan, Request, VolumeKey, reading_command, inl, inr, ◌⊎◌, AsksFormat, format_word, formats, Format, comparing_command, comparison_format}
 use Rattle.std.proofs.Common.{None}
 use Rattle.std.proofs.Common.{Option, codes, unwrap_or}
 use Rattle.ubi_commands.specs.declared.format.Format.TheVariants as told
@@ -96,7 +96,7 @@ list_asked rows (way.Sought sought) asks = list_given rows sought.bad asks.1.2 a
 
 -- they give both sizes of a geometry, or nothing of one
 sizes_asked : (rows : List Row) (d : Asked) → AsksAsked rows d
-    → ((gives rows (codes "peb") && gives rows (codes "page")) || gives_no_geometry rows) ≡ true
+    → ((gives_word rows (codes "peb") && gives_word rows (codes "page")) || gives_no_geometry rows) ≡ true
 sizes_asked rows (way.Given dump) asks =
     let peb = number_is_text rows (codes "peb") dump.numbers.peb_size asks.0.0 in
     let page = number_is_text rows (codes "page") dump.numbers.page asks.0.1 in
@@ -152,9 +152,9 @@ request_means named r asked = record {
         (same a asked.0 at name words is).1 (list_asked asked.0 d asks)
 
     sized : (a : Text) (d : Asked) → named ≡ Some (a, asked.0) → AsksAsked asked.0 d → (name : Text) (words : List Row)
-        → named ≡ Some (name, words) → ((gives words (codes "peb") && gives words (codes "page")) || gives_no_geometry words) ≡ true
+        → named ≡ Some (name, words) → ((gives_word words (codes "peb") && gives_word words (codes "page")) || gives_no_geometry words) ≡ true
     sized a d at asks name words is =
-        subst (λ (rows : List Row). ((gives rows (codes "peb") && gives rows (codes "page")) || gives_no_geometry rows) ≡ true)
+        subst (λ (rows : List Row). ((gives_word rows (codes "peb") && gives_word rows (codes "page")) || gives_no_geometry rows) ≡ true)
         (same a asked.0 at name words is).1 (sizes_asked asked.0 d asks)
 
     kept : (a : Text) (p : Plan) → named ≡ Some (a, asked.0) → AsksPlan asked.0 p → (name : Text) (words : List Row)
@@ -178,7 +178,7 @@ request_means named r asked = record {
 
     sizes : (q : Request) → named ≡ Some (command_name q, asked.0) → Asks asked.0 q → (name : Text) (words : List Row)
         → named ≡ Some (name, words) → finds name ≡ true
-        → ((gives words (codes "peb") && gives words (codes "page")) || gives_no_geometry words) ≡ true
+        → ((gives_word words (codes "peb") && gives_word words (codes "page")) || gives_no_geometry words) ≡ true
     sizes (request.Tell d image what) at asks name words is holds = sized (reading_command what).name d at asks.0 name words is
     sizes (request.Map d image page) at asks name words is holds = sized (codes "map") d at asks.0 name words is
     sizes (request.Extract d extract) at asks name words is holds = sized (codes "extract") d at asks.0 name words is

@@ -1,6 +1,5 @@
 -- What is kept of a file that was read whole to find how it is read.
-use Rattle.ubi_commands.proofs.Prelude.{◌≡◌, ◌∙◌, ℕ, ◌+◌, ◌-◌, ◌*◌, ◌≤◌, Bool, List, ap, arith, drop, false, length, refl, take, true, ltb-false, drop-drop, drop-take, length-drop, length-take, take-take, option_map_or, IfSome, Option, option_map, unwrap_or, Sizes, judged, holds, Detected, Files, IsJudgedOf, FitsWhole, as_read, greatest_dump, misfit_of, seen, told_dump, viewed, whole_len, sizes_of, IsToldFirst, misfit, part_of, Sought, FilePart, masked_none, pages_none, None}
-use Rattle.ubi_files.specs.Kept.{IsPartOf}
+use Rattle.ubi_commands.proofs.Prelude.{◌≡◌, ◌∙◌, ℕ, ◌+◌, ◌-◌, ◌*◌, ◌≤◌, Bool, List, ap, arith, drop, false, length, refl, take, true, ltb-false, drop-drop, drop-take, length-drop, length-take, take-take, option_map_or, IfSome, Option, option_map, unwrap_or, Sizes, seen_of, holds, Detected, Files, IsJudgedOf, FitsWhole, as_read, greatest_dump, misfit_of, seen, told_dump, viewed, whole_len, sizes_of, IsToldFirst, misfit, part_of, Sought, FilePart, masked_none, pages_none, None, IsPartOf}
 use Rattle.std.proofs.Common.{if◌then◌else◌}
 use Rattle.std.specs.Prelude.{Some}
 use Rattle.ubi_commands.proofs.ToldPlaces.{told_inside}
@@ -54,7 +53,7 @@ module _ (sought : Sought) (t : Detected) (bytes kept : List ℕ) (first : IsTol
           let f = length-take n (drop part.start all) in
           omega (arith, e, f)
 
-  of_file : (all : List ℕ) → bytes ≡ judged device (viewed (greatest_dump part) all)
+  of_file : (all : List ℕ) → bytes ≡ seen_of device (viewed (greatest_dump part) all)
       → misfit_of (as_read (greatest_dump part)) (whole_len (greatest_dump part) (length all)) ≡ None
       → (kept ≡ part_of (told_dump sought t).part all) × (part.start + t.start ≤ length all)
   of_file all is fits =
@@ -79,7 +78,7 @@ module _ (sought : Sought) (t : Detected) (bytes kept : List ℕ) (first : IsTol
       → FitsWhole d (greatest_dump part) path → IsPartOf d (told_dump sought t) path kept
   kept_of_told d path = go (d.holds path)
     where
-      go : (o : Option (List ℕ)) → IfSome (option_map (viewed (greatest_dump part)) o) (λ all. bytes ≡ judged device all)
+      go : (o : Option (List ℕ)) → IfSome (option_map (viewed (greatest_dump part)) o) (λ all. bytes ≡ seen_of device all)
           → IfSome o (λ all. misfit_of (as_read (greatest_dump part)) (whole_len (greatest_dump part) (length all)) ≡ None)
           → IfSome o (λ all. (kept ≡ part_of (told_dump sought t).part all) × (part.start + t.start ≤ length all))
       go None is fits = tt

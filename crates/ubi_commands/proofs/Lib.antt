@@ -29,7 +29,6 @@ pub mod Outcomes
 pub mod Planned
 pub mod RequestsOf
 pub mod ShownLines
-pub mod Taken
 pub mod ToldPlaces
 pub mod ToolVectors
 pub mod Unhelped
@@ -37,4 +36,5 @@ pub mod Unpacked
 pub mod Uses
 pub mod ViewVectors
 pub mod Walks
+pub mod WordsAreRequests
 pub mod Prelude

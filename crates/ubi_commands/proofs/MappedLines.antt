@@ -1,5 +1,5 @@
 -- What lies where in a source, whatever it may hold.
-use Rattle.ubi_commands.proofs.Prelude.{◌≡◌, ◌∙◌, ℕ, ◌++◌, List, None, Some, ap, inl, inr, map, subst, sym, length, Sizes, Refusal, IsLengthFault, IsWholeSize, image_of, Agreed, IsSource, Source, Narrows, blocks_in, blocks_of, Gives, says, refusal_line, Outcome, refuses, Files, WritesFile, kept, lost, entries, survey_narrowed, Refuses, ArePlacesError, IsSurvey, Seen, listed_volume, ListedVolume, header_letters, rows, block_texts, refused_data, surveyed_data, page_of, IsPageOf, Maps, MapsFrom, PicturesInto, accepted_page, mapped_from, no_blocks, no_blocks_from, no_page, pictured, refused_map, refused_map_from, refused_page, unpictured, IsPageBy, by_cause, by_meaning}
+use Rattle.ubi_commands.proofs.Prelude.{◌≡◌, ◌∙◌, ℕ, ◌++◌, List, None, Some, ap, inl, inr, map, subst, sym, length, Sizes, Refusal, IsLengthFault, IsWholeSize, image_of, Agreed, IsSource, Source, Narrows, blocks_in, blocks_of, Gives, says, refusal_line, Outcome, refuses, Files, WritesFile, kept, lost, entries, survey_narrowed, Refuses, ArePlacesError, IsSurvey, Seen, listed_volume, ListedVolume, header_letters, rows, block_texts, refused_page_data, surveyed_data, page_of, IsPageOf, Maps, MapsFrom, PicturesInto, accepted_page, mapped_from, no_blocks, no_blocks_from, no_page, pictured, refused_map, refused_map_from, refused_page, unpictured, IsPageBy, by_cause, by_meaning}
 use Rattle.ubi_scan.specs.declared.errors.StreamError.TheVariants as stream
 use Rattle.ubi_commands.proofs.ShownLines.{count, whole}
 
@@ -48,12 +48,12 @@ module _ (s : Sizes) (k : Source) (agrees : Agreed) (is : IsSource k agrees) (by
     -- the page by its texts
     pub of_refused_page : (texts : List (List ℕ)) (letters page : List ℕ) (c : Refusal) → texts ≡ block_texts s (blocks_of s bytes) n
         → letters ≡ header_letters s (blocks_of s bytes) n → Refuses (image_of s bytes) c
-        → page ≡ page_of (refused_data s texts letters c) → IsPageOf (image_of s bytes) (Some page)
+        → page ≡ page_of (refused_page_data s texts letters c) → IsPageOf (image_of s bytes) (Some page)
     of_refused_page texts letters page c told lettered fault made =
         subst (λ (p : List ℕ). IsPageOf (image_of s bytes) (Some p))
-        (sym (made ∙ ap (λ (ts : List (List ℕ)). page_of (refused_data s ts letters c))
+        (sym (made ∙ ap (λ (ts : List (List ℕ)). page_of (refused_page_data s ts letters c))
         (told ∙ ap (block_texts s (blocks_of s bytes)) number)
-        ∙ ap (λ (ls : List ℕ). page_of (refused_data s (block_texts s (blocks_of s bytes) (length (blocks_of s bytes))) ls c))
+        ∙ ap (λ (ls : List ℕ). page_of (refused_page_data s (block_texts s (blocks_of s bytes) (length (blocks_of s bytes))) ls c))
         (lettered ∙ ap (header_letters s (blocks_of s bytes)) number)))
         (refused_page c (whole s k agrees is bytes holds size) fault)
 

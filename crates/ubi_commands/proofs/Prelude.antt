@@ -68,19 +68,19 @@ pub use Rattle.ubi_change.specs.Avoided.{Avoided, nothing}
 pub use Rattle.ubi_change.specs.Cuts.{changed, turn}
 pub use Rattle.ubi_change.specs.Fitting.{AllWithin}
 pub use Rattle.ubi_change.specs.Pages.{programmed}
-pub use Rattle.ubi_change.specs.Planned.{IsChangeError, IsPlanned}
+pub use Rattle.ubi_change.specs.Planned.{IsChangeError, PlanFactsOfSource}
 pub use Rattle.ubi_change.specs.RenamePlan.{renamed_pages}
 pub use Rattle.ubi_change.specs.RenamePlanned.{IsPlannedRename, IsRenameError}
 pub use Rattle.ubi_change.specs.Renamed.{renamed}
-pub use Rattle.ubi_change.specs.Steps.{after, after_text, step_done}
+pub use Rattle.ubi_change.specs.Steps.{after_text, blocks_after, step_done}
 pub use Rattle.ubi_change.specs.declared.step.Step.{Step}
 pub use Rattle.ubi_compare.proofs.Refusals.{refuses}
 pub use Rattle.ubi_compare.specs.declared.difference.Difference.{Difference}
 pub use Rattle.ubi_compose.proofs.BuiltReads.{built_reads}
 pub use Rattle.ubi_compose.proofs.BuiltRoom.{built_accepted}
-pub use Rattle.ubi_compose.proofs.Form.{count-composed, count-normal_bytes, normalising}
 pub use Rattle.ubi_compose.proofs.LesserPage.{normal_kept}
 pub use Rattle.ubi_compose.proofs.Lists.{all_append, all_from}
+pub use Rattle.ubi_compose.proofs.NormalForm.{count-composed, count-normal_bytes, normalising}
 pub use Rattle.ubi_compose.proofs.PartsAgain.{parts_build_again, read_fits, read_some}
 pub use Rattle.ubi_compose.proofs.StoredVolumes.{count, volume_at}
 pub use Rattle.ubi_compose.specs.Building.{CanBuild, IsBuildError, WhereNotBegun, image_built, known_after}
@@ -94,9 +94,9 @@ pub use Rattle.ubi_compose.specs.Spec.{volumes_of}
 pub use Rattle.ubi_compose.specs.Streamed.{HasGot, IsStreamed}
 pub use Rattle.ubi_compose.specs.TextLaws.{ComesTo}
 unfoldable pub use Rattle.ubi_compose.specs.Words.{shown_name}
+pub use Rattle.ubi_compose.specs.declared.built_image.Part.{Part}
 pub use Rattle.ubi_compose.specs.declared.errors.BuildError.{BuildError}
 pub use Rattle.ubi_compose.specs.declared.errors.SpecCause.{SpecCause}
-pub use Rattle.ubi_compose.specs.declared.recipe.Part.{Part}
 pub use Rattle.ubi_config.proofs.CanSay.{is_said, reserved_some}
 pub use Rattle.ubi_config.proofs.GivenRecord.{section_gives_record}
 pub use Rattle.ubi_config.proofs.WrittenReads.{written_reads}
@@ -111,7 +111,7 @@ pub use Rattle.ubi_config.specs.declared.volume.ConfigVolume.{ConfigVolume}
 pub use Rattle.ubi_config.specs.declared.volume.LeftOut.{LeftOut}
 pub use Rattle.ubi_detect.proofs.LeastWay.{IsLesserTold, least_first}
 pub use Rattle.ubi_detect.proofs.OnGrid.{each_on_grid}
-pub use Rattle.ubi_detect.specs.Detected.{AreDetected, AreDetectedOf, IsDetectError}
+pub use Rattle.ubi_detect.specs.Detected.{AreDetected, AreDetectedOf, IsDetectError, IsFound}
 pub use Rattle.ubi_detect.specs.Heads.{first_place, heads_of}
 pub use Rattle.ubi_detect.specs.Place.{blanks_behind, end_of_image, end_of_last, run, start_of_image, told_by, told_ways}
 pub use Rattle.ubi_detect.specs.declared.detect.Detected.{Detected}
@@ -128,9 +128,10 @@ pub use Rattle.ubi_files.specs.Answer.{Answer, Gives, says}
 pub use Rattle.ubi_files.specs.BadBlocks.{is_block_list, masked}
 pub use Rattle.ubi_files.specs.Disk.{AllStay, Files, Holds, IsJudgedOf, IsKept, IsLeft, IsTextOf, OthersStay, OutsideStay, Receives, Stays, fresh}
 pub use Rattle.ubi_files.specs.Dump.{Fits, FitsWhole, as_read, greatest_dump, misfit_of, seen, viewed, whole_len}
+pub use Rattle.ubi_files.specs.Kept.{IsPartOf}
 pub use Rattle.ubi_files.specs.Late.{contents_of}
 pub use Rattle.ubi_files.specs.Lines.{file_line, refusal_line, refused_line}
-pub use Rattle.ubi_files.specs.Numbers.{greatest, sizes_of}
+pub use Rattle.ubi_files.specs.Numbers.{greatest_numbers, sizes_of}
 pub use Rattle.ubi_files.specs.Opened.{IsOpened}
 pub use Rattle.ubi_files.specs.OverFile.{IsRead, IsUnseen, OfFile, WhereRead, bad_limit, cannot_read, file, image, no_file, places, unfit, unfit_whole, unreadable, whole}
 pub use Rattle.ubi_files.specs.Row.{row_bytes}
@@ -151,7 +152,7 @@ pub use Rattle.ubi_json.specs.List.{list_data, listed_data, listed_volume}
 pub use Rattle.ubi_json.specs.declared.list.ListedVolume.{ListedVolume}
 pub use Rattle.ubi_map.specs.Headers.{block_lines}
 pub use Rattle.ubi_map.specs.Letters.{header_letters, rows}
-pub use Rattle.ubi_map.specs.Map.{block_texts, refused_data, surveyed_data}
+pub use Rattle.ubi_map.specs.Map.{block_texts, refused_page_data, surveyed_data}
 pub use Rattle.ubi_map.specs.Page.{page_of}
 pub use Rattle.ubi_media.specs.Fields.{same_bytes}
 pub use Rattle.ubi_media.specs.Geometry.{IsGeometry, Sizes, slots}
@@ -162,9 +163,9 @@ pub use Rattle.ubi_media.specs.declared.record.VolumeRecord.{VolumeRecord}
 pub use Rattle.ubi_media.specs.declared.refusal.Refusal.{Refusal}
 pub use Rattle.ubi_scan.proofs.Finite.{rising_at}
 pub use Rattle.ubi_scan.proofs.InMemory.{still}
-pub use Rattle.ubi_scan.proofs.Narrowed.{source_narrowed}
+pub use Rattle.ubi_scan.proofs.NarrowedSource.{source_narrowed}
 pub use Rattle.ubi_scan.proofs.ReadParts.{count_blocks}
-pub use Rattle.ubi_scan.specs.Image.{Image, IsLengthFault, IsWhole, IsWholeSize, block, eraseblocks, image_of, judged}
+pub use Rattle.ubi_scan.specs.Image.{Image, IsLengthFault, IsWholeImage, IsWholeSize, block, eraseblocks, image_of, seen_of}
 pub use Rattle.ubi_scan.specs.Promised.{keeps_promise}
 pub use Rattle.ubi_scan.specs.Source.{Agreed, IsSource, Narrows, Source, WhereHeld, blocks_in, blocks_of, holds, known_by, memory}
 pub use Rattle.ubi_scan.specs.declared.errors.StreamError.{StreamError}
@@ -172,16 +173,16 @@ pub use Rattle.ubi_table.proofs.Entries.{few_kept}
 pub use Rattle.ubi_table.proofs.NamedTable.{entries_kept}
 pub use Rattle.ubi_table.specs.Coded.{AreKept}
 pub use Rattle.ubi_table.specs.Records.{AreRecords, Records, first_named, twice}
-pub use Rattle.ubi_volume.proofs.Either.{accepted_or_refused}
+pub use Rattle.ubi_volume.proofs.AcceptedOrRefused.{accepted_or_refused}
 pub use Rattle.ubi_volume.proofs.Extracted.{len_none, len_some}
 pub use Rattle.ubi_volume.proofs.FirstCause.{one_first}
 pub use Rattle.ubi_volume.proofs.Gathered.{listed_at, listed_item}
 pub use Rattle.ubi_volume.proofs.LesserPage.{lesser_page}
 pub use Rattle.ubi_volume.proofs.MeantRecords.{meant_by, records_are, volume_is}
-pub use Rattle.ubi_volume.proofs.Narrowed.{places_narrowed}
+pub use Rattle.ubi_volume.proofs.NarrowedPlaces.{places_narrowed}
 pub use Rattle.ubi_volume.proofs.OfSurvey.{survey_narrowed}
-pub use Rattle.ubi_volume.proofs.One.{Accepts-unique, never_accepted_and_refused}
 pub use Rattle.ubi_volume.proofs.OneCause.{one_cause}
+pub use Rattle.ubi_volume.proofs.OneMeaning.{Accepts-unique, never_accepted_and_refused}
 pub use Rattle.ubi_volume.proofs.Received.{error_as}
 pub use Rattle.ubi_volume.specs.Accepts.{Accepts, AcceptsBlocks, Refuses}
 pub use Rattle.ubi_volume.specs.Amounts.{AmountIs}
@@ -198,19 +199,19 @@ pub use Rattle.ubi_volume.specs.declared.errors.MeaningCause.{MeaningCause}
 pub use Rattle.ubi_volume.specs.declared.errors.ReadError.{ReadError}
 pub use Rattle.ubi_volume.specs.declared.places.Extent.{Extent}
 pub use Rattle.ubi_volume.specs.declared.places.PlaceContent.{PlaceContent}
-pub use Rattle.ubi_commands.specs.Build.{AreBesideOut, AreGathered, ArePartsOf, Builds, BuildsParts, HaveImage, IsNoVolume, IsSized, IsUngathered, IsUnreadLine, Sized, built, crowded, faulty, gathered, image_path, image_paths, len_of, no_image, no_path, no_record, numbered, part_at, ungathered, unmade, unread, unwritten}
+pub use Rattle.ubi_commands.specs.Build.{AreBesideOut, AreGathered, ArePartsOf, Builds, BuildsParts, HaveImage, IsNoVolume, IsSized, IsUngathered, IsUnreadLine, Sized, built, crowded, faulty, gathered, image_path, image_paths, len_of, no_image, no_path, no_record, numbered_parts, section_part, ungathered, unmade, unread, unwritten}
 pub use Rattle.ubi_commands.specs.BuildLaws.{AreTold, BuildReads, ReadsItsFile, file_of}
 pub use Rattle.ubi_commands.specs.Change.{Changes, ChangesFrom, CutMeans, HasPlan, IsChangeFault, not_blank_from, unplanned_from}
 pub use Rattle.ubi_commands.specs.Check.{state_line, surveyed, unsurveyed}
 unfoldable pub use Rattle.ubi_commands.specs.Check.{printed_states}
-pub use Rattle.ubi_commands.specs.CommandLine.{AsksAsked, AsksBlank, AsksChange, AsksDump, AsksExtract, AsksFormat, AsksKey, AsksNewImage, AsksNumbers, AsksPart, AsksPaths, AsksPlan, AsksRename, HasBelow, HasNumber, HasText, MayHaveBelow, MayHaveLong, MayHaveNumber, MayHaveText, gives, gives_no_geometry}
+pub use Rattle.ubi_commands.specs.CommandLine.{AsksAsked, AsksBlank, AsksChange, AsksDump, AsksExtract, AsksFormat, AsksKey, AsksNewImage, AsksNumbers, AsksPart, AsksPaths, AsksPlan, AsksRename, HasBelow, HasNumber, HasText, MayHaveBelow, MayHaveLong, MayHaveNumber, MayHaveText, gives_no_geometry, gives_word}
 pub use Rattle.ubi_commands.specs.Commands.{Asks, IsAllElse, IsAnswer, IsAnswerTo, IsRequest, Takes, command_name, comparing_command, reading_command, wrong_words}
 unfoldable pub use Rattle.ubi_commands.specs.Commands.{tool}
 pub use Rattle.ubi_commands.specs.Comparisons.{AnswersOf, ComparesOf, compared, compared_from, comparison_format, comparison_status, difference_line, differences_told, left_refused, left_refused_from, right_refused, right_refused_from, same_told}
 pub use Rattle.ubi_commands.specs.Compose.{Composes, ComposesInto, ComposesOf, fits, meaning_line, spec_line}
-pub use Rattle.ubi_commands.specs.Extract.{Extracts, HasTextIn, IsExtractError, ReadsVolume, accepted, read, read_key, refused_from, unread_from, wrote}
+pub use Rattle.ubi_commands.specs.Extract.{Extracts, HasTextIn, HasVolumeText, IsExtractError, ReadsVolume, accepted, read, read_key, refused_from, unread_from, wrote}
 pub use Rattle.ubi_commands.specs.FolderLaws.{AreAllDescribed, BuildsTheImage, FolderConfigReads, HoldVolumes}
-pub use Rattle.ubi_commands.specs.Formats.{format_word, undetected_told}
+pub use Rattle.ubi_commands.specs.Formats.{format_word, undetected_in}
 pub use Rattle.ubi_commands.specs.Geometry.{Detects, detected, detected_from, geometry_told, options_lines, undetected, undetected_from}
 unfoldable pub use Rattle.ubi_commands.specs.Geometry.{options, sizes_options}
 pub use Rattle.ubi_commands.specs.InFormat.{IsUnreadOfAsked, IsUnreadOfBoth, OfAskedIn, OfBothIn, OfFileIn, OfRead, OfReadAsked, OfReadBoth, OfReadDumps, failed}
@@ -228,7 +229,7 @@ pub use Rattle.ubi_commands.specs.Reads.{format_of, reads}
 pub use Rattle.ubi_commands.specs.Rename.{CutIsNamed, HasRename, IsRenameFault, Renames, RenamesFrom, nameless_from}
 pub use Rattle.ubi_commands.specs.Show.{Shows, no_block, no_block_from, no_size, shown, shown_from}
 pub use Rattle.ubi_commands.specs.Tool.{HasOneVolume, Mean, finds, formats, plans, reads_dump}
-pub use Rattle.ubi_commands.specs.Unpack.{AreUnpacked, AreUnpackedUntil, IsUnpacked, IsWritten, Listed, Unpacks, UnpacksOf, all_described, config_path, described, file_byte, file_path, folder_config, listed, no_config, no_folder, unpacked, unpacked_line, unpacked_lines, unpacked_status}
+pub use Rattle.ubi_commands.specs.Unpack.{AreUnpacked, AreUnpackedUntil, IsNewFile, IsUnpacked, Listed, Unpacks, UnpacksOf, all_described, config_path, described, file_byte, file_path, folder_config, listed, no_config, no_folder, unpacked, unpacked_line, unpacked_lines, unpacked_status}
 unfoldable pub use Rattle.ubi_commands.specs.Unpack.{file_name}
 pub use Rattle.ubi_commands.specs.declared.asked.Asked.{Asked}
 pub use Rattle.ubi_commands.specs.declared.asked.Change.{Change}
@@ -254,7 +255,7 @@ pub use Rattle.ubi_commands.specs.inner.Extracting.{HasFirst, IsExtractFault}
 pub use Rattle.ubi_commands.specs.inner.FileAnswers.{WritesFile, kept, lost}
 pub use Rattle.ubi_commands.specs.inner.Folder.{AreFilesOf, Ends, IsFileOf, config_in}
 pub use Rattle.ubi_commands.specs.inner.Formatted.{IsLineIn, IsToldIn, its_own, printed}
-pub use Rattle.ubi_commands.specs.inner.Gathering.{AreSoFar, AreUnread, IsFound, IsPartOf}
+pub use Rattle.ubi_commands.specs.inner.Gathering.{AreSoFar, AreUnread, IsFoundFile, IsSectionPart, as_list}
 pub use Rattle.ubi_commands.specs.inner.Pictured.{IsPageBy, by_cause, by_meaning}
-pub use Rattle.ubi_commands.specs.inner.Planning.{AreCut, HasFile, IsCut, refused_file}
+pub use Rattle.ubi_commands.specs.inner.Planning.{AreCut, HasFile, IsCutAfter, refused_file}
 pub use Rattle.ubi_commands.specs.inner.Writes.{HasWork, writes}

@@ -5,7 +5,7 @@ use Rattle.std.proofs.Common.{Option}
 use Rattle.clap.specs.declared.error.kind.ErrorKind.TheVariants as kind
 use Rattle.ubi_commands.specs.Commands.{answered}
 use Rattle.ubi_commands.proofs.GivenKey.{request_means}
-use Rattle.ubi_commands.proofs.Taken.{taken_asked}
+use Rattle.ubi_commands.proofs.WordsAreRequests.{taken_asked}
 
 tool_is_simple : is_simple tool ≡ true
 unfolding tool

@@ -1,7 +1,6 @@
 -- Where in a file the image that is found lies.
-use Rattle.ubi_commands.proofs.Prelude.{◌≡◌, ℕ, ◌+◌, ◌-◌, ◌*◌, ◌/◌, ◌≤◌, Bool, List, [], ◌∷◌, ap, arith, inl, inr, length, refl, mod-add-div', mul-le-mul_right, length-range_with_len, prefix_len-le-length, range_with_len, Contains, AreDetected, first_place, heads_of, blanks_behind, end_of_image, end_of_last, run, start_of_image, told_by, told_ways, holds, Detected, Group, Way, each_on_grid, IsToldFirst}
+use Rattle.ubi_commands.proofs.Prelude.{◌≡◌, ℕ, ◌+◌, ◌-◌, ◌*◌, ◌/◌, ◌≤◌, Bool, List, [], ◌∷◌, ap, arith, inl, inr, length, refl, mod-add-div', mul-le-mul_right, length-range_with_len, prefix_len-le-length, range_with_len, Contains, AreDetected, first_place, heads_of, blanks_behind, end_of_image, end_of_last, run, start_of_image, told_by, told_ways, holds, Detected, Group, Way, each_on_grid, IsToldFirst, IsFound}
 use Rattle.std.specs.Prelude.{map}
-use Rattle.ubi_detect.specs.Detected.{IsFound}
 use Rattle.ubi_detect.specs.Heads.{places}
 
 -- the first of some places is one of them

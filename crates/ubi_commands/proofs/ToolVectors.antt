@@ -1,5 +1,5 @@
 -- Which words the command line takes.
-use Rattle.ubi_commands.proofs.Prelude.{◌≡◌, ◌&&◌, ◌||◌, ◌∷◌, ◌∙◌, [], List, Some, ap, false, refl, subst, sym, true, true≢false, ForSome, same_Some, bytes_eq, fault_of, Row, Text, first_of, clap_on_literals, is_block_list, gives, gives_no_geometry, HasOneVolume, Mean, Takes, tool, inl, inr, ◌⊎◌}
+use Rattle.ubi_commands.proofs.Prelude.{◌≡◌, ◌&&◌, ◌||◌, ◌∷◌, ◌∙◌, [], List, Some, ap, false, refl, subst, sym, true, true≢false, ForSome, same_Some, bytes_eq, fault_of, Row, Text, first_of, clap_on_literals, is_block_list, gives_word, gives_no_geometry, HasOneVolume, Mean, Takes, tool, inl, inr, ◌⊎◌}
 use Rattle.std.proofs.Common.{None}
 use Rattle.std.proofs.Common.{Option, codes}
 use Rattle.clap.specs.declared.error.kind.ErrorKind.TheVariants as kind
@@ -18,13 +18,13 @@ means : (name : Text) (rows : List Row) → bytes_eq name (codes "extract") ≡ 
     → ForSome (first_of (codes "bad") rows) (λ list. is_block_list list ≡ true)
     → ForSome (first_of (codes "blank") rows) (λ word. word ≡ codes "keep")
     → ForSome (first_of (codes "format") rows) (λ word. (word ≡ codes "text") ⊎ (word ≡ codes "json"))
-    → ((gives rows (codes "peb") && gives rows (codes "page")) || gives_no_geometry rows) ≡ true → Mean (Some (name, rows))
+    → ((gives_word rows (codes "peb") && gives_word rows (codes "page")) || gives_no_geometry rows) ≡ true → Mean (Some (name, rows))
 means name rows other listed kept told whole = record {
   volume = of_another (Some (name, rows)) name rows refl other;
   list = λ named words is reads. subst (λ ws. ForSome (first_of (codes "bad") ws) (λ list. is_block_list list ≡ true)) (rows_of named words is) listed;
   blank = λ named words is plans. subst (λ ws. ForSome (first_of (codes "blank") ws) (λ word. word ≡ codes "keep")) (rows_of named words is) kept;
   geometry = λ named words is found.
-      subst (λ ws. ((gives ws (codes "peb") && gives ws (codes "page")) || gives_no_geometry ws) ≡ true) (rows_of named words is) whole;
+      subst (λ ws. ((gives_word ws (codes "peb") && gives_word ws (codes "page")) || gives_no_geometry ws) ≡ true) (rows_of named words is) whole;
   format = λ named words is tells.
       subst (λ ws. ForSome (first_of (codes "format") ws) (λ word. (word ≡ codes "text") ⊎ (word ≡ codes "json"))) (rows_of named words is) told;
 }

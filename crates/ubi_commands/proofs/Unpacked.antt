@@ -1,5 +1,5 @@
 -- What was unpacked from an image, and how.
-use Rattle.ubi_commands.proofs.Prelude.{None, Agreed, All, Appends, AreFilesOf, ArePlaces, AreUnpacked, AreUnpackedUntil, AreWithin, Bool, Ends, Err, Extent, Files, Gives, Image, IsFileOf, IsKept, IsUnpacked, IsWritten, List, Listed, Ok, Option, OthersStay, Outcome, OutsideStay, PlaceContent, Placed, ReadError, Records, Result, Sizes, Unpacks, VolumeFile, VolumeRecord, Wrote, [], all_described, ap, append-nil, append_assoc, arith, codes, cond, config_in, config_path, config_text, described, entries, extent_in, extent_len, extent_of, false, file_line, file_name, file_path, flat_map-append, folder_config, fresh, get, get_or, get_or_from_slice_get, image_of, inl, inr, is_ok, len_none, len_some, length, list_all, list_all_more, listed, no_config, option_map_or, read_text, read_volume, refl, result_map_both, says, slice_get, slice_get_cases, slice_get_read, slice_get_within, subst, suc, sym, take, take_all, take_more, true, unpacked, unpacked_line, unpacked_lines, unpacked_status, volume_len, zero, ℕ, ◌&&◌, ◌++◌, ◌+◌, ◌<◌, ◌∙◌, ◌∷◌, ◌≡◌, ◌≤◌, ◌⊎◌}
+use Rattle.ubi_commands.proofs.Prelude.{None, Agreed, All, Appends, AreFilesOf, ArePlaces, AreUnpacked, AreUnpackedUntil, AreWithin, Bool, Ends, Err, Extent, Files, Gives, Image, IsFileOf, IsKept, IsUnpacked, IsNewFile, List, Listed, Ok, Option, OthersStay, Outcome, OutsideStay, PlaceContent, Placed, ReadError, Records, Result, Sizes, Unpacks, VolumeFile, VolumeRecord, Wrote, [], all_described, ap, append-nil, append_assoc, arith, codes, cond, config_in, config_path, config_text, described, entries, extent_in, extent_len, extent_of, false, file_line, file_name, file_path, flat_map-append, folder_config, fresh, get, get_or, get_or_from_slice_get, image_of, inl, inr, is_ok, len_none, len_some, length, list_all, list_all_more, listed, no_config, option_map_or, read_text, read_volume, refl, result_map_both, says, slice_get, slice_get_cases, slice_get_read, slice_get_within, subst, suc, sym, take, take_all, take_more, true, unpacked, unpacked_line, unpacked_lines, unpacked_status, volume_len, zero, ℕ, ◌&&◌, ◌++◌, ◌+◌, ◌<◌, ◌∙◌, ◌∷◌, ◌≡◌, ◌≤◌, ◌⊎◌}
 use Rattle.std.specs.Prelude.{Some}
 use Rattle.ubi_volume.specs.declared.errors.ReadError.TheVariants as error
 use Rattle.ubi_commands.specs.Unpack.{unwritten}
@@ -187,7 +187,7 @@ module _ (image : Image) (p : Placed) (h : ArePlaces image p) (n : ℕ) (within 
   -- and then the config was written
   pub all_done : (last : Files) (s : Sizes) (file : List ℕ) → p.records.sizes ≡ s → file ≡ config_path dir
       → Ends (read_volume h.meaning) path (entries p.records.of) old new None
-      → IsWritten (config_in s p) file new last
+      → IsNewFile (config_in s p) file new last
       → Gives o (says (unpacked_lines (λ id. extent_len (extent_in p id)) (entries p.records.of)) (unpacked_status (λ id. extent_len (extent_in p id)) (entries p.records.of)))
       → Unpacks image dir old last o
   all_done last s file sizes named are written gives =
@@ -196,8 +196,8 @@ module _ (image : Image) (p : Placed) (h : ArePlaces image p) (n : ℕ) (within 
       let g : ℕ → Result ℕ ReadError = volume_len h.meaning in
       let lens : (id : ℕ) → f id ≡ g id = len_same image p h n within in
       unpacked h.meaning new h.accepted (are_unpacked are)
-      (subst (λ (at : List ℕ). IsWritten (folder_config h.meaning) at new last) named
-      (subst (λ (text : List ℕ). IsWritten text file new last) (config_same image p h n within s sizes) written))
+      (subst (λ (at : List ℕ). IsNewFile (folder_config h.meaning) at new last) named
+      (subst (λ (text : List ℕ). IsNewFile text file new last) (config_same image p h n within s sizes) written))
       (subst (λ (es : List Listed). Gives o (says (unpacked_lines g es) (unpacked_status g es))) listed_is
       (subst (λ (x : ℕ). Gives o (says (unpacked_lines g (entries p.records.of)) x)) (status_same f g lens (entries p.records.of))
       (subst (λ (x : List ℕ). Gives o (says x (unpacked_status f (entries p.records.of)))) (lines_same f g lens (entries p.records.of)) gives)))

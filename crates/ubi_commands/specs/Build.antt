@@ -17,7 +17,7 @@ use Rattle.ubi_config.specs.declared.section.Section.{Section}
 use Rattle.ubi_compose.specs.Building.{image_built}
 use Rattle.ubi_compose.specs.Built.{HaveMeaning, IsRecipeError, Parts, most_blocks}
 use Rattle.ubi_compose.specs.declared.errors.RecipeError.TheVariants as recipe
-use Rattle.ubi_compose.specs.declared.recipe.Part.{Part}
+use Rattle.ubi_compose.specs.declared.built_image.Part.{Part}
 use Rattle.ubi_volume.specs.declared.errors.MeaningCause.{MeaningCause}
 use Rattle.ubi_files.specs.Answer.{Gives, says}
 use Rattle.ubi_commands.specs.Compose.{meaning_line, room_line}
@@ -61,14 +61,14 @@ IsSized d config e = MatchOption e.0.image (e.1 ≡ None)
     (λ image. (n : ℕ) × (e.1 ≡ Some n) × IfSome (d.holds (image_path config image)) (λ all. length all ≡ n))
 
 -- the volume of a section, whose bytes begin at a place of the source
-abbrev pub part_at : ℕ → Sized → VolumeRecord → Part
-part_at start e r = record { id = e.0.id; entry = r; start = start; len = len_of e }
+abbrev pub section_part : ℕ → Sized → VolumeRecord → Part
+section_part start e r = record { id = e.0.id; entry = r; start = start; len = len_of e }
 
 -- the volumes of sections, each with its bytes after those of the one before
 abbrev pub ArePartsOf : Sizes → ℕ → List Sized → List Part → Type 0
 ArePartsOf s start [] [] = Unit {0}
 ArePartsOf s start (e ∷ es) (p ∷ ps) =
-    (r : VolumeRecord) × (record_in s e.0 e.1 ≡ Ok r) × (p ≡ part_at start e r) × ArePartsOf s (start + len_of e) es ps
+    (r : VolumeRecord) × (record_in s e.0 e.1 ≡ Ok r) × (p ≡ section_part start e r) × ArePartsOf s (start + len_of e) es ps
 ArePartsOf s start _ _ = ⊥
 
 -- what sections give: their volumes, and what the files with their bytes hold, in order
@@ -81,8 +81,8 @@ pub record AreGathered (d : Files) (s : Sizes) (config : List ℕ) (xs : List Se
   pub held : bytes ≡ map d.holds (image_paths config xs)
 
 -- the volumes, with the geometry of the device and an image sequence number
-abbrev pub numbered : Sizes → ℕ → List Part → Parts
-numbered s seq parts = record { sizes = s; image_seq = seq; of = parts }
+abbrev pub numbered_parts : Sizes → ℕ → List Part → Parts
+numbered_parts s seq parts = record { sizes = s; image_seq = seq; of = parts }
 
 -- why a section gives no volume: the line of its image file, which can't be read, or is the output file, or has a path that isn't
 -- text; or the line of the section, which gives no record for a file of that size
@@ -133,5 +133,5 @@ pub data Builds (d e : Files) (config out : List ℕ) (s : Sizes) (text : List �
   ungathered : {o : Outcome} → first_fault text ≡ None → IsUngathered d s config (sections_of text) o → AllStay d e → Builds d e config out s text spares seq o
   gathered : {o : Outcome} (parts : List Part) (held : List (Option (List ℕ))) → first_fault text ≡ None
       → AreGathered d s config (sections_of text) parts held → AreBesideOut config out (sections_of text)
-      → BuildsParts d e config out (sections_of text) (numbered s seq parts) (row_bytes held) spares o
+      → BuildsParts d e config out (sections_of text) (numbered_parts s seq parts) (row_bytes held) spares o
       → Builds d e config out s text spares seq o

@@ -6,10 +6,10 @@ use Rattle.ubi_change.specs.Cuts.{changed, turn}
 use Rattle.ubi_change.specs.Avoided.{Avoided, nothing}
 use Rattle.ubi_change.specs.ErrorTexts.{change_refusal_text}
 use Rattle.ubi_change.specs.Pages.{programmed}
-use Rattle.ubi_change.specs.Planned.{IsChangeError, IsChangeRefusal, IsPlanOf, IsPlanned}
-use Rattle.ubi_change.specs.declared.plan_error.PlanError.TheVariants as error
-use Rattle.ubi_change.specs.declared.refusal.ChangeRefusal.{ChangeRefusal}
-use Rattle.ubi_change.specs.declared.refusal.ChangeRefusal.TheVariants as refusal
+use Rattle.ubi_change.specs.Planned.{IsChangeError, IsChangeRefusal, PlanFacts, PlanFactsOfSource}
+use Rattle.ubi_change.specs.declared.errors.PlanError.TheVariants as error
+use Rattle.ubi_change.specs.declared.errors.ChangeRefusal.{ChangeRefusal}
+use Rattle.ubi_change.specs.declared.errors.ChangeRefusal.TheVariants as refusal
 use Rattle.ubi_change.specs.declared.step.Step.{Step}
 use Rattle.ubi_scan.specs.Image.{Image, image_of}
 use Rattle.ubi_scan.specs.Source.{Agreed, Source, WhereHeld}
@@ -37,7 +37,7 @@ CutMeans image id lnum new steps k =
 -- what the command answers for an image: the answer of the plan, and what its file means; or the line of the cause for
 -- which nothing is planned
 pub data Changes (image : Image) (id lnum : ℕ) (new : List ℕ) (stop : Option ℕ) : Outcome → Type 0 where
-  planned : {o : Outcome} (steps : List Step) → IsPlanOf image nothing id lnum new steps → Gives o (plan_answer image steps stop)
+  planned : {o : Outcome} (steps : List Step) → PlanFacts image nothing id lnum new steps → Gives o (plan_answer image steps stop)
       → CutMeans image id lnum new steps (steps_done steps stop) → Changes image id lnum new stop o
   unplanned : {o : Outcome} (c : ChangeRefusal) (line : List ℕ) → IsChangeRefusal image id lnum new c → cause_line c ≡ Some line
       → Gives o (says line 1) → Changes image id lnum new stop o
@@ -47,7 +47,7 @@ module _ (av : Avoided) (id lnum : ℕ) (new : List ℕ) (stop : Option ℕ) (s 
   -- program; and the writer received what the file holds, whatever the source may hold. Or the line of the cause for which
   -- nothing is planned, or of a listed eraseblock that isn't blank, and the writer received nothing
   pub data ChangesFrom (pages : List ℕ) (old now : Option (List ℕ)) : Outcome → Type 0 where
-    planned_from : {o : Outcome} (steps : List Step) → IsPlanned s k agrees av id lnum new steps
+    planned_from : {o : Outcome} (steps : List Step) → PlanFactsOfSource s k agrees av id lnum new steps
         → Gives o (says (plan_lines steps) 0) → pages ≡ programmed (take (steps_done steps stop) steps)
         → Wrote agrees old now (cut_text s steps (steps_done steps stop)) All 0 k.size
         → WhereHeld agrees (λ bytes. CutMeans (image_of s bytes) id lnum new steps (steps_done steps stop)) → ChangesFrom pages old now o
@@ -62,10 +62,10 @@ module _ (av : Avoided) (id lnum : ℕ) (new : List ℕ) (stop : Option ℕ) (s 
   IsChangeFault old now tool.Memory = Keeps old now
   IsChangeFault old now tool.Read =
       Keeps old now
-      ⊎ ((steps : List Step) × IsPlanned s k agrees av id lnum new steps × IsCarryFault s agrees steps (steps_done steps stop) old now tool.Read)
+      ⊎ ((steps : List Step) × PlanFactsOfSource s k agrees av id lnum new steps × IsCarryFault s agrees steps (steps_done steps stop) old now tool.Read)
   IsChangeFault old now tool.Write =
-      (steps : List Step) × IsPlanned s k agrees av id lnum new steps × IsCarryFault s agrees steps (steps_done steps stop) old now tool.Write
+      (steps : List Step) × PlanFactsOfSource s k agrees av id lnum new steps × IsCarryFault s agrees steps (steps_done steps stop) old now tool.Write
 
 -- a change of a source is planned
 abbrev pub HasPlan : Avoided → ℕ → ℕ → List ℕ → Sizes → Source → Agreed → Type 0
-HasPlan av id lnum new s k agrees = (steps : List Step) × IsPlanned s k agrees av id lnum new steps
+HasPlan av id lnum new s k agrees = (steps : List Step) × PlanFactsOfSource s k agrees av id lnum new steps

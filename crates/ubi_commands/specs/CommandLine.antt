@@ -81,14 +81,14 @@ AsksDump words dump = AsksNumbers words dump.numbers
     × ForSome dump.bad (λ list. is_block_list list.now ≡ true)
 
 -- the words give something under the name
-abbrev pub gives : List Row → List ℕ → Bool
-gives words name = is_some (first_of name words)
+abbrev pub gives_word : List Row → List ℕ → Bool
+gives_word words name = is_some (first_of name words)
 
 -- the words say nothing about a geometry except how many eraseblocks there are
 abbrev pub gives_no_geometry : List Row → Bool
 gives_no_geometry words =
-    not (gives words (codes "peb")) && not (gives words (codes "page")) && not (gives words (codes "vid"))
-    && not (gives words (codes "data")) && not (gives words (codes "oob"))
+    not (gives_word words (codes "peb")) && not (gives_word words (codes "page")) && not (gives_word words (codes "vid"))
+    && not (gives_word words (codes "data")) && not (gives_word words (codes "oob"))
 
 -- the words give this dump without a geometry: its part of the file, how many eraseblocks there are, and the list of its bad
 -- eraseblocks, if there is one

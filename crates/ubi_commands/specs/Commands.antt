@@ -148,26 +148,26 @@ pub record Said : Type 1 where
   pub leaves : Files → Files → Type 0
 
 -- what is said about each request
-abbrev pub said : Request → Said
-said (request.Geometry part image format) = record {
+abbrev pub said_of : Request → Said
+said_of (request.Geometry part image format) = record {
   command = geometry;
   asks = λ words. AsksPart words part × HasText words (codes "IMAGE") image × AsksFormat words format;
   answers = λ d e. OfFileIn format d (greatest_dump part) image.now (λ _. DetectsOf format part);
   leaves = AllStay;
 }
-said (request.Tell dump image what) = record {
+said_of (request.Tell dump image what) = record {
   command = reading_command what;
   asks = λ words. AsksAsked words dump × HasText words (codes "IMAGE") image × AsksReading words what;
   answers = λ d e. OfAskedIn (format_of what) d e dump image.now (reads what);
   leaves = AllStay;
 }
-said (request.Map dump image page) = record {
+said_of (request.Map dump image page) = record {
   command = map;
   asks = λ words. AsksAsked words dump × HasText words (codes "IMAGE") image × MayHaveText words (codes "out") page;
   answers = λ d e. AnswersMap d e dump image.now page;
   leaves = λ d e. LeavesMap d e image.now page;
 }
-said (request.Extract dump extract_it) =
+said_of (request.Extract dump extract_it) =
     let out = extract_it.paths.out.now in
     let key = extract_it.key in record {
       command = extract;
@@ -176,39 +176,39 @@ said (request.Extract dump extract_it) =
           (λ s k agrees. WritesInto out d e (ExtractsOf key s k agrees) (HasTextIn key s agrees));
       leaves = λ d e. OthersStay d e out;
     }
-said (request.Unpack dump paths) = record {
+said_of (request.Unpack dump paths) = record {
   command = unpack;
   asks = λ words. AsksAsked words dump × AsksPaths words paths;
   answers = λ d e. OfAsked d e dump paths.image.now (UnpacksOf paths.out.now d e);
   leaves = λ d e. OutsideStay d e paths.out.now;
 }
-said (request.Compose numbers new) = record {
+said_of (request.Compose numbers new) = record {
   command = compose;
   asks = λ words. AsksNumbers words numbers × AsksNewImage words (codes "SPEC") new;
   answers = λ d e. OfText d numbers new.from.now (λ s t. ComposesInto new.out.now d e s t new.spares new.image_seq);
   leaves = λ d e. OthersStay d e new.out.now × Stays d e new.from.now;
 }
-said (request.Build numbers new) = record {
+said_of (request.Build numbers new) = record {
   command = build;
   asks = λ words. AsksNumbers words numbers × AsksNewImage words (codes "CONFIG") new;
   answers = λ d e. OfText d numbers new.from.now (λ s t. Builds d e new.from.now new.out.now s t new.spares new.image_seq);
   leaves = λ d e. OthersStay d e new.out.now × Stays d e new.from.now;
 }
-said (request.Normalise dump paths) = record {
+said_of (request.Normalise dump paths) = record {
   command = normalise;
   asks = λ words. AsksAsked words dump × AsksPaths words paths;
   answers = λ d e. OfAsked d e dump paths.image.now
       (λ s k agrees. WritesInto paths.out.now d e (NormalisesOf s k agrees) (HasMeaning s agrees));
   leaves = λ d e. OthersStay d e paths.out.now;
 }
-said (request.Compare how dump left right) = record {
+said_of (request.Compare how dump left right) = record {
   command = comparing_command how;
   asks = λ words. AsksAsked words dump × HasText words (codes "IMAGE") left × HasText words (codes "OTHER") right
       × AsksFormat words (comparison_format how);
   answers = λ d e. OfBothIn (comparison_format how) d dump left.now right.now (ComparesOf how);
   leaves = AllStay;
 }
-said (request.Change dump change_it) =
+said_of (request.Change dump change_it) =
     let plan = change_it.plan in
     let image = plan.paths.image.now in
     let out = plan.paths.out.now in
@@ -222,7 +222,7 @@ said (request.Change dump change_it) =
           (HasPlan kept change_it.id change_it.lnum f.bytes s k agrees))));
       leaves = λ d e. PlanStays d e plan × Stays d e change_it.from.now;
     }
-said (request.Rename dump rename_it) =
+said_of (request.Rename dump rename_it) =
     let plan = rename_it.plan in
     let image = plan.paths.image.now in
     let out = plan.paths.out.now in
@@ -238,21 +238,21 @@ said (request.Rename dump rename_it) =
 
 -- the name of the command that makes a request
 abbrev pub command_name : Request → List ℕ
-command_name r = (said r).command.name
+command_name r = (said_of r).command.name
 
 -- the words give what the request says
 abbrev pub Asks : List Row → Request → Type 0
-Asks words r = (said r).asks words
+Asks words r = (said_of r).asks words
 
 -- what can be answered to a request: what its command answers, for its own numbers, paths and volume, over the files
 -- that are named, as they are seen, and with what becomes of the files that are written
 abbrev pub IsAnswerTo : Files → Files → Request → Outcome → Type 0
-IsAnswerTo d e r = (said r).answers d e
+IsAnswerTo d e r = (said_of r).answers d e
 
 -- each file holds what it held, except the one that a request writes, or those in the folder that it writes; a text or a
 -- file with new bytes holds what it held even if it is also named for the output
 abbrev pub IsAllElse : Request → Files → Files → Type 0
-IsAllElse r d e = (said r).leaves d e
+IsAllElse r d e = (said_of r).leaves d e
 
 -- the command that was named, with its words, is the request
 abbrev pub IsRequest : Option (Text × List Row) → Request → Type 0

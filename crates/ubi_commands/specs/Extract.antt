@@ -81,9 +81,9 @@ ExtractsOf key s k agrees old new o =
     ExtractsFrom s k agrees old new o × WhereHeld agrees (λ bytes. Extracts (image_of s bytes) key old new o)
 
 -- what a volume of the image's meaning reads
-abbrev pub HasText : Image → VolumeKey → Type 0
-HasText image key = (m : Meant) × (text : List ℕ) × Accepts image m × (read_key m key ≡ Ok text)
+abbrev pub HasVolumeText : Image → VolumeKey → Type 0
+HasVolumeText image key = (m : Meant) × (text : List ℕ) × Accepts image m × (read_key m key ≡ Ok text)
 
 -- whatever a source may hold, the volume can be read
 abbrev pub HasTextIn : VolumeKey → Sizes → Agreed → Type 0
-HasTextIn key s agrees = WhereHeld agrees (λ bytes. HasText (image_of s bytes) key)
+HasTextIn key s agrees = WhereHeld agrees (λ bytes. HasVolumeText (image_of s bytes) key)

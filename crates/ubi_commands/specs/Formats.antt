@@ -26,6 +26,6 @@ side_told format.Text side c = side_line side c
 side_told format.Json side c = json_line (side_data side c)
 
 -- what is printed for a file in which no geometry is found
-abbrev pub undetected_told : Format → Undetected → List ℕ
-undetected_told format.Text c = undetected_line c
-undetected_told format.Json c = json_line (undetected_data c)
+abbrev pub undetected_in : Format → Undetected → List ℕ
+undetected_in format.Text c = undetected_line c
+undetected_in format.Json c = json_line (undetected_data c)

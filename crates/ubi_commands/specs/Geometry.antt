@@ -10,7 +10,7 @@ use Rattle.ubi_detect.specs.declared.detect.Undetected.{Undetected}
 use Rattle.ubi_files.specs.Answer.{Gives, says}
 use Rattle.ubi_json.specs.Geometry.{geometries_data}
 use Rattle.ubi_json.specs.Line.{json_line}
-use Rattle.ubi_commands.specs.Formats.{undetected_told}
+use Rattle.ubi_commands.specs.Formats.{undetected_in}
 use Rattle.ubi_commands.specs.declared.format.Format.{Format}
 use Rattle.ubi_commands.specs.declared.format.Format.TheVariants as format
 use Rattle.ubi_files.specs.declared.outcome.Outcome.{Outcome}
@@ -58,7 +58,7 @@ geometry_told format.Json part n found = json_line (geometries_data part found)
 pub data Detects (format : Format) (part : FilePart) (bytes : List ℕ) : Outcome → Type 0 where
   detected : {o : Outcome} (found : List Detected) → AreDetected bytes found
       → Gives o (says (geometry_told format part (length bytes) found) 0) → Detects format part bytes o
-  undetected : {o : Outcome} (c : Undetected) → IsUndetected bytes c → Gives o (says (undetected_told format c) 1)
+  undetected : {o : Outcome} (c : Undetected) → IsUndetected bytes c → Gives o (says (undetected_in format c) 1)
       → Detects format part bytes o
 
 -- what it answers for any source: what is printed for whatever it may hold; or a cause, which applies to whatever it may hold
@@ -66,7 +66,7 @@ pub data DetectsFrom (format : Format) (part : FilePart) (k : Source) (agrees : 
   detected_from : {o : Outcome} (found : List Detected) → AreDetectedOf agrees found → found ≢ []
       → Gives o (says (geometry_told format part k.size found) 0) → DetectsFrom format part k agrees o
   undetected_from : {o : Outcome} (c : Undetected) → IsDetectError k agrees (error.Undetected c)
-      → Gives o (says (undetected_told format c) 1) → DetectsFrom format part k agrees o
+      → Gives o (says (undetected_in format c) 1) → DetectsFrom format part k agrees o
 
 -- what it answers for a source: the answer for the bytes, whatever the source may hold
 abbrev pub DetectsOf : Format → FilePart → Source → Agreed → Outcome → Type 0

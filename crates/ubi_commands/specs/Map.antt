@@ -2,7 +2,7 @@
 use Rattle.std.specs.Prelude.{◌≡◌, ℕ, List, ◌++◌, IsSome, None, Option, Some, codes, length, option_map}
 use Rattle.ubi_media.specs.Geometry.{Sizes}
 use Rattle.ubi_media.specs.declared.refusal.Refusal.{Refusal}
-use Rattle.ubi_scan.specs.Image.{Image, IsLengthFault, IsSizeFault, IsWhole, IsWholeSize, eraseblocks, image_of}
+use Rattle.ubi_scan.specs.Image.{Image, IsLengthFault, IsSizeFault, IsWholeImage, IsWholeSize, eraseblocks, image_of}
 use Rattle.ubi_scan.specs.Source.{Agreed, Source, WhereHeld}
 use Rattle.ubi_scan.specs.declared.errors.StreamError.TheVariants as stream
 use Rattle.ubi_volume.specs.Accepts.{Accepts, Refuses}
@@ -30,7 +30,7 @@ header_rows s bs = rows (header_letters s bs (length bs))
 pub data Maps (image : Image) : Outcome → Type 0 where
   mapped : {o : Outcome} (a : Seen) → IsSurvey image a → Gives o (says (state_rows a) 0) → Maps image o
   no_blocks : {o : Outcome} (c : Refusal) → IsSizeFault image c → Gives o (says (refusal_line c) 1) → Maps image o
-  refused_map : {o : Outcome} (c : Refusal) → IsWhole image → Refuses image c
+  refused_map : {o : Outcome} (c : Refusal) → IsWholeImage image → Refuses image c
       → Gives o (says (header_rows image.sizes (eraseblocks image) ++ refusal_line c) 1) → Maps image o
 
 -- what it answers for any source: the rows of its survey; or some rows and the cause of its refusal; or the cause alone, if it doesn't
@@ -49,7 +49,7 @@ MapsOf s k agrees o = MapsFrom s k agrees o × WhereHeld agrees (λ bytes. Maps 
 pub data IsPageOf (image : Image) : Option (List ℕ) → Type 0 where
   accepted_page : (a : Seen) (m : Meant) → IsSurvey image a → Accepts image m
       → IsPageOf image (Some (page_of (map_data (eraseblocks image) a m)))
-  refused_page : (c : Refusal) → IsWhole image → Refuses image c
+  refused_page : (c : Refusal) → IsWholeImage image → Refuses image c
       → IsPageOf image (Some (page_of (refused_map_data image.sizes (eraseblocks image) c)))
   no_page : (c : Refusal) → IsSizeFault image c → IsPageOf image None
 

@@ -3,10 +3,10 @@ use Rattle.std.specs.Prelude.{◌≡◌, ℕ, List, ◌++◌, Option, Some, None
 use Rattle.std.specs.Io.KnownBytes.{Keeps}
 use Rattle.std.specs.List.{concat, flat_map}
 use Rattle.ubi_media.specs.Geometry.{Sizes}
-use Rattle.ubi_change.specs.Steps.{after}
+use Rattle.ubi_change.specs.Steps.{blocks_after}
 use Rattle.ubi_change.specs.declared.step.Step.{Step}
 use Rattle.ubi_change.specs.declared.step.Step.TheVariants as step
-use Rattle.ubi_scan.specs.Image.{Image, image_of, in_image}
+use Rattle.ubi_scan.specs.Image.{Image, image_of, of_blocks}
 use Rattle.ubi_scan.specs.Source.{Agreed}
 use Rattle.ubi_volume.specs.Accepts.{Accepts}
 use Rattle.ubi_volume.specs.Meant.{Meant}
@@ -40,7 +40,7 @@ steps_done steps None = length steps
 
 -- the bytes of an image after the first k steps
 abbrev pub cut_bytes : Image → List Step → ℕ → List ℕ
-cut_bytes image steps k = concat (in_image after image steps k)
+cut_bytes image steps k = concat (of_blocks blocks_after image steps k)
 
 -- the lines of the whole plan, and the image after those of its steps that are done
 abbrev pub plan_answer : Image → List Step → Option ℕ → Answer

@@ -66,22 +66,22 @@ TellsNothing side k agrees o = (c : Undetected) × IsDetectError k agrees (error
     × Gives o (says (undetected_side_line side c) 1)
 
 -- what is answered if no dump is found: the line of a part of a file that can't be opened; or the line of the cause
-abbrev pub IsUntold : Files → List ℕ → List ℕ → Asked → Outcome → Type 0
-IsUntold d path side (asked.Given dump) o = ⊥
-IsUntold d path side (asked.Sought sought) o = OfFile d (greatest_dump sought.part) path (λ _. TellsNothing side) o
+abbrev pub IsUntoldDump : Files → List ℕ → List ℕ → Asked → Outcome → Type 0
+IsUntoldDump d path side (asked.Given dump) o = ⊥
+IsUntoldDump d path side (asked.Sought sought) o = OfFile d (greatest_dump sought.part) path (λ _. TellsNothing side) o
 
 -- what a command can answer over one image file: if no dump is found, that, and no file is changed; or the answer for the dump
 pub data OfAsked (d e : Files) (asked : Asked) (path : List ℕ) (answers : Sizes → Source → Agreed → Outcome → Type 0) : Outcome
     → Type 0 where
-  untold : {o : Outcome} → IsUntold d path [] asked o → AllStay d e → OfAsked d e asked path answers o
+  untold : {o : Outcome} → IsUntoldDump d path [] asked o → AllStay d e → OfAsked d e asked path answers o
   of_dump : {o : Outcome} (dump : Dump) → IsDump d path asked dump → OfFile d dump path answers o
       → OfAsked d e asked path answers o
 
 -- what it can answer over two: if no dump is found in one, that; the line of two geometries, if they differ; or the answer for both
 pub data OfBoth (d : Files) (asked : Asked) (left right : List ℕ)
     (answers : Sizes → Source → Agreed → Source → Agreed → Outcome → Type 0) : Outcome → Type 0 where
-  no_left : {o : Outcome} → IsUntold d left (codes "left ") asked o → OfBoth d asked left right answers o
-  no_right : {o : Outcome} (here : Dump) → IsDump d left asked here → IsUntold d right (codes "right ") asked o
+  no_left : {o : Outcome} → IsUntoldDump d left (codes "left ") asked o → OfBoth d asked left right answers o
+  no_right : {o : Outcome} (here : Dump) → IsDump d left asked here → IsUntoldDump d right (codes "right ") asked o
       → OfBoth d asked left right answers o
   unlike : {o : Outcome} (here there : Dump) → IsDump d left asked here → IsDump d right asked there → here.numbers ≢ there.numbers
       → Gives o (says (unlike_line (sizes_of here.numbers) (sizes_of there.numbers)) 1) → OfBoth d asked left right answers o

@@ -7,11 +7,11 @@ use Rattle.ubi_change.specs.Avoided.{Avoided, nothing}
 use Rattle.ubi_change.specs.Pages.{programmed}
 use Rattle.ubi_change.specs.ErrorTexts.{rename_refusal_text}
 use Rattle.ubi_change.specs.RenamePlan.{renamed_pages}
-use Rattle.ubi_change.specs.RenamePlanned.{IsPlannedRename, IsRenameError, IsRenameOf, IsRenameRefusal}
+use Rattle.ubi_change.specs.RenamePlanned.{IsPlannedRename, IsRenameError, RenameFacts, IsRenameRefusal}
 use Rattle.ubi_change.specs.Renamed.{renamed}
-use Rattle.ubi_change.specs.declared.plan_error.PlanError.TheVariants as error
-use Rattle.ubi_change.specs.declared.rename_refusal.RenameRefusal.{RenameRefusal}
-use Rattle.ubi_change.specs.declared.rename_refusal.RenameRefusal.TheVariants as refusal
+use Rattle.ubi_change.specs.declared.errors.PlanError.TheVariants as error
+use Rattle.ubi_change.specs.declared.errors.RenameRefusal.{RenameRefusal}
+use Rattle.ubi_change.specs.declared.errors.RenameRefusal.TheVariants as refusal
 use Rattle.ubi_change.specs.declared.step.Step.{Step}
 use Rattle.ubi_compose.specs.Words.{shown_name}
 use Rattle.ubi_scan.specs.Image.{Image, image_of}
@@ -42,7 +42,7 @@ CutIsNamed image id name steps k =
 -- means, or the line of the cause for which nothing is planned; or that the word shows no name
 pub data Renames (image : Image) (id : ℕ) (word : List ℕ) (stop : Option ℕ) : Outcome → Type 0 where
   planned : {o : Outcome} (name : List ℕ) (steps : List Step) → shown_name word ≡ Some name
-      → IsRenameOf image nothing id name steps → Gives o (plan_answer image steps stop)
+      → RenameFacts image nothing id name steps → Gives o (plan_answer image steps stop)
       → CutIsNamed image id name steps (steps_done steps stop) → Renames image id word stop o
   nameless : {o : Outcome} → shown_name word ≡ None → Gives o (says (refused_line (rename_refusal_text refusal.BadName)) 1)
       → Renames image id word stop o

@@ -2,7 +2,7 @@
 use Rattle.std.specs.Prelude.{ℕ, ◌<◌, ◌≤◌, List, length}
 use Rattle.ubi_media.specs.Geometry.{Sizes}
 use Rattle.ubi_media.specs.declared.refusal.Refusal.{Refusal}
-use Rattle.ubi_scan.specs.Image.{Image, IsLengthFault, IsSizeFault, IsWhole, IsWholeSize, block, eraseblocks, image_of}
+use Rattle.ubi_scan.specs.Image.{Image, IsLengthFault, IsSizeFault, IsWholeImage, IsWholeSize, block, eraseblocks, image_of}
 use Rattle.ubi_scan.specs.Source.{Agreed, Source, WhereHeld, blocks_in}
 use Rattle.ubi_files.specs.Answer.{Gives, says}
 use Rattle.ubi_map.specs.Headers.{AreHeaderLines, block_lines}
@@ -14,8 +14,8 @@ use Rattle.ubi_files.specs.declared.outcome.Outcome.{Outcome}
 -- doesn't exist, or the lines of its headers
 pub data Shows (image : Image) (p : ℕ) : Outcome → Type 0 where
   no_image : {o : Outcome} (c : Refusal) → IsSizeFault image c → Gives o (says (refusal_line c) 1) → Shows image p o
-  no_block : {o : Outcome} → IsWhole image → length (eraseblocks image) ≤ p → Gives o (says no_block_line 1) → Shows image p o
-  shown : {o : Outcome} → IsWhole image → p < length (eraseblocks image)
+  no_block : {o : Outcome} → IsWholeImage image → length (eraseblocks image) ≤ p → Gives o (says no_block_line 1) → Shows image p o
+  shown : {o : Outcome} → IsWholeImage image → p < length (eraseblocks image)
       → Gives o (says (block_lines image.sizes (block (eraseblocks image) p)) 0) → Shows image p o
 
 -- what it answers for any source: the line of one that doesn't have the size of an image, that of an eraseblock that

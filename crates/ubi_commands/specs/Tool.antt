@@ -7,7 +7,7 @@ use Rattle.clap.specs.Simple.{Shape, new_rule, new_shape}
 use Rattle.clap.specs.Walk.{Row, Rule, Text, first_of}
 use Rattle.clap.specs.declared.builder.value_parser.ValueParser.TheVariants as parser
 use Rattle.ubi_files.specs.BadBlocks.{is_block_list}
-use Rattle.ubi_commands.specs.CommandLine.{gives, gives_no_geometry}
+use Rattle.ubi_commands.specs.CommandLine.{gives_word, gives_no_geometry}
 
 -- an argument that has to be given
 abbrev pub needed : Rule → Rule
@@ -96,7 +96,7 @@ finds name = reads_dump name && not (plans name)
 -- the words of such a command give both sizes, or nothing of a geometry except how many eraseblocks there are
 abbrev pub HasGeometryOrNone : Option (Text × List Row) → Type 0
 HasGeometryOrNone named = (name : Text) (words : List Row) → named ≡ Some (name, words) → finds name ≡ true
-    → ((gives words (codes "peb") && gives words (codes "page")) || gives_no_geometry words) ≡ true
+    → ((gives_word words (codes "peb") && gives_word words (codes "page")) || gives_no_geometry words) ≡ true
 
 -- in the words of a command that plans, what is said about Blank eraseblocks is that they are kept
 abbrev pub HasBlankWord : Option (Text × List Row) → Type 0

@@ -23,7 +23,7 @@ use Rattle.ubi_config.specs.declared.volume.ConfigVolume.{ConfigVolume}
 use Rattle.ubi_files.specs.Answer.{Gives, says}
 use Rattle.ubi_files.specs.Disk.{AllStay, Files, IsKept, OthersStay, fresh}
 use Rattle.ubi_files.specs.Lines.{file_line, refusal_line}
-use Rattle.ubi_json.specs.Words.{shown, shown_byte}
+use Rattle.ubi_json.specs.Words.{shown, byte_shown}
 use Rattle.ubi_commands.specs.List.{amount_word}
 use Rattle.ubi_files.specs.declared.outcome.Outcome.{Outcome}
 
@@ -33,7 +33,7 @@ Listed = ℕ × VolumeRecord
 
 -- a byte of a volume's name in the name of its file: as it is shown, except a slash, which is given by its digits
 abbrev pub file_byte : ℕ → List ℕ
-file_byte b = if b == 0x2F then codes "\\x2f" else shown_byte b
+file_byte b = if b == 0x2F then codes "\\x2f" else byte_shown b
 
 -- the number of a volume, a hyphen, and the volume's name
 abbrev pub number_and_name : Listed → List ℕ
@@ -71,12 +71,12 @@ abbrev pub listed : Meant → List Listed
 listed m = entries (records_of m).of
 
 -- bytes were written to a new file: it received them, and each other path holds what it held
-abbrev pub IsWritten : List ℕ → List ℕ → Files → Files → Type 0
-IsWritten text path old new = (received : Option (List ℕ)) × Appends (fresh old) received text × IsKept old new path received
+abbrev pub IsNewFile : List ℕ → List ℕ → Files → Files → Type 0
+IsNewFile text path old new = (received : Option (List ℕ)) × Appends (fresh old) received text × IsKept old new path received
 
 -- a volume was unpacked: what it reads was written to a new file; if it can't be read, no file is written
 abbrev pub IsUnpacked : Result (List ℕ) ReadError → List ℕ → Files → Files → Type 0
-IsUnpacked (Ok text) path old new = IsWritten text path old new
+IsUnpacked (Ok text) path old new = IsNewFile text path old new
 IsUnpacked (Err e) path old new = new ≡ old
 
 -- a volume as the config in the folder describes it: with its file, if it can be read
@@ -115,7 +115,7 @@ pub record AreUnpackedUntil (read : ℕ → Result (List ℕ) ReadError) (dir : 
 -- a volume's file that can't be written, or of the config
 pub data Unpacks (image : Image) (dir : List ℕ) (old new : Files) : Outcome → Type 0 where
   unpacked : {o : Outcome} (m : Meant) (between : Files) → Accepts image m → AreUnpacked (read_volume m) dir (listed m) old between
-      → IsWritten (folder_config m) (config_path dir) between new
+      → IsNewFile (folder_config m) (config_path dir) between new
       → Gives o (says (unpacked_lines (volume_len m) (listed m)) (unpacked_status (volume_len m) (listed m)))
       → Unpacks image dir old new o
   refused : {o : Outcome} (c : Refusal) → Refuses image c → Gives o (says (refusal_line c) 1) → AllStay old new

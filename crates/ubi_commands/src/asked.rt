@@ -3,7 +3,7 @@
 ghost use Rattle.std.specs.Option.{ForSome};
 ghost use Rattle.std.specs.Prelude.{◌≡◌, ◌↔◌, IsTrue, true};
 ghost use Rattle.ubi_files.specs.BadBlocks.{is_block_list};
-ghost use Rattle.ubi_commands.specs.CommandLine.{AsksAsked, AsksBlank, AsksChange, AsksDump, AsksExtract, AsksFormat, AsksKey, AsksNewImage, AsksNumbers, AsksPart, AsksPaths, AsksPlan, AsksRename, AsksSought, HasNumber, HasText, MayHaveLong, MayHaveNumber, MayHaveText, gives, gives_no_geometry};
+ghost use Rattle.ubi_commands.specs.CommandLine.{AsksAsked, AsksBlank, AsksChange, AsksDump, AsksExtract, AsksFormat, AsksKey, AsksNewImage, AsksNumbers, AsksPart, AsksPaths, AsksPlan, AsksRename, AsksSought, HasNumber, HasText, MayHaveLong, MayHaveNumber, MayHaveText, gives_word, gives_no_geometry};
 ghost use Rattle.ubi_commands.specs.inner.CommandLine.{IsOneOf};
 ghost use Rattle.ubi_commands.specs.inner.CommandLine.{words_in};
 
@@ -229,7 +229,7 @@ pub fn gives_no_geometry(matches: &ArgMatches<'_>) -> bool
 
 /// Whether the words give anything under a name.
 fn gives(matches: &ArgMatches<'_>, name: &str) -> bool
-    ensures { result ≡ gives (words_in matches.now) name.now }
+    ensures { result ≡ gives_word (words_in matches.now) name.now }
 {
     matches.get_str(name).is_some()
 }

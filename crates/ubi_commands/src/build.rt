@@ -5,7 +5,7 @@ ghost use Rattle.ubi_compose.specs.Building.{WhereNotBegun};
 ghost use Rattle.ubi_compose.specs.Built.{HaveMeaning};
 ghost use Rattle.ubi_config.specs.Config.{first_fault, sections_of};
 ghost use Rattle.ubi_config.specs.declared.section.Section.{Section};
-ghost use Rattle.ubi_commands.specs.Build.{Builds, BuildsParts, numbered};
+ghost use Rattle.ubi_commands.specs.Build.{Builds, BuildsParts, numbered_parts};
 ghost use Rattle.ubi_commands.specs.inner.Gathering.{AreUnread};
 ghost use Rattle.ubi_files.specs.Disk.{AllStay, OthersStay, Stays, fresh};
 ghost use Rattle.ubi_files.specs.Late.{contents_of};
@@ -16,7 +16,7 @@ ghost use Rattle.ubi_commands.specs.inner.Built.{AreAnswers, IsNotBegun, IsToldO
 
 use crate::asked::NewImage;
 use crate::compose::{meaning_line, room_line};
-use crate::gathering::{ConfigPaths, Gathered, config_line, gather};
+use crate::gathered::{ConfigPaths, Gathered, config_line, gather};
 use crate::lines::{LONGEST_COUNT_LINE, put_blocks_line};
 use crate::output_file::{keep_file, unwritten_line};
 use crate::spec_file::load_spec;
@@ -163,7 +163,7 @@ fn build_gathered<D: Disk>(
     asked: &NewImage<'_>,
 ) -> Result<Outcome, AllocError>
     requires total { gathered.total ≡ sum_by (λ x. x.len) gathered.files.items }
-    ensures answer { (sections : List Section) → AreUnread asked.now.from.now sections gathered.unread.items → IfOk result (BuildsParts (D.files disk.old) (D.files disk.new) asked.now.from.now asked.now.out.now sections (numbered geometry.now asked.now.image_seq gathered.parts.items) (row_bytes (map (λ f. D.Placed.bytes f.file) gathered.files.items)) asked.now.spares) }
+    ensures answer { (sections : List Section) → AreUnread asked.now.from.now sections gathered.unread.items → IfOk result (BuildsParts (D.files disk.old) (D.files disk.new) asked.now.from.now asked.now.out.now sections (numbered_parts geometry.now asked.now.image_seq gathered.parts.items) (row_bytes (map (λ f. D.Placed.bytes f.file) gathered.files.items)) asked.now.spares) }
     ensures others { OthersStay (D.files disk.old) (D.files disk.new) asked.now.out.now }
     ensures from { Stays (D.files disk.old) (D.files disk.new) asked.now.from.now }
     ensures memory { OnErr result (AllStay (D.files disk.old) (D.files disk.new)) }

@@ -25,7 +25,7 @@ ghost use Rattle.ubi_json.specs.Differences.{are_none};
 
 use crate::asked::Asked;
 use crate::differences::put_differences;
-use crate::finding::{KnownDump, find_dump, open_known};
+use crate::dump::{KnownDump, find_dump, open_known};
 use crate::format::{Format, side_told, told_in};
 use crate::lines::{put_comparison, unlike_line};
 use std::alloc::{AllocError, Global};

@@ -7,7 +7,7 @@ ghost use Rattle.ubi_scan.specs.Source.{Narrows, WhereHeld};
 ghost use Rattle.ubi_files.specs.AfterRun.{WhereNotDone, after_run};
 ghost use Rattle.ubi_commands.specs.Extract.{Extracts, ExtractsFrom, IsExtractError, RefusesToRead, read_refusal};
 ghost use Rattle.ubi_commands.specs.inner.Extracting.{IsExtractFault};
-ghost use Rattle.ubi_commands.specs.inner.Ended.{IsUntold};
+ghost use Rattle.ubi_commands.specs.inner.Ended.{IsHidden};
 ghost use Rattle.ubi_volume.specs.Places.{ArePlacesOf};
 
 use crate::lines::{LONGEST_COUNT_LINE, put_bytes_line};
@@ -26,7 +26,7 @@ use ubi_volume::{Places, ReadError, attach_places, write_places};
 /// A fault of the machine, which has no line.
 fn unread(alloc: Global, error: ReadError) -> Result<Outcome, ToolError>
     ensures ok { IfOk result (RefusesToRead error) }
-    ensures err { IfErr result (IsUntold error) }
+    ensures err { IfErr result (IsHidden error) }
 {
     match error {
         ReadError::Write(_) => Err(ToolError::Write),

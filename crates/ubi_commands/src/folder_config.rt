@@ -5,7 +5,7 @@ ghost use Rattle.std.specs.Prelude.{◌≡◌, All, IfErr, IfOk, None, OnOk};
 ghost use Rattle.ubi_media.specs.Record.{rec_fault};
 ghost use Rattle.ubi_volume.specs.Extract.{extent_in, extent_len};
 ghost use Rattle.ubi_files.specs.Disk.{OthersStay};
-ghost use Rattle.ubi_commands.specs.Unpack.{IsWritten, all_described, described};
+ghost use Rattle.ubi_commands.specs.Unpack.{IsNewFile, all_described, described};
 ghost use Rattle.ubi_commands.specs.inner.Folder.{IsConfigOf, config_in};
 
 use crate::output_file::unwritten_line;
@@ -108,7 +108,7 @@ pub(crate) fn folder_config(
 ///
 /// `Write` if the file can't be made, or if a write failed.
 pub(crate) fn write_new<D: Disk>(disk: &mut D, path: &str, text: &[u8]) -> Result<(), ToolError>
-    ensures written { OnOk result (IsWritten text.now path.now (D.files disk.old) (D.files disk.new)) }
+    ensures written { OnOk result (IsNewFile text.now path.now (D.files disk.old) (D.files disk.new)) }
     ensures others { OthersStay (D.files disk.old) (D.files disk.new) path.now }
     ensures failed { IfErr result (λ e. e ≡ ToolError.Write) }
 {

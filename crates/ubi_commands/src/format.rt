@@ -1,7 +1,7 @@
 //! The formats in which commands answer.
 
 ghost use Rattle.std.specs.Prelude.{◌≡◌, IfOk};
-ghost use Rattle.ubi_commands.specs.Formats.{refusal_told, side_told, undetected_told};
+ghost use Rattle.ubi_commands.specs.Formats.{refusal_told, side_told, undetected_in};
 ghost use Rattle.ubi_commands.specs.inner.Formatted.{IsLineIn, IsToldIn};
 
 use crate::lines::{side_line, undetected_line};
@@ -52,7 +52,7 @@ pub fn undetected_told(
     format: Format,
     cause: Undetected,
 ) -> Result<Vec<u8>, AllocError>
-    ensures { IfOk result (λ text. text.items ≡ undetected_told format cause) }
+    ensures { IfOk result (λ text. text.items ≡ undetected_in format cause) }
 {
     match format {
         Format::Text => undetected_line(alloc, cause),

@@ -14,7 +14,7 @@ ghost use Rattle.ubi_commands.specs.Reads.{format_of, reads};
 
 use crate::asked::Asked;
 use crate::check::run_check_from;
-use crate::finding::{KnownDump, find_dump, open_known};
+use crate::dump::{KnownDump, find_dump, open_known};
 use crate::format::{Format, told_in};
 use crate::geometry::run_geometry_from;
 use crate::list::run_list_from;

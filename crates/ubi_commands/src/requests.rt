@@ -15,7 +15,7 @@ use crate::asked::{
 use crate::build::build_file;
 use crate::comparison::{Comparison, compare_files};
 use crate::compose::compose_file;
-use crate::finding::KnownDump;
+use crate::dump::KnownDump;
 use crate::format::Format;
 use crate::map::map_file;
 use crate::planners::{change_file, rename_file};

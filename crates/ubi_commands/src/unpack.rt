@@ -21,7 +21,7 @@ ghost use Rattle.ubi_commands.specs.inner.Ended.{IsTold};
 ghost use Rattle.ubi_commands.specs.inner.Folder.{AreFilesOf, Ends, IsFileOf};
 
 use crate::asked::{Asked, Paths};
-use crate::finding::{KnownDump, find_dump, open_known};
+use crate::dump::{KnownDump, find_dump, open_known};
 use crate::folder_config::{folder_config, write_new};
 use crate::list::{put_amount, put_shown};
 use crate::output_file::unwritten_line;

@@ -21,8 +21,8 @@ ghost use Rattle.ubi_files.specs.declared.dump.Dump.{Dump};
 
 use crate::asked::{Asked, Paths};
 use crate::change::{NewBytes, run_change_from};
+use crate::dump::{KnownDump, find_dump, open_known_beside};
 use crate::extract::run_extract_from;
-use crate::finding::{KnownDump, find_dump, open_known_beside};
 use crate::normalise::run_normalise;
 use crate::output_file::{keep_file, unwritten_line};
 use crate::rename::run_rename_from;

@@ -1,6 +1,6 @@
 -- What is found shows more and more differences.
 use Rattle.ubi_compare.proofs.Prelude.{◌≡◌, ◌≢◌, Bool, true, false, List, [], ◌∷◌, ◌++◌, append-nil, append_assoc, refl, ap, sym, ◌∙◌, subst, Difference, Found, Adds, Tells}
-use Rattle.ubi_compare.proofs.Apart.{both_none, none_both}
+use Rattle.ubi_compare.proofs.NoDifferences.{both_none, none_both}
 
 -- some were told, and more are behind them
 tells_more : (brief : Bool) (old new more ds : List Difference) → new ≡ old ++ more → Tells brief old ds

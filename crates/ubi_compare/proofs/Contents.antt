@@ -3,7 +3,7 @@ use Rattle.ubi_compare.proofs.Prelude.{◌≡◌, ◌≢◌, ℕ, zero, suc, ◌
 use Rattle.std.specs.FinMap as finite
 use Rattle.ubi_media.specs.declared.vid.VolKind.TheVariants as kind
 use Rattle.ubi_volume.specs.declared.content.Content.TheVariants as content
-use Rattle.ubi_compare.proofs.Apart.{both_none, chosen, map_none, none_both, none_pass, none_unless, pass_none, ranges_none, unless_none}
+use Rattle.ubi_compare.proofs.NoDifferences.{both_none, chosen, map_none, none_both, none_pass, none_unless, pass_none, ranges_none, unless_none}
 use Rattle.ubi_compare.proofs.Fields.{IsOneRecord, number_itself, one_record, record_itself, text_itself}
 use Rattle.ubi_compare.specs.declared.difference.Condition.TheVariants as condition
 use Rattle.ubi_compare.specs.declared.difference.Difference.TheVariants as difference

@@ -1,10 +1,10 @@
 -- Where two volumes differ, by their cases.
-use Rattle.ubi_compare.proofs.Prelude.{◌≡◌, ◌≢◌, ℕ, ◌+◌, Bool, true, false, List, [], ◌∷◌, ◌++◌, refl, ap, ap₂, sym, ◌∙◌, subst, arith, append-nil, append_assoc, ◌==◌, unsigned_Decides, flat_map-append, range_with_len, Err, None, Ok, Some, flat_map, if◌then◌else◌, Sizes, slots, usable, VolumeRecord, image_of, same_Ok, entry_of, has_entry, no_volume, places_of, extent_of, Meant, case_of, leb_read, IsSurvey, Seen, Content, Volume, ReadError, Extent, PlaceContent, condition_of, content_differences, differences, leb_differences, lebs_apart, length_differences, ranges_after, read_apart, record_differences, same_condition, unless, volume_differences, Condition, Difference, Found, Adds, told_of, case_condition, case_lengths, first_differences}
+use Rattle.ubi_compare.proofs.Prelude.{◌≡◌, ◌≢◌, ℕ, ◌+◌, Bool, true, false, List, [], ◌∷◌, ◌++◌, refl, ap, ap₂, sym, ◌∙◌, subst, arith, append-nil, append_assoc, ◌==◌, unsigned_Decides, flat_map-append, range_with_len, Err, None, Ok, Some, flat_map, if◌then◌else◌, Sizes, slots, usable, VolumeRecord, image_of, same_Ok, entry_of, has_entry, no_volume, places_of, extent_of, Meant, case_of, leb_read, IsSurvey, Seen, Content, Volume, ReadError, Extent, PlaceContent, condition_of, content_differences, differences, leb_differences, lebs_apart, length_differences, ranges_after, read_apart, record_differences, same_condition, unless, volume_differences, Condition, Difference, Found, Adds, ranges_told, case_condition, case_lengths, first_differences}
 use Rattle.std.specs.FinMap as finite
 use Rattle.ubi_volume.specs.declared.content.Content.TheVariants as content
 use Rattle.ubi_volume.specs.declared.places.PlaceContent.TheVariants as place
 use Rattle.ubi_compare.proofs.Adding.{adds_more}
-use Rattle.ubi_compare.proofs.Apart.{not_chosen, pass_none}
+use Rattle.ubi_compare.proofs.NoDifferences.{not_chosen, pass_none}
 use Rattle.ubi_compare.proofs.ReadApart.{apart_from, range_more}
 use Rattle.ubi_compare.specs.declared.difference.Difference.TheVariants as difference
 use Rattle.ubi_compare.specs.declared.difference.Side.TheVariants as side
@@ -47,8 +47,8 @@ module _ (s : Sizes) (id : ℕ) (v w : Volume) where
   none_told : ((n : ℕ) → read_apart (leb_read s v.entry n v.content) (leb_read s w.entry n w.content) ≡ false)
       → leb_differences s id v w ≡ []
   none_told none =
-      either_none (usable s v.entry == usable s w.entry) (told_of id (ranges_after None (lebs_apart s v w v.entry.reserved)))
-      (ap (λ ns. told_of id (ranges_after None ns))
+      either_none (usable s v.entry == usable s w.entry) (ranges_told id (ranges_after None (lebs_apart s v w v.entry.reserved)))
+      (ap (λ ns. ranges_told id (ranges_after None ns))
       (pass_none (λ n. read_apart (leb_read s v.entry n v.content) (leb_read s w.entry n w.content)) 0 v.entry.reserved
       (λ k low high. none k)))
 
@@ -93,7 +93,7 @@ module _ (s : Sizes) (id : ℕ) (v w : Volume) where
     pub other_sizes : (r q : VolumeRecord) (one other : Extent) → v.entry ≡ r → w.entry ≡ q → extent_of s r a ≡ Ok one
         → extent_of s q b ≡ Ok other → one.size ≢ other.size → leb_differences s id v w ≡ []
     other_sizes r q one other here there first second apart =
-        not_chosen (usable s v.entry == usable s w.entry) (told_of id (ranges_after None (lebs_apart s v w v.entry.reserved))) []
+        not_chosen (usable s v.entry == usable s w.entry) (ranges_told id (ranges_after None (lebs_apart s v w v.entry.reserved))) []
         (by_test (usable s v.entry == usable s w.entry) refl)
       where
         by_test : (test : Bool) → (usable s v.entry == usable s w.entry) ≡ test → test ≡ false

@@ -2,7 +2,7 @@
 use Rattle.ubi_compare.proofs.Prelude.{◌≡◌, ℕ, ◌==◌, true, List, [], ◌++◌, refl, false≢true, unsigned_Decides, same_bytes, VolumeRecord, VolKind, bytes_Decides, record_differences, same_kind, unless, Difference, Found, Adds}
 use Rattle.ubi_media.specs.declared.vid.VolKind.TheVariants as kind
 use Rattle.ubi_compare.proofs.Adding.{adds_more}
-use Rattle.ubi_compare.proofs.Apart.{both_none, none_both, none_unless, unless_none}
+use Rattle.ubi_compare.proofs.NoDifferences.{both_none, none_both, none_unless, unless_none}
 use Rattle.ubi_compare.specs.declared.difference.Difference.TheVariants as difference
 
 kind_is : (a b : VolKind) → same_kind a b ≡ true → a ≡ b

@@ -1,7 +1,7 @@
 -- There is no difference between two meanings exactly if they are the same.
 use Rattle.ubi_compare.proofs.Prelude.{◌≡◌, ℕ, ◌≤◌, inl, inr, [], refl, sym, ◌∙◌, subst, arith, ◌==◌, cases_lt, nat_cmp_total, unsigned_Decides, nat_cmp-IsAntisymmetric, IfSome, None, Option, Some, Sizes, slots, IsMeaning, IsVolume, Meant, Volume, differences, unless, volume_differences, NothingDiffers}
 use Rattle.std.specs.FinMap as finite
-use Rattle.ubi_compare.proofs.Apart.{both_none, none_both, none_told, none_unless, told_none, unless_none}
+use Rattle.ubi_compare.proofs.NoDifferences.{both_none, none_both, none_told, none_unless, told_none, unless_none}
 use Rattle.ubi_compare.proofs.Contents.{one_slot, slot_itself}
 use Rattle.ubi_compare.specs.declared.difference.Difference.TheVariants as difference
 

@@ -13,7 +13,7 @@ pub use Rattle.std.specs.List.{range_with_len}
 pub use Rattle.std.specs.Option.{option_copied}
 pub use Rattle.std.specs.Ordering.{nat_cmp}
 pub use Rattle.std.specs.Prelude.{Err, IfSome, IsTrue, None, Ok, Option, Result, Some, filter, flat_map, if◌then◌else◌, min, nat_lt, ◌↔◌}
-pub use Rattle.ubi_compose.proofs.Form.{normal_form}
+pub use Rattle.ubi_compose.proofs.NormalForm.{normal_form}
 pub use Rattle.ubi_media.proofs.Records.{usable_some}
 pub use Rattle.ubi_media.specs.Fields.{blank, same_bytes}
 pub use Rattle.ubi_media.specs.Geometry.{IsGeometry, Sizes, leb_size, slots}
@@ -22,7 +22,7 @@ pub use Rattle.ubi_media.specs.declared.record.VolumeRecord.{VolumeRecord}
 pub use Rattle.ubi_media.specs.declared.refusal.Refusal.{Refusal}
 pub use Rattle.ubi_media.specs.declared.vid.VolKind.{VolKind}
 pub use Rattle.ubi_scan.proofs.InMemory.{still}
-pub use Rattle.ubi_scan.proofs.Narrowed.{source_narrowed}
+pub use Rattle.ubi_scan.proofs.NarrowedSource.{source_narrowed}
 pub use Rattle.ubi_scan.specs.Image.{IsLengthFault, IsWholeSize, image_of}
 pub use Rattle.ubi_scan.specs.Source.{Agreed, IsSource, Narrows, Source, WhereHeld, blocks_in, blocks_of, holds, memory, memory_sized}
 pub use Rattle.ubi_scan.specs.Stream.{IsReadFault}
@@ -34,7 +34,7 @@ pub use Rattle.ubi_volume.proofs.Equal.{bytes_Decides, record_Decides}
 pub use Rattle.ubi_volume.proofs.Extracted.{leb_is, piece_is, same_Ok}
 pub use Rattle.ubi_volume.proofs.OfSurvey.{entry_of, has_entry, no_volume, placed_of, places_of, survey_narrowed}
 pub use Rattle.ubi_volume.proofs.OfTexts.{piece_text, text_case}
-pub use Rattle.ubi_volume.proofs.One.{kept_alike, outside}
+pub use Rattle.ubi_volume.proofs.OneMeaning.{kept_alike, outside}
 pub use Rattle.ubi_volume.proofs.Pieces.{pieces_few, share_more, shares_all}
 pub use Rattle.ubi_volume.proofs.VolumeAt.{content_has, reads_of}
 pub use Rattle.ubi_volume.specs.Accepts.{Accepts, Refuses}
@@ -64,6 +64,6 @@ pub use Rattle.ubi_compare.specs.declared.ranges.Ranges.{Ranges}
 pub use Rattle.ubi_compare.specs.declared.sides.OneSide.{OneSide}
 pub use Rattle.ubi_compare.specs.declared.texts.Texts.{Texts}
 pub use Rattle.ubi_compare.specs.inner.Found.{Adds, Tells}
-pub use Rattle.ubi_compare.specs.inner.Ranges.{AddsLeb, HaveFound, HaveTold, told_of, told_with}
+pub use Rattle.ubi_compare.specs.inner.Ranges.{AddsLeb, HaveFound, HaveTold, ranges_told, told_with}
 pub use Rattle.ubi_compare.specs.inner.Sides.{IsSideOf, IsSidesError, OfMeanings, OfVolumes, case_condition, case_lengths, first_differences}
-pub use Rattle.ubi_compare.specs.inner.Texts.{ArePieces, AreTexts, AreToldApart, AreWhole, IsText}
+pub use Rattle.ubi_compare.specs.inner.Texts.{ArePieces, AreReadTexts, AreToldApart, AreWholeTexts, IsText}

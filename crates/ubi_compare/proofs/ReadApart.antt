@@ -1,9 +1,9 @@
 -- The LEBs of a volume that are read differently, by their places.
-use Rattle.ubi_compare.proofs.Prelude.{◌≡◌, ◌≢◌, ℕ, zero, suc, ◌+◌, ◌*◌, ◌-◌, ◌<◌, ◌≤◌, Bool, true, false, cond, not, inl, inr, List, [], ◌∷◌, ◌++◌, append-nil, append_assoc, length, refl, ap, ap₂, sym, ◌∙◌, subst, arith, ◌==◌, false≢true, cases_lt, le-ltb, filter-append, unsigned_Decides, range_with_len, Err, IsTrue, None, Ok, Result, Some, filter, min, nat_lt, ◌↔◌, same_bytes, Sizes, rec_fault, usable, VolumeRecord, usable_some, image_of, Agreed, Source, bytes_Decides, leb_is, piece_is, same_Ok, placed_of, places_of, pieces_few, content_has, reads_of, extent_of, leb_bytes, share_len, Fits, pieces, share, case_of, leb_read, leb_text, IsSurvey, Seen, Content, Volume, ReadError, Extent, PlaceContent, leb_differences, lebs_apart, ranges_after, read_apart, Difference, Ranges, OneSide, Tells, IsSideOf, HaveFound, HaveTold, AddsLeb, told_of, told_with}
+use Rattle.ubi_compare.proofs.Prelude.{◌≡◌, ◌≢◌, ℕ, zero, suc, ◌+◌, ◌*◌, ◌-◌, ◌<◌, ◌≤◌, Bool, true, false, cond, not, inl, inr, List, [], ◌∷◌, ◌++◌, append-nil, append_assoc, length, refl, ap, ap₂, sym, ◌∙◌, subst, arith, ◌==◌, false≢true, cases_lt, le-ltb, filter-append, unsigned_Decides, range_with_len, Err, IsTrue, None, Ok, Result, Some, filter, min, nat_lt, ◌↔◌, same_bytes, Sizes, rec_fault, usable, VolumeRecord, usable_some, image_of, Agreed, Source, bytes_Decides, leb_is, piece_is, same_Ok, placed_of, places_of, pieces_few, content_has, reads_of, extent_of, leb_bytes, share_len, Fits, pieces, share, case_of, leb_read, leb_text, IsSurvey, Seen, Content, Volume, ReadError, Extent, PlaceContent, leb_differences, lebs_apart, ranges_after, read_apart, Difference, Ranges, OneSide, Tells, IsSideOf, HaveFound, HaveTold, AddsLeb, ranges_told, told_with}
 use Rattle.std.specs.FinMap as finite
 use Rattle.ubi_volume.specs.declared.content.Content.TheVariants as content
 use Rattle.ubi_volume.specs.declared.errors.ReadError.TheVariants as error
-use Rattle.ubi_compare.proofs.Apart.{both_none, chosen, map_none, not_chosen, pass_none, ranges_none}
+use Rattle.ubi_compare.proofs.NoDifferences.{both_none, chosen, map_none, not_chosen, pass_none, ranges_none}
 use Rattle.ubi_compare.proofs.Contents.{dynamic_leb, none_apart, static_leb}
 use Rattle.ubi_compare.specs.declared.difference.Difference.TheVariants as difference
 
@@ -135,25 +135,25 @@ module _ (s : Sizes) (id : ℕ) (v w : Volume) (one other : Extent) (a b : ℕ �
       ∙ sym (passed_more apart count (v.entry.reserved - count))
       ∙ ap (λ n. lebs_apart s v w n) total
 
-  listed : (n : ℕ) → n ≡ count → told_of id (ranges_after None (lebs_apart s v w n)) ≡ leb_differences s id v w
+  listed : (n : ℕ) → n ≡ count → ranges_told id (ranges_after None (lebs_apart s v w n)) ≡ leb_differences s id v w
   listed n all =
-      ap (λ k. told_of id (ranges_after None (lebs_apart s v w k))) all
-      ∙ ap (λ ns. told_of id (ranges_after None ns)) all_found
-      ∙ sym (chosen (usable s v.entry == usable s w.entry) (told_of id (ranges_after None (lebs_apart s v w v.entry.reserved))) []
+      ap (λ k. ranges_told id (ranges_after None (lebs_apart s v w k))) all
+      ∙ ap (λ ns. ranges_told id (ranges_after None ns)) all_found
+      ∙ sym (chosen (usable s v.entry == usable s w.entry) (ranges_told id (ranges_after None (lebs_apart s v w v.entry.reserved))) []
       ((unsigned_Decides (usable s v.entry) (usable s w.entry)).1 size_is))
 
   -- once all of them were found, these are the differences
   pub all_told : (ranges : Ranges) (n : ℕ) → n ≡ count → HaveFound s id v w ranges n
       → told_with ranges [] ≡ leb_differences s id v w
   all_told ranges n all found =
-      sym (found []) ∙ ap (λ ns. told_of id (ranges_after None ns)) (append-nil (lebs_apart s v w n)) ∙ listed n all
+      sym (found []) ∙ ap (λ ns. ranges_told id (ranges_after None ns)) (append-nil (lebs_apart s v w n)) ∙ listed n all
 
   pub all_alike : (brief : Bool) (ranges : Ranges) (n : ℕ) → n ≡ count → HaveTold brief s id v w ranges n
       → Tells brief (told_with ranges []) (leb_differences s id v w)
   all_alike false ranges n all told = all_told ranges n all told
   all_alike true ranges n all told =
       subst (λ (ds : List Difference). (told_with ranges [] ≡ []) ↔ (ds ≡ [])) (listed n all) (
-        λ none. ap (λ ns. told_of id (ranges_after None ns)) (told.0 none),
+        λ none. ap (λ ns. ranges_told id (ranges_after None ns)) (told.0 none),
         λ none. told.1 (ranges_none (lebs_apart s v w n)
             (map_none (λ (e : ℕ × ℕ). difference.Lebs id e.0 e.1) (ranges_after None (lebs_apart s v w n)) none)),
       )
@@ -179,13 +179,13 @@ module _ (s : Sizes) (id : ℕ) (v w : Volume) (one other : Extent) (a b : ℕ �
   pub one_same : (ranges : Ranges) (n : ℕ) → apart n ≡ false → HaveFound s id v w ranges n
       → HaveFound s id v w ranges (n + 1)
   one_same ranges n is found rest =
-      ap (λ ns. told_of id (ranges_after None ns)) (next n false is rest) ∙ found rest
+      ap (λ ns. ranges_told id (ranges_after None ns)) (next n false is rest) ∙ found rest
 
   -- or differently
   pub one_apart : (old new : Ranges) (n : ℕ) → apart n ≡ true → HaveFound s id v w old n
       → ((rest : List ℕ) → told_with old (n ∷ rest) ≡ told_with new rest) → HaveFound s id v w new (n + 1)
   one_apart old new n is found more rest =
-      ap (λ ns. told_of id (ranges_after None ns)) (next n true is rest) ∙ found (n ∷ rest) ∙ more rest
+      ap (λ ns. ranges_told id (ranges_after None ns)) (next n true is rest) ∙ found (n ∷ rest) ∙ more rest
 
   -- the same, in brief or not
   pub told_same : (brief : Bool) (ranges : Ranges) (n : ℕ) → apart n ≡ false → HaveTold brief s id v w ranges n
@@ -210,8 +210,8 @@ module _ (s : Sizes) (id : ℕ) (v w : Volume) (one other : Extent) (a b : ℕ �
 pub none_found : (s : Sizes) (id : ℕ) (v w : Volume) (ranges : Ranges) → ranges.id ≡ id → ranges.told.items ≡ []
     → ranges.begun ≡ None → HaveFound s id v w ranges 0
 none_found s id v w ranges number told begun rest =
-    ap (λ o. told_of id (ranges_after o rest)) (sym begun) ∙ ap (λ i. told_of i (ranges_after ranges.begun rest)) (sym number)
-    ∙ ap (λ xs. xs ++ told_of ranges.id (ranges_after ranges.begun rest)) (sym told)
+    ap (λ o. ranges_told id (ranges_after o rest)) (sym begun) ∙ ap (λ i. ranges_told i (ranges_after ranges.begun rest)) (sym number)
+    ∙ ap (λ xs. xs ++ ranges_told ranges.id (ranges_after ranges.begun rest)) (sym told)
 
 pub none_yet : (brief : Bool) (s : Sizes) (id : ℕ) (v w : Volume) (ranges : Ranges) → ranges.id ≡ id → ranges.told.items ≡ []
     → ranges.begun ≡ None → HaveTold brief s id v w ranges 0

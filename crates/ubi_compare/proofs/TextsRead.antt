@@ -1,5 +1,5 @@
 -- The contents of two static volumes, which are read side by side, piece by piece.
-use Rattle.ubi_compare.proofs.Prelude.{◌≡◌, ◌∙◌, ◌↔◌, ◌+◌, ◌<◌, ℕ, Bool, true, false, false≢true, IsTrue, List, [], ap, refl, sym, subst, arith, length, min, None, Some, not, Sizes, rec_fault, usable, VolumeRecord, image_of, entry_of, pieces, case_of, IsSurvey, Seen, Content, Volume, Extent, leb_differences, Ranges, HaveTold, AddsLeb, Tells, told_with, read_apart, leb_read, blocks_of, size_more, size_none, piece_text, PieceIs, Pieces, Texts, ArePieces, AreTexts, AreWhole, IsText, LebsOfBoth}
+use Rattle.ubi_compare.proofs.Prelude.{◌≡◌, ◌∙◌, ◌↔◌, ◌+◌, ◌<◌, ℕ, Bool, true, false, false≢true, IsTrue, List, [], ap, refl, sym, subst, arith, length, min, None, Some, not, Sizes, rec_fault, usable, VolumeRecord, image_of, entry_of, pieces, case_of, IsSurvey, Seen, Content, Volume, Extent, leb_differences, Ranges, HaveTold, AddsLeb, Tells, told_with, read_apart, leb_read, blocks_of, size_more, size_none, piece_text, PieceIs, Pieces, Texts, ArePieces, AreReadTexts, AreWholeTexts, IsText, LebsOfBoth}
 use Rattle.std.specs.FinMap as finite
 use Rattle.ubi_volume.specs.declared.content.Content.TheVariants as content
 use Rattle.ubi_volume.specs.declared.places.PlaceContent.TheVariants as place
@@ -53,7 +53,7 @@ by_answer s a b t u answer one other is = (λ yes. one ∙ is.0 yes ∙ sym othe
 
 module _ (brief : Bool) (s : Sizes) (id : ℕ) (lebs : LebsOfBoth) (p q : Seen) (x y : List ℕ) where
   pub no_texts : (ranges : Ranges) → ranges.id ≡ id → ranges.told.items ≡ [] → ranges.begun ≡ None
-      → AreTexts brief s id lebs 0 p q x y (record { left = 0; right = 0; ranges = ranges })
+      → AreReadTexts brief s id lebs 0 p q x y (record { left = 0; right = 0; ranges = ranges })
   no_texts ranges number told begun = record {
     left = size_none s (blocks_of s x) id lebs.left;
     right = size_none s (blocks_of s y) id lebs.right;
@@ -63,9 +63,9 @@ module _ (brief : Bool) (s : Sizes) (id : ℕ) (lebs : LebsOfBoth) (p q : Seen) 
   module _ (r o : VolumeRecord) (here : finite.get p.records.of id ≡ Some r) (there : finite.get q.records.of id ≡ Some o)
       (sound : rec_fault s r ≡ None) (other_sound : rec_fault s o ≡ None) (same : usable s r ≡ usable s o) where
     -- one piece more of each
-    pub more_texts : (n : ℕ) → n < lebs.left → n < lebs.right → (t : Texts) → AreTexts brief s id lebs n p q x y t
+    pub more_texts : (n : ℕ) → n < lebs.left → n < lebs.right → (t : Texts) → AreReadTexts brief s id lebs n p q x y t
         → (pieces : Pieces) → ArePieces s id lebs n x y pieces → (new : Ranges) → Follows brief pieces.is_same n t.ranges new
-        → AreTexts brief s id lebs (n + 1) p q x y
+        → AreReadTexts brief s id lebs (n + 1) p q x y
         (record { left = t.left + pieces.left; right = t.right + pieces.right; ranges = new })
     more_texts n inside within t before pieces are new follows = record {
       left = size_more s (blocks_of s x) id lebs.left n t.left pieces.left before.left
@@ -97,7 +97,7 @@ module _ (brief : Bool) (s : Sizes) (id : ℕ) (lebs : LebsOfBoth) (p q : Seen) 
             told_apart s id v w one other f g left right size brief t.ranges new n apart told is
 
     -- all of them
-    pub all_texts : (t : Texts) → AreWhole brief s id lebs p q x y t
+    pub all_texts : (t : Texts) → AreWholeTexts brief s id lebs p q x y t
         → (h : IsSurvey (image_of s x) p) (k : IsSurvey (image_of s y) q) (v w : Volume)
         → finite.get h.meaning.volumes id ≡ Some v → finite.get k.meaning.volumes id ≡ Some w
         → IsText s lebs.left v → IsText s lebs.right w → Tells brief (told_with t.ranges []) (leb_differences s id v w)

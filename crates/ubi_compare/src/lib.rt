@@ -24,7 +24,7 @@
 //! ```
 #![tactic(auto)]
 
-mod comparing;
+mod compare;
 mod difference;
 mod errors;
 mod found;
@@ -38,6 +38,6 @@ mod sides;
 mod texts;
 mod volumes;
 
-pub use comparing::{diff_from, same, same_from};
+pub use compare::{diff_from, same, same_from};
 pub use difference::{Condition, Difference, Side};
 pub use errors::{CompareError, CompareFault};

@@ -1,7 +1,7 @@
 //! Two static volumes, and the pieces of their contents in a logical eraseblock.
 
 ghost use Rattle.std.specs.Prelude.{◌≡◌, ◌↔◌, IfErr, IfOk, IfSome, IsTrue, false, length};
-ghost use Rattle.ubi_media.specs.Check.{check};
+ghost use Rattle.ubi_media.specs.Check.{crc_of};
 ghost use Rattle.ubi_media.specs.declared.vid.VolKind.TheVariants.{Static};
 ghost use Rattle.ubi_scan.specs.Source.{Narrows, blocks_in};
 ghost use Rattle.ubi_volume.specs.Survey.{IsSurveyOf};
@@ -95,7 +95,7 @@ pub fn lebs_of_both<L: BlockSource, R: BlockSource>(
 /// Whether two pieces have the CRCs that their headers name. The CRC of equal ones is computed once.
 fn are_checked(one: &[u8], left: u32, other: &[u8], right: u32, is_same: bool) -> bool
     requires same { IsTrue is_same → one.now ≡ other.now }
-    ensures { IsTrue result ↔ ((check one.now ≡ left) × (check other.now ≡ right)) }
+    ensures { IsTrue result ↔ ((crc_of one.now ≡ left) × (crc_of other.now ≡ right)) }
 {
     let check = crc(one);
     if is_same {

@@ -10,7 +10,7 @@ ghost use Rattle.ubi_compare.specs.Differences.{content_differences};
 ghost use Rattle.ubi_compare.specs.inner.Found.{Adds};
 ghost use Rattle.ubi_compare.specs.inner.Ranges.{AddsLeb};
 ghost use Rattle.ubi_compare.specs.inner.Sides.{IsSidesError, OfMeanings, OfVolumes};
-ghost use Rattle.ubi_compare.specs.inner.Texts.{AreTexts, AreWhole, GoesOn, IsTextOf};
+ghost use Rattle.ubi_compare.specs.inner.Texts.{AreReadTexts, AreWholeTexts, GoesOn, IsTextOf};
 
 use crate::difference::Difference;
 use crate::errors::CompareFault;
@@ -72,7 +72,7 @@ fn texts_beside<L: BlockSource, R: BlockSource>(
     ensures right { R.known right.new ≡ after_right (R.known right.old) result }
     ensures left_narrows { Narrows (L.agrees left.old) (L.agrees left.new) }
     ensures right_narrows { Narrows (R.agrees right.old) (R.agrees right.new) }
-    ensures read { IfOk result (λ texts. IfSome texts (λ t. WhereBothHeld (L.agrees left.new) (R.agrees right.new) (λ x y. AreTexts is_brief geometry.now id lebs count here.entry.survey.now there.entry.survey.now x y t))) }
+    ensures read { IfOk result (λ texts. IfSome texts (λ t. WhereBothHeld (L.agrees left.new) (R.agrees right.new) (λ x y. AreReadTexts is_brief geometry.now id lebs count here.entry.survey.now there.entry.survey.now x y t))) }
     ensures small { IfOk result (λ texts. IfSome texts (λ t. (t.left ≤ count * 0xFFFFFFFF) × (t.right ≤ count * 0xFFFFFFFF))) }
     ensures failed { IfErr result (IsSidesError (blocks_in geometry.now (L.known left.old)) (blocks_in geometry.now (R.known right.old))) }
     ensures named { IfErr result (NamesSide geometry.now (L.failed_at left.new) (R.failed_at right.new)) }
@@ -160,7 +160,7 @@ fn whole_texts<L: BlockSource, R: BlockSource>(
     ensures right { R.known right.new ≡ after_right (R.known right.old) result }
     ensures left_narrows { Narrows (L.agrees left.old) (L.agrees left.new) }
     ensures right_narrows { Narrows (R.agrees right.old) (R.agrees right.new) }
-    ensures read { IfOk result (λ texts. IfSome texts (λ t. WhereBothHeld (L.agrees left.new) (R.agrees right.new) (λ x y. AreWhole is_brief geometry.now id lebs here.entry.survey.now there.entry.survey.now x y t))) }
+    ensures read { IfOk result (λ texts. IfSome texts (λ t. WhereBothHeld (L.agrees left.new) (R.agrees right.new) (λ x y. AreWholeTexts is_brief geometry.now id lebs here.entry.survey.now there.entry.survey.now x y t))) }
     ensures failed { IfErr result (IsSidesError (blocks_in geometry.now (L.known left.old)) (blocks_in geometry.now (R.known right.old))) }
     ensures named { IfErr result (NamesSide geometry.now (L.failed_at left.new) (R.failed_at right.new)) }
 {

@@ -2,7 +2,7 @@
 use Rattle.ubi_compose.proofs.Prelude.{◌≡◌, ℕ, ◌+◌, ◌*◌, zero, suc, List, length, inl, inr, refl, sym, ap, ◌∙◌, subst, arith, None, Option, Some, flat_map, option_map, AllByRecursion, concat, same_Some, IsGeometry, data_pad, VolumeRecord, VidHeader, usable_some, NoFault, image_of, Leb, layout, IsTable, table_written, Accepts, AcceptsBlocks, NoMismatch, SlotMeans, VolumeReads, Fits, IsMeaning, IsVolume, Meant, records_of, Content, Volume, HasRoom, composed, Laid, layout_block, normal_blocks, normal_bytes, volume_blocks, meant_by, records_are, records_fit, volume_is, record_of}
 use Rattle.std.specs.FinMap as finite
 use Rattle.ubi_volume.specs.declared.content.Content.TheVariants as content
-use Rattle.ubi_compose.proofs.Apart.{AreApart}
+use Rattle.ubi_compose.proofs.DistinctLebs.{AreApart}
 use Rattle.ubi_compose.proofs.Blocks.{IsFine}
 use Rattle.ubi_compose.proofs.Contents.{AreOwn, damaged_reads, dynamic_reads, header_at, text_at, text_reads}
 use Rattle.ubi_compose.proofs.Image.{blocks_again, concat-image_blocks, image_blocks, image_clean, image_named, image_whole, laid_wins, length-bytes, length-image_blocks, member_laid}

@@ -1,5 +1,5 @@
 -- The normal image of what is built from parts, by their pieces.
-use Rattle.ubi_compose.proofs.Prelude.{◌≡◌, ◌==◌, ℕ, zero, suc, ◌+◌, ◌<◌, ◌≤◌, Bool, true, false, cond, List, [], ◌++◌, length, refl, ap, sym, ◌∙◌, subst, arith, None, Option, Some, flat_map, option_map, unwrap_or, FinMap, range_with_len, option_map_or, nat_cmp, flat_map-map, is_blank, IsGeometry, slots, data_pad, rec_bytes, rec_fault, usable, VolKind, table_bytes, item_without_blank, lebs_without_blank, without_blank, pieces, records_of, Volume, same_range, get_without_blank, is_kept, HaveMeaning, Parts, Reaches, built, content_of, item_of, items_of, lebs_of, pieces_of, text_of, composed, spare, blocks_of, dynamic_block, laid_bytes, new_ec, static_part, volume_blocks, part_at, table_of, Part, Device, built_piece, built_pieces, piece_of_kind, spares_bytes, first_volumes, image_bytes, piece_bytes, tables_bytes, record_of, not}
+use Rattle.ubi_compose.proofs.Prelude.{◌≡◌, ◌==◌, ℕ, zero, suc, ◌+◌, ◌<◌, ◌≤◌, Bool, true, false, cond, List, [], ◌++◌, length, refl, ap, sym, ◌∙◌, subst, arith, None, Option, Some, flat_map, option_map, unwrap_or, FinMap, range_with_len, option_map_or, nat_cmp, flat_map-map, is_blank, IsGeometry, slots, data_pad, rec_bytes, rec_fault, usable, VolKind, table_bytes, item_without_blank, lebs_without_blank, without_blank, pieces, records_of, Volume, same_range, get_without_blank, is_kept, HaveMeaning, Parts, Reaches, built, content_of, item_of, items_of, lebs_of, pieces_of, text_of, composed, spare, laid_blocks, dynamic_block, laid_bytes, new_ec, static_part, volume_blocks, part_at, table_of, Part, Device, built_piece, built_pieces, piece_of_kind, spares_bytes, first_volumes, image_bytes, piece_bytes, tables_bytes, record_of, not}
 use Rattle.std.specs.Prelude.{replicate}
 use Rattle.std.specs.FinMap as finite
 use Rattle.ubi_media.specs.declared.vid.VolKind.TheVariants as kind
@@ -147,7 +147,7 @@ module _ (ps : Parts) (bytes : List ℕ) where
         ∙ part_is ps bytes p h.sizes (part_sound ps h at.0 p at.1) (reached (length bytes) ps.of at.0 p reaches at.1)
 
     volumes_are : flat_map (laid_bytes ps.sizes (new_ec ps.image_seq))
-        (blocks_of ps.sizes (finite.entries (built ps bytes).volumes))
+        (laid_blocks ps.sizes (finite.entries (built ps bytes).volumes))
         ≡ first_volumes of (built_pieces ps) (slots ps.sizes) bytes
     volumes_are =
         flat_map-flat_map (laid_bytes ps.sizes (new_ec ps.image_seq))
@@ -168,7 +168,7 @@ module _ (ps : Parts) (bytes : List ℕ) where
         let tables = λ (t : List ℕ). tables_bytes of t bytes in
         let text = table_bytes (records_of (built ps bytes)) in
         let volumes = flat_map (laid_bytes ps.sizes (new_ec ps.image_seq))
-        (blocks_of ps.sizes (finite.entries (built ps bytes).volumes)) in
+        (laid_blocks ps.sizes (finite.entries (built ps bytes).volumes)) in
         ap (λ t. (tables t ++ first_volumes of (built_pieces ps) (slots ps.sizes) bytes) ++ spares_bytes of spares bytes)
         (given ∙ table_is)
         ∙ ap (λ vs. (tables text ++ vs) ++ spares_bytes of spares bytes) (sym volumes_are)

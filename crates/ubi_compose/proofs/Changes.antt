@@ -1,11 +1,11 @@
 -- Changing the volumes and the map that says where they stand.
-use Rattle.ubi_compose.proofs.Prelude.{◌≡◌, ◌<◌, ℕ, ◌+◌, ◌==◌, Bool, true, false, cond, List, [], ◌∷◌, ◌++◌, length, map, get_or, set, refl, sym, ap, ◌∙◌, arith, Option, Some, None, Result, Ok, Err, MatchResult, slice_get, slice_set, BTreeMap, IsOrdered, is_at, position_from, option_or, nat_cmp, result_map_both, nat_tests, length-map, map-append, map-set, set-get_or, Sizes, VolumeRecord, Items, Content, Volume, AreDrafts, IsRefused, changed, place_of, with_line, volume_of, volume_from, LineError, SpecCause, Line}
+use Rattle.ubi_compose.proofs.Prelude.{◌≡◌, ◌<◌, ℕ, ◌+◌, ◌==◌, Bool, true, false, cond, List, [], ◌∷◌, ◌++◌, length, map, get_or, set, refl, sym, ap, ◌∙◌, arith, Option, Some, None, Result, Ok, Err, MatchResult, slice_get, slice_set, BTreeMap, IsOrdered, is_at, position_from, option_or, nat_cmp, result_map_both, nat_tests, length-map, map-append, map-set, set-get_or, Sizes, VolumeRecord, Items, Content, Volume, AreDrafts, IsRefusedLine, changed, place_of, with_line, volume_of, volume_from, LineError, SpecCause, Line}
 use Rattle.std.specs.BTreeMap as tree
 use Rattle.std.specs.FinMap as finite
 use Rattle.ubi_media.specs.declared.vid.VolKind.TheVariants as kind
 use Rattle.ubi_volume.specs.declared.content.Content.TheVariants as content
 use Rattle.ubi_compose.specs.declared.errors.LineError.TheVariants as line_error
-use Rattle.ubi_compose.proofs.Places.{equal_number, place_below, place_end}
+use Rattle.ubi_compose.proofs.VolumePlaces.{equal_number, place_below, place_end}
 
 abbrev numbers : Items → List ℕ
 numbers items = map (λ (e : ℕ × Volume). e.0) items
@@ -72,8 +72,8 @@ changed_is s items l k e p g = rw (p, g) refl
 
 pub change_answer : (r : Result (Unit {0}) LineError) (made : Result Volume SpecCause) (v : Volume) (f : Volume → Items)
     (out : Result Items SpecCause)
-    → out ≡ result_map_both f (λ c. c) made → MatchResult r (λ _. made ≡ Ok v) (IsRefused made)
-    → MatchResult r (λ _. out ≡ Ok (f v)) (IsRefused out)
+    → out ≡ result_map_both f (λ c. c) made → MatchResult r (λ _. made ≡ Ok v) (IsRefusedLine made)
+    → MatchResult r (λ _. out ≡ Ok (f v)) (IsRefusedLine out)
 change_answer (Ok u) made v f out o h = o ∙ ap (result_map_both f (λ c. c)) h
 change_answer (Err (line_error.Cause c)) made v f out o h = o ∙ ap (result_map_both f (λ c. c)) h
 change_answer (Err line_error.Memory) made v f out o h = tt

@@ -1,8 +1,8 @@
 -- What a volume whose eraseblocks are laid out reads.
-use Rattle.ubi_compose.proofs.Prelude.{◌≡◌, ℕ, zero, suc, ◌+◌, ◌-◌, ◌*◌, ◌^◌, ◌<◌, ◌≤◌, inl, inr, List, [], ◌∷◌, ◌++◌, length, take, refl, sym, ap, ◌∙◌, subst, arith, IfSome, None, Option, Some, slice_get, unwrap_or, FinMap, AllByRecursion, range_with_len, option_map_or, nat_cmp, take-replicate, take_at, check, check_from, remainder, blank, IsGeometry, Sizes, data_pad, usable, VolumeRecord, VidHeader, NoFault, block, leb, Leb, NoMember, member, AreRead, PieceIs, UsedIs, LebReads, VolumeReads, Fits, pieces, share, damaged_piece, piece_checked, piece_unchecked, read_more, read_none, static_reads, Laid, damaged_block, dynamic_block, static_part, volume_blocks, pieces_few, share_more, share_none, shares_all}
+use Rattle.ubi_compose.proofs.Prelude.{◌≡◌, ℕ, zero, suc, ◌+◌, ◌-◌, ◌*◌, ◌^◌, ◌<◌, ◌≤◌, inl, inr, List, [], ◌∷◌, ◌++◌, length, take, refl, sym, ap, ◌∙◌, subst, arith, IfSome, None, Option, Some, slice_get, unwrap_or, FinMap, AllByRecursion, range_with_len, option_map_or, nat_cmp, take-replicate, take_at, crc_of, check_from, remainder, blank, IsGeometry, Sizes, data_pad, usable, VolumeRecord, VidHeader, NoFault, block, leb, Leb, NoMember, member, AreRead, PieceIs, UsedIs, LebReads, VolumeReads, Fits, pieces, share, damaged_piece, piece_checked, piece_unchecked, read_more, read_none, static_reads, Laid, damaged_block, dynamic_block, static_part, volume_blocks, pieces_few, share_more, share_none, shares_all}
 use Rattle.std.specs.FinMap as finite
 use Rattle.ubi_volume.specs.declared.content.Content.TheVariants as content
-use Rattle.ubi_compose.proofs.Apart.{AreApart}
+use Rattle.ubi_compose.proofs.DistinctLebs.{AreApart}
 use Rattle.ubi_compose.proofs.Blocks.{IsFine, leb-laid_bytes, member-laid_bytes}
 use Rattle.ubi_compose.proofs.Image.{block_laid, image_blocks, image_clean, laid_wins, none_laid}
 use Rattle.ubi_compose.proofs.Lists.{Holds, all_at, entry_held, held_entry, holds_map, holds_range, map_holds, range_holds}
@@ -13,7 +13,7 @@ pub record AreOwn (ls : List Laid) (vol : ℕ) (own : List Laid) : Type 0 where
   pub only : (l : Laid) → Holds ls l → l.header.vol_id ≡ vol → Holds own l
 
 -- a byte 0xFF has another check than 0
-check_blank : check (255 ∷ []) ≡ 0x00FFFFFF
+check_blank : crc_of (255 ∷ []) ≡ 0x00FFFFFF
 unfolding check_from remainder
 check_blank = refl
 

@@ -1,5 +1,5 @@
 -- Two hexadecimal digits, and the parts of a shown name in order.
-use Rattle.ubi_compose.proofs.Prelude.{◌≡◌, ℕ, ◌+◌, ◌*◌, ◌==◌, ◌&&◌, Bool, true, false, List, [], ◌∷◌, ◌++◌, length, refl, sym, ap, ◌∙◌, append_assoc, arith, length-append, Option, Some, None, Ok, Err, Result, MatchResult, flat_map, nat_le, slice_index, option_and_then, option_map, then_some, list_all, list_any, nat_tests, ◌>>=◌, decode_pairs, decode_sized, digit_or_error, hex_digit_value, FromHexError, escaped, is_escape, shown_byte, shown_bytes, shown_name, some_name}
+use Rattle.ubi_compose.proofs.Prelude.{◌≡◌, ℕ, ◌+◌, ◌*◌, ◌==◌, ◌&&◌, Bool, true, false, List, [], ◌∷◌, ◌++◌, length, refl, sym, ap, ◌∙◌, append_assoc, arith, length-append, Option, Some, None, Ok, Err, Result, MatchResult, flat_map, nat_le, slice_index, option_and_then, option_map, then_some, list_all, list_any, nat_tests, ◌>>=◌, decode_pairs, decode_sized, digit_or_error, hex_digit_value, FromHexError, escaped, is_escape, escaped_byte, shown_bytes, shown_name, some_name}
 use Rattle.std.specs.Prelude.{not}
 
 pair_by : (h l : ℕ) (a b : Option ℕ)
@@ -12,8 +12,8 @@ pair_by h l (Some x) None = refl
 pair_by h l (Some x) (Some y) = refl
 
 pub decoded_pair : (h l : ℕ)
-    → MatchResult (decode_sized (h ∷ l ∷ []) 1) (λ bytes. shown_byte h l ≡ Some (slice_index bytes 0))
-    (λ _. shown_byte h l ≡ None)
+    → MatchResult (decode_sized (h ∷ l ∷ []) 1) (λ bytes. escaped_byte h l ≡ Some (slice_index bytes 0))
+    (λ _. escaped_byte h l ≡ None)
 unfolding decode_pairs
 decoded_pair h l = pair_by h l (hex_digit_value h) (hex_digit_value l)
 

@@ -1,5 +1,5 @@
 -- Words of hexadecimal digits: how many bytes they stand for.
-use Rattle.ubi_compose.proofs.Prelude.{◌≡◌, ◌≤◌, ℕ, ◌+◌, ◌*◌, Bool, true, false, cond, ◌==◌, List, [], ◌∷◌, length, refl, arith, Option, Some, None, Ok, Err, Result, slice_index, option_and_then, option_map, result_ok, nat_tests, decode_of-ok, ◌>>=◌, decode_of, decode_pairs, digit_or_error, hex_digit_value, FromHexError, flags_of, hex_of, only_byte, shown_byte}
+use Rattle.ubi_compose.proofs.Prelude.{◌≡◌, ◌≤◌, ℕ, ◌+◌, ◌*◌, Bool, true, false, cond, ◌==◌, List, [], ◌∷◌, length, refl, arith, Option, Some, None, Ok, Err, Result, slice_index, option_and_then, option_map, result_ok, nat_tests, decode_of-ok, ◌>>=◌, decode_of, decode_pairs, digit_or_error, hex_digit_value, FromHexError, flags_of, hex_of, only_byte, escaped_byte}
 use Rattle.std.specs.Prelude.{not}
 
 given_ok : (r : Result (List ℕ) FromHexError) (bytes : List ℕ) → result_ok r ≡ Some bytes → r ≡ Ok bytes
@@ -30,11 +30,11 @@ flags_by h l None b = refl
 flags_by h l (Some x) None = refl
 flags_by h l (Some x) (Some y) = refl
 
-flags_pair : (h l : ℕ) → flags_of (h ∷ l ∷ []) ≡ shown_byte h l
+flags_pair : (h l : ℕ) → flags_of (h ∷ l ∷ []) ≡ escaped_byte h l
 unfolding flags_of hex_of decode_pairs
 flags_pair h l = flags_by h l (hex_digit_value h) (hex_digit_value l)
 
-pub flags_two : (word : List ℕ) → length word ≡ 2 → flags_of word ≡ shown_byte (slice_index word 0) (slice_index word 1)
+pub flags_two : (word : List ℕ) → length word ≡ 2 → flags_of word ≡ escaped_byte (slice_index word 0) (slice_index word 1)
 flags_two [] h = absurd (omega arith)
 flags_two (a ∷ []) h = absurd (omega arith)
 flags_two (a ∷ b ∷ []) h = flags_pair a b

@@ -1,7 +1,7 @@
 -- Eraseblocks that are laid out, one for each LEB, followed by spare ones.
-use Rattle.ubi_compose.proofs.Prelude.{◌≡◌, ℕ, ◌+◌, ◌-◌, ◌*◌, ◌/◌, ◌%◌, ◌^◌, ◌<◌, ◌≤◌, ◌⊎◌, inl, inr, List, [], ◌∷◌, ◌++◌, length, map, replicate, get_or, refl, ap, sym, ◌∙◌, subst, arith, length-append, Some, flat_map, option_map, slice_get, AllByRecursion, concat, first_chunks, mul-add-mod_self_right, get_or-append_right, get_or-replicate, length-map, length-replicate, concat_is, div-mul-add, mul-le, get_or_from_slice_get, slice_get-map, slice_get_cases, slice_get_within, same_Some, IsGeometry, Sizes, IsSound, NoFault, IsWhole, block, eraseblocks, IsMember, Leb, NoMember, Wins, good_in, leb_of, named_in, sqnum_at, sqnum_in, image_seq, seq_of, first_chunks-concat, length-concat, none_from_clean, seq_is, spare, Laid, laid_bytes, new_ec}
+use Rattle.ubi_compose.proofs.Prelude.{◌≡◌, ℕ, ◌+◌, ◌-◌, ◌*◌, ◌/◌, ◌%◌, ◌^◌, ◌<◌, ◌≤◌, ◌⊎◌, inl, inr, List, [], ◌∷◌, ◌++◌, length, map, replicate, get_or, refl, ap, sym, ◌∙◌, subst, arith, length-append, Some, flat_map, option_map, slice_get, AllByRecursion, concat, first_chunks, mul-add-mod_self_right, get_or-append_right, get_or-replicate, length-map, length-replicate, concat_is, div-mul-add, mul-le, get_or_from_slice_get, slice_get-map, slice_get_cases, slice_get_within, same_Some, IsGeometry, Sizes, IsSound, NoFault, IsWholeImage, block, eraseblocks, IsMember, Leb, NoMember, Wins, good_in, leb_of, named_in, sqnum_at, sqnum_in, image_seq, seq_of, first_chunks-concat, length-concat, none_from_clean, seq_is, spare, Laid, laid_bytes, new_ec}
 use Rattle.std.proofs.lemmas.List.{append_assoc}
-use Rattle.ubi_compose.proofs.Apart.{AreApart, one_place}
+use Rattle.ubi_compose.proofs.DistinctLebs.{AreApart, one_place}
 use Rattle.ubi_compose.proofs.Blocks.{IsFine, good-laid_bytes, length-laid_bytes, named-laid_bytes, seq-laid_bytes, sound-laid_bytes, sqnum-laid_bytes}
 use Rattle.ubi_compose.proofs.Lists.{Holds, all_at, slice_get_left}
 use Rattle.ubi_compose.proofs.Spares.{length-spare, named-spare, seq-spare, sound-spare}
@@ -143,7 +143,7 @@ module _ (s : Sizes) (g : IsGeometry s) (seq : ℕ) (narrow : seq < 2 ^ 32) (ls 
       ∙ div-mul-add (length bs) s.peb_size 0 some in
       ap (λ n. first_chunks s.peb_size n (concat bs)) count ∙ first_chunks-concat s.peb_size bs sized
 
-  pub image_whole : 0 < length ls → length ls + spares ≤ s.pebs → IsWhole (record { sizes = s; bytes = concat bs })
+  pub image_whole : 0 < length ls → length ls + spares ≤ s.pebs → IsWholeImage (record { sizes = s; bytes = concat bs })
   image_whole some few =
       let n : length bs ≡ length ls + spares = length-image_blocks in
       let size : 0 < s.peb_size = omega (arith, g.page_from, g.peb_from) in

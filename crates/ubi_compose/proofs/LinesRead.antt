@@ -7,8 +7,8 @@ use Rattle.ubi_compose.specs.declared.line.Form.TheVariants as form
 use Rattle.ubi_compose.specs.declared.line.Line.TheVariants as line
 use Rattle.ubi_compose.proofs.VolumeLines.{is_filled}
 use Rattle.ubi_compose.proofs.Hexadecimal.{hex_filled}
-use Rattle.ubi_compose.proofs.Sound.{IsSoundText, sound_more}
-use Rattle.ubi_compose.proofs.Taken.{answer, taken_more}
+use Rattle.ubi_compose.proofs.SoundLines.{IsSoundText, sound_more}
+use Rattle.ubi_compose.proofs.TakenLines.{answer, taken_more}
 
 -- a line that is read gives some byte, if it gives bytes of a text
 abbrev IsFilled : Result Line SpecCause → Type 0

@@ -1,8 +1,8 @@
 -- The eraseblocks of a normal image can be laid out, and are of different LEBs.
-use Rattle.ubi_compose.proofs.Prelude.{◌≡◌, ℕ, ◌<◌, List, length, refl, ap, arith, AllByRecursion, range_with_len, IsGeometry, Sizes, data_pad, usable, VolumeRecord, Leb, layout, IsMeaning, IsVolume, Meant, pieces, Content, Volume, Laid, blocks_of, dynamic_block, layout_block, normal_blocks, static_part, volume_blocks, volume_is}
+use Rattle.ubi_compose.proofs.Prelude.{◌≡◌, ℕ, ◌<◌, List, length, refl, ap, arith, AllByRecursion, range_with_len, IsGeometry, Sizes, data_pad, usable, VolumeRecord, Leb, layout, IsMeaning, IsVolume, Meant, pieces, Content, Volume, Laid, laid_blocks, dynamic_block, layout_block, normal_blocks, static_part, volume_blocks, volume_is}
 use Rattle.std.specs.FinMap as finite
 use Rattle.ubi_volume.specs.declared.content.Content.TheVariants as content
-use Rattle.ubi_compose.proofs.Apart.{AreApart, Differ}
+use Rattle.ubi_compose.proofs.DistinctLebs.{AreApart, Differ}
 use Rattle.ubi_compose.proofs.Blocks.{IsFine}
 use Rattle.ubi_compose.proofs.Headers.{layout_fits, layout_placed, layout_sound}
 use Rattle.ubi_compose.proofs.Lists.{Holds, all_at, all_flat_map, all_from, held_entry}
@@ -55,7 +55,7 @@ module _ (m : Meant) (g : IsGeometry m.sizes) (is : IsMeaning m) where
   )
 
   -- none of a volume of a user is of the layout volume
-  from_layout : (copy : ℕ) → AllByRecursion (Differ (layout_block m copy)) (blocks_of m.sizes es)
+  from_layout : (copy : ℕ) → AllByRecursion (Differ (layout_block m copy)) (laid_blocks m.sizes es)
   from_layout copy =
       all_flat_map (Differ (layout_block m copy)) blocks_in es
       (all_from (λ e. AllByRecursion (Differ (layout_block m copy)) (blocks_in e)) es (λ e h.

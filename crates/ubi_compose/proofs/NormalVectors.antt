@@ -1,5 +1,5 @@
 -- Eraseblocks of normal images on literals.
-use Rattle.ubi_compose.proofs.Prelude.{◌≡◌, ℕ, false, List, [], ◌∷◌, ◌++◌, length, map, replicate, refl, ap, ◌∙◌, None, Option, flat_map, option_map, repeat, nat_cmp, ap₂, check_from, remainder, filled, empty_record, rec_bytes, vid_bytes, VolumeRecord, small, sorted_entries, Meant, records_of, Volume, no_entries, spare, Laid, blocks_of, damaged_block, dynamic_block, laid_bytes, layout_block, new_ec, normal_bytes, static_blocks, volume_blocks, record_of}
+use Rattle.ubi_compose.proofs.Prelude.{◌≡◌, ℕ, false, List, [], ◌∷◌, ◌++◌, length, map, replicate, refl, ap, ◌∙◌, None, Option, flat_map, option_map, repeat, nat_cmp, ap₂, check_from, remainder, filled, empty_record, rec_bytes, vid_bytes, VolumeRecord, small, sorted_entries, Meant, records_of, Volume, no_entries, spare, Laid, laid_blocks, damaged_block, dynamic_block, laid_bytes, layout_block, new_ec, normal_bytes, static_blocks, volume_blocks, record_of}
 use Rattle.std.specs.FinMap as finite
 use Rattle.ubi_media.specs.Vid.{fields_from}
 use Rattle.ubi_media.specs.declared.vid.VolKind.TheVariants as kind
@@ -82,7 +82,7 @@ empty_image : normal_bytes nothing ≡
 unfolding normal_bytes rec_bytes filled empty_record fields_from check_from remainder
 empty_image =
     ap (λ (es : List (ℕ × Volume)). flat_map (laid_bytes small (new_ec 0))
-    (layout_block nothing 0 ∷ layout_block nothing 1 ∷ blocks_of small es)) no_entries
+    (layout_block nothing 0 ∷ layout_block nothing 1 ∷ laid_blocks small es)) no_entries
     ∙ ap₂ (λ a b. with_records 0 a b ++ (with_records 1 a b ++ [])) (no_record 0) (no_record 1)
 
 empty_size : length (normal_bytes nothing) ≡ 1024

@@ -1,5 +1,5 @@
 -- The pieces of a part: what is written of each is the eraseblock of a LEB of its volume.
-use Rattle.ubi_compose.proofs.Prelude.{◌≡◌, ℕ, ◌+◌, ◌-◌, ◌*◌, ◌<◌, ◌≤◌, ◌==◌, ◌&&◌, Bool, true, false, cond, zero, suc, List, [], ◌++◌, length, slice_range, take, drop, refl, ap, sym, ◌∙◌, arith, inl, inr, append_assoc, length-append, length-blank, None, min, div_ceil, div_ceil_times, mul-le, drop-drop, drop-take, length-take, take-take, take_all, list_all-append, blank, filled, is_blank, IsGeometry, leb_size, check, Sizes, data_pad, usable, plain, ec_bytes, vid_bytes, VidHeader, rec_fault, piece_begins, usable_some, within_or_past, filled-is, length-share, pieces, share, share_most, pieces_few, pieces_suffice, share_len, Parts, text_of, dynamic_block, laid_bytes, new_ec, piece_header, static_part, Part, Device, piece_of_kind, piece_bytes, replicate-append-replicate}
+use Rattle.ubi_compose.proofs.Prelude.{◌≡◌, ℕ, ◌+◌, ◌-◌, ◌*◌, ◌<◌, ◌≤◌, ◌==◌, ◌&&◌, Bool, true, false, cond, zero, suc, List, [], ◌++◌, length, slice_range, take, drop, refl, ap, sym, ◌∙◌, arith, inl, inr, append_assoc, length-append, length-blank, None, min, div_ceil, div_ceil_times, mul-le, drop-drop, drop-take, length-take, take-take, take_all, list_all-append, blank, filled, is_blank, IsGeometry, leb_size, crc_of, Sizes, data_pad, usable, plain, ec_bytes, vid_bytes, VidHeader, rec_fault, piece_begins, usable_some, within_or_past, filled-is, length-share, pieces, share, share_most, pieces_few, pieces_suffice, share_len, Parts, text_of, dynamic_block, laid_bytes, new_ec, piece_header, static_part, Part, Device, piece_of_kind, piece_bytes, replicate-append-replicate}
 use Rattle.ubi_media.specs.declared.vid.VolKind.TheVariants as kind
 use Rattle.ubi_scan.proofs.Parts as parts
 use Rattle.ubi_compose.proofs.BuiltContents.{text_size}
@@ -99,7 +99,7 @@ module _ (ps : Parts) (g : IsGeometry ps.sizes) (p : Part) (sound : rec_fault ps
       ≡ laid_bytes ps.sizes (new_ec ps.image_seq) (static_part (data_pad ps.sizes p.entry) size p.id (text_of bytes p) lnum)
   static_written =
       let f = λ (n l : ℕ) (t : List ℕ). laid_bytes ps.sizes (new_ec ps.image_seq)
-      (record { header = piece_header (data_pad ps.sizes p.entry) p.id (pieces size n) lnum l (check t); text = t }) in
+      (record { header = piece_header (data_pad ps.sizes p.entry) p.id (pieces size n) lnum l (crc_of t); text = t }) in
       ap (f p.len (share_len size p.len lnum)) read ∙ ap (λ l. f p.len l part) (sym long)
       ∙ ap (λ n. f n (length part) part) (sym (text_size bytes p reaches))
 

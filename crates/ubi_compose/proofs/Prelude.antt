@@ -54,7 +54,7 @@ pub use Rattle.ubi_media.proofs.Padding.{half_pad, reserved_some, reserved_withi
 pub use Rattle.ubi_media.proofs.Readings.{one_ec_reading, one_vid_reading}
 pub use Rattle.ubi_media.proofs.Records.{usable_some}
 pub use Rattle.ubi_media.proofs.Words.{small}
-pub use Rattle.ubi_media.specs.Check.{check}
+pub use Rattle.ubi_media.specs.Check.{crc_of}
 unfoldable pub use Rattle.ubi_media.specs.Check.{check_from, remainder}
 pub use Rattle.ubi_media.specs.Ec.{ec_bytes}
 unfoldable pub use Rattle.ubi_media.specs.Ec.{ec_reading}
@@ -76,30 +76,30 @@ pub use Rattle.ubi_scan.proofs.Chunks.{first_chunks-concat, get_or-first_chunks,
 pub use Rattle.ubi_scan.proofs.Clean.{none_from_clean}
 pub use Rattle.ubi_scan.proofs.Decided.{Wins-unique}
 pub use Rattle.ubi_scan.proofs.Entries.{first_entry, sorted_entries}
-pub use Rattle.ubi_scan.proofs.Filled.{behind, drop_blank, filled-by, filled-is, filled-none, length-blank, length-filled}
+pub use Rattle.ubi_scan.proofs.FilledWithBlanks.{behind, drop_blank, filled-by, filled-is, filled-none, length-blank, length-filled}
 pub use Rattle.ubi_scan.proofs.Finite.{find_at, rising_at}
 pub use Rattle.ubi_scan.proofs.Keys.{apart_test, at_itself, same_test, told}
 pub use Rattle.ubi_scan.proofs.Parts.{blank_vid}
 pub use Rattle.ubi_scan.proofs.Revalued.{entries_revalued}
 pub use Rattle.ubi_scan.proofs.Seq.{seq_is}
-pub use Rattle.ubi_scan.proofs.Truths.{both_left, both_right}
+pub use Rattle.ubi_scan.proofs.TrueTests.{both_left, both_right}
 pub use Rattle.ubi_scan.specs.Clean.{IsSound}
 pub use Rattle.ubi_scan.specs.Faults.{IsMislaid, NoFault}
-pub use Rattle.ubi_scan.specs.Image.{Image, IsWhole, block, ec, eraseblocks, image_of, leb, vid, vid_area}
+pub use Rattle.ubi_scan.specs.Image.{Image, IsWholeImage, block, ec, eraseblocks, image_of, leb, vid, vid_area}
 pub use Rattle.ubi_scan.specs.Members.{IsMember, Leb, NoMember, Wins, foreign, foreign_if, good_in, has_members, is_good, layout, leb_of, member, member_if, named_in, sqnum_at, sqnum_in}
 pub use Rattle.ubi_scan.specs.Numbers.{image_seq, seq_if, seq_of}
-pub use Rattle.ubi_scan.specs.Source.{Agreed, Narrows, Source, blocks_in}
+pub use Rattle.ubi_scan.specs.Source.{Agreed, Narrows, Source, blocks_in, blocks_of}
 pub use Rattle.ubi_scan.specs.inner.Held.{anything, sound}
-pub use Rattle.ubi_table.proofs.Held.{table_written}
 pub use Rattle.ubi_table.proofs.NoRecords.{no_entries}
 pub use Rattle.ubi_table.proofs.ReadBack.{length-table_bytes, pieces_more}
+pub use Rattle.ubi_table.proofs.TableOfBytes.{table_written}
 pub use Rattle.ubi_table.specs.Records.{AreRecords, Records, table_bytes}
 pub use Rattle.ubi_table.specs.Table.{IsTable}
+pub use Rattle.ubi_volume.proofs.AcceptedOrRefused.{are_lebs}
 pub use Rattle.ubi_volume.proofs.Alike.{member_valid}
 pub use Rattle.ubi_volume.proofs.Arranged.{fits_without_blank, keeps_no_blank}
 pub use Rattle.ubi_volume.proofs.Blanks.{blank_text, other_text}
 pub use Rattle.ubi_volume.proofs.ContentAt.{case_fits}
-pub use Rattle.ubi_volume.proofs.Either.{are_lebs}
 pub use Rattle.ubi_volume.proofs.Extracted.{front_of, same_range, static_whole}
 pub use Rattle.ubi_volume.proofs.FirstCause.{one_first}
 pub use Rattle.ubi_volume.proofs.Gathered.{record_at}
@@ -107,8 +107,8 @@ pub use Rattle.ubi_volume.proofs.LebsText.{length-lebs}
 pub use Rattle.ubi_volume.proofs.LesserPage.{greater_breaks, lesser_page}
 pub use Rattle.ubi_volume.proofs.Listed.{listed_volume}
 pub use Rattle.ubi_volume.proofs.MeantRecords.{meant_by, records_are, records_fit, volume_is}
-pub use Rattle.ubi_volume.proofs.Narrowed.{places_narrowed, wrote_narrowed, wrote_where}
-pub use Rattle.ubi_volume.proofs.One.{Accepts-unique}
+pub use Rattle.ubi_volume.proofs.NarrowedPlaces.{places_narrowed, wrote_narrowed, wrote_where}
+pub use Rattle.ubi_volume.proofs.OneMeaning.{Accepts-unique}
 pub use Rattle.ubi_volume.proofs.Pieces.{length-share, piece_begins, pieces_few, pieces_suffice, share_full, share_more, share_most, share_none, share_some, shares_all}
 pub use Rattle.ubi_volume.proofs.Received.{Splits, error_behind, error_front, wrote_as, wrote_cut, wrote_more, wrote_text}
 pub use Rattle.ubi_volume.proofs.Recorded.{record_of}
@@ -118,8 +118,8 @@ pub use Rattle.ubi_volume.proofs.VolumeAt.{found_or_none, found_wins, in_table, 
 pub use Rattle.ubi_volume.proofs.WithoutBlank.{get_without_blank, is_kept}
 pub use Rattle.ubi_volume.specs.Accepts.{Accepts, AcceptsBlocks, IsWithin, NoMismatch, Refuses}
 pub use Rattle.ubi_volume.specs.Extract.{share_len}
-pub use Rattle.ubi_volume.specs.Made.{IsBefore, IsFirst, IsItem, Items, NoCause, Stands, item_without_blank, lebs_without_blank, rank, without_blank}
-pub use Rattle.ubi_volume.specs.Means.{AreWhole, LebReads, SlotMeans, StaticReads, VolumeReads, piece}
+pub use Rattle.ubi_volume.specs.Made.{IsBefore, IsFirstMade, IsItem, Items, NoCause, Stands, cause_rank, item_without_blank, lebs_without_blank, without_blank}
+pub use Rattle.ubi_volume.specs.Means.{HoldContents, LebReads, SlotMeans, StaticReads, VolumeReads, piece}
 pub use Rattle.ubi_volume.specs.Meant.{Fits, HasDistinctNames, IsMeaning, IsVolume, KeepsNoBlank, Meant, VolumeMap, pieces, records_of, share}
 pub use Rattle.ubi_volume.specs.PageLaws.{image_with_page, meaning_with_page}
 pub use Rattle.ubi_volume.specs.Places.{ArePlaces, ArePlacesOf, AreWithin, CaseFits, IsCountedPlace, IsNextPlace, Placed, case_of}
@@ -140,25 +140,25 @@ pub use Rattle.ubi_compose.specs.ErrorTexts.{spec_error_text}
 pub use Rattle.ubi_compose.specs.Laws.{MeanTheSame, Normalising}
 pub use Rattle.ubi_compose.specs.Lines.{first_word, forms, is_form, is_skipped, is_spelled, number_word, said, volume_of, word, word_count, words}
 unfoldable pub use Rattle.ubi_compose.specs.Lines.{damaged_line, form_of, leb_line, line_of, text_line, updating_line, volume_line}
-pub use Rattle.ubi_compose.specs.Normal.{IsNormalised, Laid, blocks_of, damaged_block, dynamic_block, laid_bytes, layout_block, new_ec, normal_blocks, piece_header, static_block, static_blocks, static_part, volume_blocks}
+pub use Rattle.ubi_compose.specs.Normal.{IsNormalised, Laid, damaged_block, dynamic_block, laid_blocks, laid_bytes, layout_block, new_ec, normal_blocks, piece_header, static_block, static_blocks, static_part, volume_blocks}
 unfoldable pub use Rattle.ubi_compose.specs.Normal.{normal_bytes}
 pub use Rattle.ubi_compose.specs.PageLaws.{LesserAcceptsMore, NormalWithLesserPage}
 pub use Rattle.ubi_compose.specs.Spec.{IsSpecError, cause_after, cause_at, first_some, gives, heading, is_content, is_damaged, is_dynamic, is_updating, is_whole, leb_in, line_number, lines, may_follow, numbered_volume, of_volume, record_in, suits, text_in, volumes_of}
 unfoldable pub use Rattle.ubi_compose.specs.Spec.{cause_of, content_cause, first_cause, later_cause, saying, sayings, volume_from, volumes_in}
 pub use Rattle.ubi_compose.specs.Streamed.{HasGot, IsNormaliseToError, IsNormalisedTo}
 pub use Rattle.ubi_compose.specs.TextLaws.{ComesTo}
-pub use Rattle.ubi_compose.specs.Words.{escaped, is_escape, only_byte, shown_byte, some_name}
+pub use Rattle.ubi_compose.specs.Words.{escaped, escaped_byte, is_escape, only_byte, some_name}
 unfoldable pub use Rattle.ubi_compose.specs.Words.{flags_of, hex_of, kind_of, shown_bytes, shown_name}
+pub use Rattle.ubi_compose.specs.declared.built_image.Part.{Part}
 pub use Rattle.ubi_compose.specs.declared.errors.LineError.{LineError}
 pub use Rattle.ubi_compose.specs.declared.errors.PutError.{PutError}
 pub use Rattle.ubi_compose.specs.declared.errors.SpecCause.{SpecCause}
 pub use Rattle.ubi_compose.specs.declared.line.Form.{Form}
 pub use Rattle.ubi_compose.specs.declared.line.Line.{Line}
-pub use Rattle.ubi_compose.specs.declared.piece.Device.{Device}
-pub use Rattle.ubi_compose.specs.declared.piece.Origin.{Origin}
-pub use Rattle.ubi_compose.specs.declared.piece.Piece.{Piece}
-pub use Rattle.ubi_compose.specs.declared.recipe.Part.{Part}
-pub use Rattle.ubi_compose.specs.inner.Building.{HasParts, built_piece, built_pieces, empty_of, is_long, part_at, part_header, piece_of_kind, stand_in, stand_in_item, table_of}
-pub use Rattle.ubi_compose.specs.inner.Drafts.{AreDrafts, AreFaultless, IsRefused, changed, changed_at, error_at, opened, place_of, read, taken, with_line}
+pub use Rattle.ubi_compose.specs.declared.pieces.Device.{Device}
+pub use Rattle.ubi_compose.specs.declared.pieces.Origin.{Origin}
+pub use Rattle.ubi_compose.specs.declared.pieces.Piece.{Piece}
+pub use Rattle.ubi_compose.specs.inner.Building.{HasParts, built_piece, built_pieces, empty_of, is_long_part, part_at, part_header, piece_of_kind, stand_in, stand_in_item, table_of}
+pub use Rattle.ubi_compose.specs.inner.Drafts.{AreDrafts, AreFaultless, IsRefusedLine, changed, changed_at, error_at, opened, place_of, read, taken, with_line}
 pub use Rattle.ubi_compose.specs.inner.Pieces.{HasPut, IsFirstFrom, IsInBuffer, IsNext, IsReadIn, IsReadOf, IsReadable, LiesIn, NoRead, Pieces, checked_header, first_lebs, first_volumes, given_check, image_bytes, is_left_out, known_put, leb_written, piece_bytes, piece_text, spares_bytes, table_block, tables_bytes, volume_bytes}
 pub use Rattle.ubi_compose.specs.inner.Stored.{dynamic_piece, static_piece, stored_count, stored_piece, stored_pieces}

@@ -1,5 +1,5 @@
 -- Eraseblocks that are laid in order.
-use Rattle.ubi_compose.proofs.Prelude.{◌≡◌, ℕ, ◌+◌, List, [], ◌∷◌, ◌++◌, ◌<◌, get_or, length, map, replicate, take, append_assoc, append-nil, arith, length-append, ap, sym, ◌∙◌, zero-add, range_with_len, flat_map-append, take_more, length-map-range_with_len, flat_map-map, Sizes, data_pad, usable, plain, VolumeRecord, VidHeader, pieces_more, pieces, share, Meant, Content, Volume, composed, spare, Laid, blocks_of, damaged_block, dynamic_block, laid_bytes, layout_block, new_ec, normal_bytes, static_block, static_blocks, volume_blocks}
+use Rattle.ubi_compose.proofs.Prelude.{◌≡◌, ℕ, ◌+◌, List, [], ◌∷◌, ◌++◌, ◌<◌, get_or, length, map, replicate, take, append_assoc, append-nil, arith, length-append, ap, sym, ◌∙◌, zero-add, range_with_len, flat_map-append, take_more, length-map-range_with_len, flat_map-map, Sizes, data_pad, usable, plain, VolumeRecord, VidHeader, pieces_more, pieces, share, Meant, Content, Volume, composed, spare, Laid, laid_blocks, damaged_block, dynamic_block, laid_bytes, layout_block, new_ec, normal_bytes, static_block, static_blocks, volume_blocks}
 use Rattle.std.specs.FinMap as finite
 use Rattle.std.specs.List.{flat_map}
 use Rattle.ubi_media.specs.declared.vid.VolKind.TheVariants as kind
@@ -60,7 +60,7 @@ damaged_is s seq vol r c pad h padding header is =
 
 -- the eraseblocks of one volume more
 pub blocks_more : (s : Sizes) (es : List (ℕ × Volume)) (i : ℕ) (d : ℕ × Volume) → i < length es
-    → blocks_of s (take (i + 1) es) ≡ blocks_of s (take i es)
+    → laid_blocks s (take (i + 1) es) ≡ laid_blocks s (take i es)
     ++ volume_blocks s (get_or es i d).0 (get_or es i d).1.entry (get_or es i d).1.content
 blocks_more s es i d inside =
     let f = λ (e : ℕ × Volume). volume_blocks s e.0 e.1.entry e.1.content in
@@ -70,13 +70,13 @@ blocks_more s es i d inside =
 -- so there are as many more as it has
 pub count_more : (s : Sizes) (es : List (ℕ × Volume)) (i : ℕ) (e : ℕ × Volume) (count n : ℕ) → i < length es
     → e ≡ get_or es i e → n ≡ length (volume_blocks s e.0 e.1.entry e.1.content)
-    → count ≡ 2 + length (blocks_of s (take i es)) → count + n ≡ 2 + length (blocks_of s (take (i + 1) es))
+    → count ≡ 2 + length (laid_blocks s (take i es)) → count + n ≡ 2 + length (laid_blocks s (take (i + 1) es))
 count_more s es i e count n inside is own before =
     let blocks : List Laid = volume_blocks s (get_or es i e).0 (get_or es i e).1.entry (get_or es i e).1.content in
     let here : n ≡ length blocks = own
     ∙ ap (λ (x : ℕ × Volume). length (volume_blocks s x.0 x.1.entry x.1.content)) is in
-    let more : length (blocks_of s (take (i + 1) es)) ≡ length (blocks_of s (take i es)) + length blocks =
-    ap length (blocks_more s es i e inside) ∙ length-append (blocks_of s (take i es)) blocks in
+    let more : length (laid_blocks s (take (i + 1) es)) ≡ length (laid_blocks s (take i es)) + length blocks =
+    ap length (blocks_more s es i e inside) ∙ length-append (laid_blocks s (take i es)) blocks in
     omega arith
 
 -- how many a static text has
@@ -91,11 +91,11 @@ static_count s vol r c text is =
 -- the table, the volumes and the spares, in order
 pub composed_pieces : (m : Meant) (spares : ℕ)
     → (([] ++ laid_bytes m.sizes (new_ec m.image_seq) (layout_block m 0)) ++ laid_bytes m.sizes (new_ec m.image_seq) (layout_block m 1))
-    ++ flat_map (laid_bytes m.sizes (new_ec m.image_seq)) (blocks_of m.sizes (finite.entries m.volumes))
+    ++ flat_map (laid_bytes m.sizes (new_ec m.image_seq)) (laid_blocks m.sizes (finite.entries m.volumes))
     ++ flat_map (λ b. b) (replicate spares (spare m.sizes m.image_seq)) ≡ composed m spares
 unfolding normal_bytes
 composed_pieces m spares =
     let first : List ℕ = laid_bytes m.sizes (new_ec m.image_seq) (layout_block m 0) in
     let second : List ℕ = laid_bytes m.sizes (new_ec m.image_seq) (layout_block m 1) in
-    let rest : List ℕ = flat_map (laid_bytes m.sizes (new_ec m.image_seq)) (blocks_of m.sizes (finite.entries m.volumes)) in
+    let rest : List ℕ = flat_map (laid_bytes m.sizes (new_ec m.image_seq)) (laid_blocks m.sizes (finite.entries m.volumes)) in
     ap (λ x. x ++ flat_map (λ b. b) (replicate spares (spare m.sizes m.image_seq))) (append_assoc first second rest)

@@ -1,7 +1,6 @@
 -- What a buffer holds after an eraseblock or a piece was read, and what is laid out from it.
-use Rattle.ubi_compose.proofs.Prelude.{IsInBuffer, checked_header, piece_text, ◌≡◌, ℕ, ◌+◌, ◌-◌, ◌*◌, ◌/◌, ◌<◌, ◌≤◌, Bool, true, false, cond, List, [], ◌++◌, length, take, drop, slice_range, refl, ap, sym, ◌∙◌, arith, drop-append_seam, take-append_seam, take-take, Sizes, VidHeader, block, vid_area, get_or-first_chunks, laid_bytes, new_ec, Device, Origin, Piece, is_left_out, piece_bytes}
-use Rattle.ubi_scan.specs.Source.{blocks_of}
-use Rattle.ubi_compose.specs.declared.piece.Origin.TheVariants as origin
+use Rattle.ubi_compose.proofs.Prelude.{IsInBuffer, checked_header, piece_text, ◌≡◌, ℕ, ◌+◌, ◌-◌, ◌*◌, ◌/◌, ◌<◌, ◌≤◌, Bool, true, false, cond, List, [], ◌++◌, length, take, drop, slice_range, refl, ap, sym, ◌∙◌, arith, drop-append_seam, take-append_seam, take-take, Sizes, VidHeader, block, vid_area, get_or-first_chunks, laid_bytes, new_ec, Device, Origin, Piece, is_left_out, piece_bytes, blocks_of}
+use Rattle.ubi_compose.specs.declared.pieces.Origin.TheVariants as origin
 
 -- what was put behind the headers' bytes
 pub text_is : (xs text rest : List ℕ) (n : ℕ) → length xs ≡ n

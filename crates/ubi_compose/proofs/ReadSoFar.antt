@@ -1,11 +1,11 @@
 -- What is known of a text as far as its lines have been read.
-use Rattle.ubi_compose.proofs.Prelude.{◌≡◌, ◌<◌, ℕ, ◌+◌, Bool, true, false, cond, List, [], ◌∷◌, ◌++◌, length, map, drop, get_or, refl, sym, ap, ◌∙◌, arith, Option, Some, None, Ok, Err, min, option_map, AllByRecursion, list_any, option_or, drop_all, drop_more, length_push, All-from_recursion, Sizes, breaks, fields_from, first_fault, rec_fault, VolumeRecord, Items, Content, Volume, AreFaultless, IsRefused, error_at, read, IsSpecError, cause_of, first_cause, is_damaged, is_dynamic, is_updating, line_number, lines, numbered_volume, of_volume, sayings, volume_from, volumes_in, volumes_of, LineError, SpecCause, Line}
+use Rattle.ubi_compose.proofs.Prelude.{◌≡◌, ◌<◌, ℕ, ◌+◌, Bool, true, false, cond, List, [], ◌∷◌, ◌++◌, length, map, drop, get_or, refl, sym, ap, ◌∙◌, arith, Option, Some, None, Ok, Err, min, option_map, AllByRecursion, list_any, option_or, drop_all, drop_more, length_push, All-from_recursion, Sizes, breaks, fields_from, first_fault, rec_fault, VolumeRecord, Items, Content, Volume, AreFaultless, IsRefusedLine, error_at, read, IsSpecError, cause_of, first_cause, is_damaged, is_dynamic, is_updating, line_number, lines, numbered_volume, of_volume, sayings, volume_from, volumes_in, volumes_of, LineError, SpecCause, Line}
 use Rattle.ubi_volume.specs.declared.content.Content.TheVariants as content
 use Rattle.ubi_compose.specs.declared.errors.LineError.TheVariants as line_error
 use Rattle.ubi_compose.proofs.LinesLeft.{first_from_start, first_left}
 use Rattle.ubi_compose.proofs.LinesRead.{read_more, sound_read}
-use Rattle.ubi_compose.proofs.Sound.{AreRight, IsSoundText, no_lines}
-use Rattle.ubi_compose.proofs.Taken.{answer}
+use Rattle.ubi_compose.proofs.SoundLines.{AreRight, IsSoundText, no_lines}
+use Rattle.ubi_compose.proofs.TakenLines.{answer}
 
 pub record IsReadSoFar (s : Sizes) (text : List ℕ) (before : List (List ℕ)) (items : Items) (number : ℕ) : Type 0 where
   pub left : first_cause s text ≡ first_left s before (drop (length before) (lines text))
@@ -81,7 +81,7 @@ module _ (s : Sizes) (text : List ℕ) (before : List (List ℕ)) (items : Items
       (first_left s (before ++ line ∷ []) (drop (length before + 1) (lines text)))) o
       ∙ ap (λ i. Some (i, c)) same
 
-  pub refused_at : (e : LineError) (m : ℕ) → IsRefused (read s items line) e → m ≡ min (n + 1) 0xFFFFFFFF
+  pub refused_at : (e : LineError) (m : ℕ) → IsRefusedLine (read s items line) e → m ≡ min (n + 1) 0xFFFFFFFF
       → IsSpecError s text (error_at m e)
   refused_at (line_error.Cause c) m h e = refused_one c m h e
   refused_at line_error.Memory m h e = tt

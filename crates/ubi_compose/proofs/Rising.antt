@@ -1,6 +1,6 @@
 -- Elements whose numbers rise, and the eraseblocks that are made of them.
 use Rattle.ubi_compose.proofs.Prelude.{◌≡◌, ℕ, zero, suc, ◌+◌, ◌<◌, T, List, [], ◌∷◌, map, refl, sym, ap, arith, flat_map, is_sorted, below_all, AllByRecursion, range_with_len, is_lt, nat_cmp, Ordering, Less, Equal, Greater, ranked, Leb, both_left, both_right, Laid}
-use Rattle.ubi_compose.proofs.Apart.{AreApart, Differ, apart_append}
+use Rattle.ubi_compose.proofs.DistinctLebs.{AreApart, Differ, apart_append}
 use Rattle.ubi_compose.proofs.Lists.{all_at, all_flat_map, all_from, all_map, range_holds}
 
 -- each number is above those before it

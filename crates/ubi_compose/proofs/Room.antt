@@ -1,5 +1,5 @@
 -- A normal image fits the device: a volume has no more eraseblocks than it reserves.
-use Rattle.ubi_compose.proofs.Prelude.{take-append-drop, ◌≡◌, ℕ, ◌+◌, ◌<◌, ◌≤◌, List, [], ◌∷◌, ◌++◌, drop, length, map, take, sym, ap, ◌∙◌, subst, arith, IfSome, Option, flat_map, fold, FinMap, AllByRecursion, nat_cmp, length-map, flat_map-append, length-map-range_with_len, Sizes, data_pad, usable, usable_some, Fits, IsMeaning, IsVolume, Meant, pieces, Content, Volume, HasRoom, blocks_of, dynamic_block, normal_blocks, static_part, volume_blocks, reserved_some, pieces_few, volume_is}
+use Rattle.ubi_compose.proofs.Prelude.{take-append-drop, ◌≡◌, ℕ, ◌+◌, ◌<◌, ◌≤◌, List, [], ◌∷◌, ◌++◌, drop, length, map, take, sym, ap, ◌∙◌, subst, arith, IfSome, Option, flat_map, fold, FinMap, AllByRecursion, nat_cmp, length-map, flat_map-append, length-map-range_with_len, Sizes, data_pad, usable, usable_some, Fits, IsMeaning, IsVolume, Meant, pieces, Content, Volume, HasRoom, laid_blocks, dynamic_block, normal_blocks, static_part, volume_blocks, reserved_some, pieces_few, volume_is}
 use Rattle.std.specs.FinMap as finite
 use Rattle.std.proofs.lemmas.List.{length-append}
 use Rattle.ubi_volume.specs.declared.content.Content.TheVariants as content
@@ -52,25 +52,25 @@ few_by s vol v is (content.Dynamic lebs) fits =
 
 few_all : (s : Sizes) (es : List (ℕ × Volume)) (n : ℕ)
     → AllByRecursion (λ (e : ℕ × Volume). length (volume_blocks s e.0 e.1.entry e.1.content) ≤ e.1.entry.reserved) es
-    → n + length (blocks_of s es) ≤ fold (λ k (v : Volume). k + v.entry.reserved) n (map (λ (e : ℕ × Volume). e.1) es)
+    → n + length (laid_blocks s es) ≤ fold (λ k (v : Volume). k + v.entry.reserved) n (map (λ (e : ℕ × Volume). e.1) es)
 few_all s [] n h = omega arith
 few_all s (e ∷ es) n h =
     let own = volume_blocks s e.0 e.1.entry e.1.content in
     let first : length own ≤ e.1.entry.reserved = h.0 in
     let sum : ℕ = fold (λ k (v : Volume). k + v.entry.reserved) (n + e.1.entry.reserved)
     (map (λ (e : ℕ × Volume). e.1) es) in
-    let rest : n + e.1.entry.reserved + length (blocks_of s es) ≤ sum = few_all s es (n + e.1.entry.reserved) h.1 in
-    let both : length (own ++ blocks_of s es) ≡ length own + length (blocks_of s es) =
-    length-append own (blocks_of s es) in
+    let rest : n + e.1.entry.reserved + length (laid_blocks s es) ≤ sum = few_all s es (n + e.1.entry.reserved) h.1 in
+    let both : length (own ++ laid_blocks s es) ≡ length own + length (laid_blocks s es) =
+    length-append own (laid_blocks s es) in
     omega arith
 
 -- as many as there are in front are no more
-prefix_few : (s : Sizes) (es : List (ℕ × Volume)) (i : ℕ) → length (blocks_of s (take i es)) ≤ length (blocks_of s es)
+prefix_few : (s : Sizes) (es : List (ℕ × Volume)) (i : ℕ) → length (laid_blocks s (take i es)) ≤ length (laid_blocks s es)
 prefix_few s es i =
     let f = λ (e : ℕ × Volume). volume_blocks s e.0 e.1.entry e.1.content in
-    let cut : blocks_of s es ≡ blocks_of s (take i es) ++ blocks_of s (drop i es) =
+    let cut : laid_blocks s es ≡ laid_blocks s (take i es) ++ laid_blocks s (drop i es) =
     ap (flat_map f) (sym (take-append-drop i es)) ∙ flat_map-append f (take i es) (drop i es) in
-    let both = ap length cut ∙ length-append (blocks_of s (take i es)) (blocks_of s (drop i es)) in
+    let both = ap length cut ∙ length-append (laid_blocks s (take i es)) (laid_blocks s (drop i es)) in
     omega arith
 
 pub normal_fits : (m : Meant) → IsMeaning m → HasRoom m 0
@@ -87,7 +87,7 @@ normal_fits m is =
 
 -- the eraseblocks of the first volumes fit it too
 pub first_fit : (m : Meant) → IsMeaning m → (i : ℕ)
-    → 2 + length (blocks_of m.sizes (take i (finite.entries m.volumes))) ≤ m.sizes.pebs
+    → 2 + length (laid_blocks m.sizes (take i (finite.entries m.volumes))) ≤ m.sizes.pebs
 first_fit m is i =
     let all : length (normal_blocks m) + 0 ≤ m.sizes.pebs = normal_fits m is in
     let few = prefix_few m.sizes (finite.entries m.volumes) i in

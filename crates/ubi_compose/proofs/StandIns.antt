@@ -1,5 +1,5 @@
 -- Volumes are judged by what stands in for their bytes as they would be by the bytes.
-use Rattle.ubi_compose.proofs.Prelude.{◌≡◌, ℕ, ◌+◌, ◌*◌, ◌<◌, ◌≤◌, ◌&&◌, Bool, true, false, cond, List, [], ◌∷◌, length, map, refl, ap, sym, ◌∙◌, subst, arith, inl, inr, None, Option, Some, fold, is_none, nat_lt, slice_get, IfSome, nat_cmp, nat_tests, Sizes, rec_fault, usable, RecFault, VolumeRecord, VolKind, usable_some, IsBefore, IsFirst, IsItem, NoCause, Stands, rank, Fits, Content, Volume, MeaningCause, Reaches, content_of, items_of, text_of, empty_of, is_long, stand_in, stand_in_item, Part, not}
+use Rattle.ubi_compose.proofs.Prelude.{◌≡◌, ℕ, ◌+◌, ◌*◌, ◌<◌, ◌≤◌, ◌&&◌, Bool, true, false, cond, List, [], ◌∷◌, length, map, refl, ap, sym, ◌∙◌, subst, arith, inl, inr, None, Option, Some, fold, is_none, nat_lt, slice_get, IfSome, nat_cmp, nat_tests, Sizes, rec_fault, usable, RecFault, VolumeRecord, VolKind, usable_some, IsBefore, IsFirstMade, IsItem, NoCause, Stands, cause_rank, Fits, Content, Volume, MeaningCause, Reaches, content_of, items_of, text_of, empty_of, is_long_part, stand_in, stand_in_item, Part, not}
 use Rattle.std.specs.FinMap as finite
 use Rattle.ubi_media.specs.declared.vid.VolKind.TheVariants as kind
 use Rattle.ubi_volume.specs.declared.content.Content.TheVariants as content
@@ -35,16 +35,16 @@ module _ (s : Sizes) (p : Part) (sound : rec_fault s p.entry ≡ None) (text : L
   some : 1 ≤ usable s r
   some = usable_some s r sound
 
-  long_is : is_long s p ≡ nat_lt (r.reserved * usable s r) p.len
+  long_is : is_long_part s p ≡ nat_lt (r.reserved * usable s r) p.len
   long_is = ap (λ o. is_none o && nat_lt (r.reserved * usable s r) p.len) sound
 
-  past : is_long s p ≡ true → r.reserved * usable s r < length text
+  past : is_long_part s p ≡ true → r.reserved * usable s r < length text
   past e = let t = sym long_is ∙ e in rw size (above t)
     where
       above : nat_lt (r.reserved * usable s r) p.len ≡ true → r.reserved * usable s r < p.len
       above t = grind (arith, nat_tests)
 
-  within : is_long s p ≡ false → length text ≤ r.reserved * usable s r
+  within : is_long_part s p ≡ false → length text ≤ r.reserved * usable s r
   within e = let t = sym long_is ∙ e in rw size (below t)
     where
       below : nat_lt (r.reserved * usable s r) p.len ≡ false → p.len ≤ r.reserved * usable s r
@@ -54,14 +54,14 @@ module _ (s : Sizes) (p : Part) (sound : rec_fault s p.entry ≡ None) (text : L
   abbrev chosen : Bool → Bool → Content
   chosen long marked = cond (long && not marked) content.Updating (empty_of r.kind)
 
-  bytes_then : (long marked : Bool) → is_long s p ≡ long → r.marker ≡ marked → Fits s r (chosen long marked)
+  bytes_then : (long marked : Bool) → is_long_part s p ≡ long → r.marker ≡ marked → Fits s r (chosen long marked)
       → Fits s r (content_of r.kind (usable s r) text)
   bytes_then true false e m fits = absurd (let f = sym m ∙ fits in cc)
   bytes_then true true e m fits = absurd (let f = sym m ∙ empty_clear s r r.kind fits in cc)
   bytes_then false true e m fits = absurd (let f = sym m ∙ empty_clear s r r.kind fits in cc)
   bytes_then false false e m fits = content_fits s r some text r.kind refl m (within e)
 
-  stand_then : (long marked : Bool) → is_long s p ≡ long → r.marker ≡ marked
+  stand_then : (long marked : Bool) → is_long_part s p ≡ long → r.marker ≡ marked
       → Fits s r (content_of r.kind (usable s r) text) → Fits s r (chosen long marked)
   stand_then true false e m fits = absurd (long_misfits s r some text r.kind (past e) fits)
   stand_then true true e m fits = absurd (let f = sym m ∙ content_clear s r r.kind (usable s r) text fits in cc)
@@ -69,10 +69,10 @@ module _ (s : Sizes) (p : Part) (sound : rec_fault s p.entry ≡ None) (text : L
   stand_then false false e m fits = empty_fits s r r.kind refl m
 
   pub bytes_fit : Fits s r (stand_in s p) → Fits s r (content_of r.kind (usable s r) text)
-  bytes_fit fits = bytes_then (is_long s p) r.marker refl refl fits
+  bytes_fit fits = bytes_then (is_long_part s p) r.marker refl refl fits
 
   pub stand_in_fits : Fits s r (content_of r.kind (usable s r) text) → Fits s r (stand_in s p)
-  stand_in_fits fits = stand_then (is_long s p) r.marker refl refl fits
+  stand_in_fits fits = stand_then (is_long_part s p) r.marker refl refl fits
 
 -- volumes of the same parts, whose numbers and records are those of the parts
 module _ (s : Sizes) (parts : List Part) (content other : Part → Content) where
@@ -190,21 +190,21 @@ module _ (s : Sizes) (parts : List Part) (bytes : List ℕ) (reaches : Reaches (
       no_fault _ = tt
 
   -- the first cause is the same
-  pub first_of_bytes : (c : MeaningCause) → IsFirst s standing c → IsFirst s having c
+  pub first_of_bytes : (c : MeaningCause) → IsFirstMade s standing c → IsFirstMade s having c
   first_of_bytes c h = record {
     stands = stands_here c (here c h) h.stands;
     first = λ d before stands. h.first d before (stands_there d (earlier d before) stands);
   }
     where
-      here : (c : MeaningCause) → IsFirst s standing c → NoFaultAt c
+      here : (c : MeaningCause) → IsFirstMade s standing c → NoFaultAt c
       here (cause.ContentRange i) h = λ f. h.first (cause.Record i f) (inl (omega arith))
       here _ h = tt
 
-      most : (d : MeaningCause) → rank d ≤ 6
+      most : (d : MeaningCause) → cause_rank d ≤ 6
       most (cause.ContentRange i) = omega arith
       most _ = omega arith
 
-      last : (i : ℕ) → IsBefore (cause.ContentRange i) c → 6 ≤ rank c
+      last : (i : ℕ) → IsBefore (cause.ContentRange i) c → 6 ≤ cause_rank c
       last i (inl l) = absurd (let m = most c in omega (arith, l, m))
       last i (inr e) = (let same = e.0 in omega (arith, same))
 

@@ -1,5 +1,5 @@
 -- The normal image of an image whose places are known, by their pieces; and what a writer received of it.
-use Rattle.ubi_compose.proofs.Prelude.{◌≡◌, ℕ, ◌*◌, ◌/◌, ◌<◌, inr, Result, Ok, Err, List, [], ◌++◌, length, take, refl, ap, sym, ◌∙◌, subst, arith, IfSome, Option, Some, None, flat_map, option_map, option_map_or, range_with_len, Appends, append_assoc, append-nil, take_all, Sizes, slots, VolumeRecord, image_of, same_range, Agreed, Source, blocks_in, Records, table_bytes, Meant, ArePlaces, AreWithin, ArePlacesOf, CaseFits, Placed, case_of, PlaceContent, Volume, same_Some, blocks_of, laid_bytes, layout_block, new_ec, normal_bytes, volume_blocks, IsNormaliseToError, IsNormalisedTo, All, First, NotAll, Wrote, those, mul-div_cancel, PutError, HasPut, IsReadIn, first_volumes, image_bytes, tables_bytes, volume_bytes, stored_count, stored_piece, stored_pieces, HasGot, record_of}
+use Rattle.ubi_compose.proofs.Prelude.{◌≡◌, ℕ, ◌*◌, ◌/◌, ◌<◌, inr, Result, Ok, Err, List, [], ◌++◌, length, take, refl, ap, sym, ◌∙◌, subst, arith, IfSome, Option, Some, None, flat_map, option_map, option_map_or, range_with_len, Appends, append_assoc, append-nil, take_all, Sizes, slots, VolumeRecord, image_of, same_range, Agreed, Source, blocks_in, Records, table_bytes, Meant, ArePlaces, AreWithin, ArePlacesOf, CaseFits, Placed, case_of, PlaceContent, Volume, same_Some, laid_blocks, laid_bytes, layout_block, new_ec, normal_bytes, volume_blocks, IsNormaliseToError, IsNormalisedTo, All, First, NotAll, Wrote, those, mul-div_cancel, PutError, HasPut, IsReadIn, first_volumes, image_bytes, tables_bytes, volume_bytes, stored_count, stored_piece, stored_pieces, HasGot, record_of}
 use Rattle.ubi_compose.specs.declared.errors.PutError.TheVariants as put
 use Rattle.std.specs.FinMap as finite
 use Rattle.ubi_scan.specs.declared.errors.StreamError.TheVariants as stream
@@ -43,7 +43,7 @@ module _ (p : Placed) (n : ℕ) (within : AreWithin n p) (image : List ℕ) (pla
       ∙ ap (λ r. of id r (Some (case_of (s p image) v.entry v.content))) (sym is)
       ∙ ap (of id (finite.get p.records.of id)) (sym case)
 
-  volumes_are : flat_map (laid_bytes (s p image) (new_ec p.image_seq)) (blocks_of (s p image) (finite.entries m.volumes))
+  volumes_are : flat_map (laid_bytes (s p image) (new_ec p.image_seq)) (laid_blocks (s p image) (finite.entries m.volumes))
       ≡ first_volumes (d p image) (stored_pieces p) (slots (s p image)) image
   volumes_are =
       flat_map-flat_map (laid_bytes (s p image) (new_ec p.image_seq))
@@ -53,11 +53,11 @@ module _ (p : Placed) (n : ℕ) (within : AreWithin n p) (image : List ℕ) (pla
 
   whole : (z : Sizes) (seq : ℕ) → m.sizes ≡ z → m.image_seq ≡ seq
       → normal_bytes m ≡ tables_bytes (record { geometry = z; image_seq = seq }) (table_bytes p.records) image
-      ++ flat_map (laid_bytes z (new_ec seq)) (blocks_of z (finite.entries m.volumes))
+      ++ flat_map (laid_bytes z (new_ec seq)) (laid_blocks z (finite.entries m.volumes))
   unfolding normal_bytes
   whole z seq sizes named =
       let f = λ (z : Sizes) (seq copy : ℕ). laid_bytes z (new_ec seq) (layout_block m copy) in
-      let g = λ (z : Sizes) (seq : ℕ). flat_map (laid_bytes z (new_ec seq)) (blocks_of z (finite.entries m.volumes)) in
+      let g = λ (z : Sizes) (seq : ℕ). flat_map (laid_bytes z (new_ec seq)) (laid_blocks z (finite.entries m.volumes)) in
       ap (λ z. f z m.image_seq 0 ++ (f z m.image_seq 1 ++ g z m.image_seq)) sizes
       ∙ ap (λ q. f z q 0 ++ (f z q 1 ++ g z q)) named ∙ sym (append_assoc (f z seq 0) (f z seq 1) (g z seq))
       ∙ ap (λ (t : Records). tables_bytes (record { geometry = z; image_seq = seq }) (table_bytes t) image ++ g z seq)

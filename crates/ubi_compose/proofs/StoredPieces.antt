@@ -1,8 +1,7 @@
 -- The pieces of a volume of an image whose places are known: their eraseblocks are what is written.
-use Rattle.ubi_compose.proofs.Prelude.{◌≡◌, ◌≢◌, ℕ, ◌<◌, inl, inr, Bool, true, false, cond, List, [], length, take, refl, ap, sym, ◌∙◌, subst, arith, IfSome, IsSome, None, Option, Some, flat_map, option_map, unwrap_or, FinMap, range_with_len, option_map_or, nat_cmp, flat_map-map, check, blank, is_blank, Sizes, data_pad, usable, plain, VolumeRecord, usable_some, block, image_of, leb, vid, Wins, Wins-unique, AreWhole, LebReads, StaticReads, VolumeReads, piece, pieces, share, share_len, Fits, IsVolume, KeepsNoBlank, ArePlaces, Placed, Content, Volume, blank_text, other_text, volume_is, member_valid, are_lebs, same_range, static_whole, length-share, header_at, share_at, found_or_none, found_wins, in_table, reads_of, table, dynamic_block, laid_bytes, new_ec, piece_header, static_part, volume_blocks, Device, Piece, given_check, piece_bytes, dynamic_piece, static_piece, stored_count, stored_piece, CaseFits, case_of}
+use Rattle.ubi_compose.proofs.Prelude.{◌≡◌, ◌≢◌, ℕ, ◌<◌, inl, inr, Bool, true, false, cond, List, [], length, take, refl, ap, sym, ◌∙◌, subst, arith, IfSome, IsSome, None, Option, Some, flat_map, option_map, unwrap_or, FinMap, range_with_len, option_map_or, nat_cmp, flat_map-map, crc_of, blank, is_blank, Sizes, data_pad, usable, plain, VolumeRecord, usable_some, block, image_of, leb, vid, Wins, Wins-unique, HoldContents, LebReads, StaticReads, VolumeReads, piece, pieces, share, share_len, Fits, IsVolume, KeepsNoBlank, ArePlaces, Placed, Content, Volume, blank_text, other_text, volume_is, member_valid, are_lebs, same_range, static_whole, length-share, header_at, share_at, found_or_none, found_wins, in_table, reads_of, table, dynamic_block, laid_bytes, new_ec, piece_header, static_part, volume_blocks, Device, Piece, given_check, piece_bytes, dynamic_piece, static_piece, stored_count, stored_piece, CaseFits, case_of, blocks_of}
 use Rattle.std.specs.FinMap as finite
 use Rattle.ubi_media.specs.declared.vid.VolKind.TheVariants as kind
-use Rattle.ubi_scan.specs.Source.{blocks_of}
 use Rattle.ubi_volume.specs.declared.content.Content.TheVariants as content
 use Rattle.ubi_volume.specs.declared.places.PlaceContent.TheVariants as place
 use Rattle.ubi_compose.proofs.EntriesByNumber.{entries_by_number}
@@ -54,7 +53,7 @@ module _ (p : Placed) (image : List ℕ) where
         abbrev text : List ℕ
         text = take len (leb s (block bs q))
 
-        whole : (ps : List ℕ) × AreWhole s bs id r ps × (t ≡ flat_map (piece s bs) ps) × (n < length ps)
+        whole : (ps : List ℕ) × HoldContents s bs id r ps × (t ≡ flat_map (piece s bs) ps) × (n < length ps)
         whole = static_whole s p image places id r recorded v at lebs (length t) t is refl refl n inside
 
         won : Wins s bs (id, n) q
@@ -72,20 +71,20 @@ module _ (p : Placed) (image : List ℕ) where
             subst (λ (x : List ℕ). share size x n ≡ take (length (share size x n)) (leb s (block bs q))) (sym whole.2) here
             ∙ ap (λ k. take k (leb s (block bs q))) long
 
-        check_is : given_check (vid s (block bs q)) ≡ check (share size t n)
+        check_is : given_check (vid s (block bs q)) ≡ crc_of (share size t n)
         check_is =
             let k =
             header_at s bs places.accepted.accepted.clean (are_lebs (image_of s image)) (table s p image places)
             places.accepted.accepted.alike id r (in_table s p image places id r recorded)
             static_reads.0 static_reads.1 whole.0 whole.1 n q whole.3 won in
-            ap given_check (member_valid s (block bs q) k.0 k.1) ∙ k.2 ∙ ap (λ x. check (share size x n)) (sym whole.2)
+            ap given_check (member_valid s (block bs q) k.0 k.1) ∙ k.2 ∙ ap (λ x. crc_of (share size x n)) (sym whole.2)
 
         static_is : laid_bytes s (new_ec p.image_seq) (static_part pad size id t n)
             ≡ piece_bytes d (static_piece s id r lebs (length t) n q) image
         static_is =
             let f = λ (l c : ℕ) (x : List ℕ). laid_bytes s (new_ec p.image_seq)
             (record { header = piece_header pad id lebs n l c; text = x }) in
-            ap (λ l. f l (check (share size t n)) (share size t n)) long
+            ap (λ l. f l (crc_of (share size t n)) (share size t n)) long
             ∙ ap (λ c. f len c (share size t n)) (sym check_is) ∙ ap (f len (given_check (vid s (block bs q)))) share_is
 
       all_static : ((n : ℕ) → n < lebs → IsSome (finite.get p.winners (id, n)))

@@ -1,5 +1,5 @@
 -- The eraseblocks of one volume.
-use Rattle.ubi_compose.proofs.Prelude.{◌≡◌, ℕ, ◌^◌, ◌<◌, ◌≤◌, List, length, map, refl, sym, subst, arith, IfSome, Option, FinMap, AllByRecursion, range_with_len, nat_cmp, check, IsGeometry, Sizes, data_pad, usable, VolumeRecord, check_from-lt, usable_some, Fits, IsVolume, pieces, share, Content, Volume, Laid, damaged_block, dynamic_block, static_blocks, static_part, volume_blocks, half_pad, reserved_within, pieces_few, share_full, share_most, share_some}
+use Rattle.ubi_compose.proofs.Prelude.{◌≡◌, ℕ, ◌^◌, ◌<◌, ◌≤◌, List, length, map, refl, sym, subst, arith, IfSome, Option, FinMap, AllByRecursion, range_with_len, nat_cmp, crc_of, IsGeometry, Sizes, data_pad, usable, VolumeRecord, check_from-lt, usable_some, Fits, IsVolume, pieces, share, Content, Volume, Laid, damaged_block, dynamic_block, static_blocks, static_part, volume_blocks, half_pad, reserved_within, pieces_few, share_full, share_most, share_some}
 use Rattle.std.specs.FinMap as finite
 use Rattle.ubi_volume.specs.declared.content.Content.TheVariants as content
 use Rattle.ubi_compose.proofs.Blocks.{IsFine}
@@ -101,9 +101,9 @@ module _ (s : Sizes) (g : IsGeometry s) (vol : ℕ) (v : Volume) (is : IsVolume 
       } in
       record {
         room = omega (arith, g.leb);
-        fits = static_fits s pad vol lnum u (length held) used (check held) part
+        fits = static_fits s pad vol lnum u (length held) used (crc_of held) part
             (check_from-lt 0xFFFFFFFF held (omega arith));
-        sound = static_sound s pad vol lnum u (length held) used (check held) part;
+        sound = static_sound s pad vol lnum u (length held) used (crc_of held) part;
         known = user_known vol slot_small;
         placed = user_placed (static_part pad size vol text lnum).header slot_small;
         number = refl;

@@ -4,7 +4,7 @@ use Rattle.ubi_scan.specs.Source.{Agreed, Source, failed}
 use Rattle.ubi_volume.specs.Wrote.{First, NotAll, Wanted, Wrote}
 use Rattle.ubi_compose.specs.Composed.{composed}
 use Rattle.ubi_compose.specs.Built.{Parts, Reaches, built, most_blocks}
-use Rattle.ubi_compose.specs.declared.recipe.Part.{Part}
+use Rattle.ubi_compose.specs.declared.built_image.Part.{Part}
 use Rattle.ubi_compose.specs.declared.errors.BuildError.{BuildError}
 use Rattle.ubi_compose.specs.declared.errors.BuildError.TheVariants as build
 
@@ -17,8 +17,8 @@ abbrev pub image_built : Parts → ℕ → Wanted
 image_built ps spares = those (λ bytes. composed (built ps bytes) spares)
 
 -- a part whose volume has a number
-abbrev pub IsPartOf : Parts → ℕ → Part → Type 0
-IsPartOf ps id p = Contains ps.of p × (p.id ≡ id)
+abbrev pub IsNumberedPart : Parts → ℕ → Part → Type 0
+IsNumberedPart ps id p = Contains ps.of p × (p.id ≡ id)
 
 -- the device has room for all pieces and the spares, and a source of this size has the bytes of each part
 pub record CanBuild (ps : Parts) (spares size : ℕ) : Type 0 where
@@ -26,21 +26,21 @@ pub record CanBuild (ps : Parts) (spares size : ℕ) : Type 0 where
   pub reaches : Reaches size ps.of
 
 -- why an image can't be built: the device has no room for it, or it has and the bytes of a part lie beyond the source's end
-abbrev pub IsRefused : Parts → ℕ → ℕ → BuildError → Type 0
-IsRefused ps spares size build.TooMany = ps.sizes.pebs < most_blocks ps + spares
-IsRefused ps spares size (build.Beyond id) =
-    (most_blocks ps + spares ≤ ps.sizes.pebs) × ((p : Part) × IsPartOf ps id p × (size < p.start + p.len))
-IsRefused ps spares size _ = ⊥
+abbrev pub IsRefusedBuild : Parts → ℕ → ℕ → BuildError → Type 0
+IsRefusedBuild ps spares size build.TooMany = ps.sizes.pebs < most_blocks ps + spares
+IsRefusedBuild ps spares size (build.Beyond id) =
+    (most_blocks ps + spares ≤ ps.sizes.pebs) × ((p : Part) × IsNumberedPart ps id p × (size < p.start + p.len))
+IsRefusedBuild ps spares size _ = ⊥
 
 -- why nothing is built, or only the first bytes are: it can't be built; or it can, and memory ran out, or a read for a
 -- volume failed, or a write failed
 abbrev pub IsBuildError : Parts → ℕ → Source → Agreed → Option (List ℕ) → Option (List ℕ) → BuildError → Type 0
 IsBuildError ps spares k agrees old new build.Memory = CanBuild ps spares k.size
 IsBuildError ps spares k agrees old new (build.Read id n) =
-    CanBuild ps spares k.size × ((p : Part) × IsPartOf ps id p × Wrote agrees old new (image_built ps spares) First 0 n)
+    CanBuild ps spares k.size × ((p : Part) × IsNumberedPart ps id p × Wrote agrees old new (image_built ps spares) First 0 n)
 IsBuildError ps spares k agrees old new (build.Write n) =
     CanBuild ps spares k.size × Wrote agrees old new (image_built ps spares) NotAll 0 n
-IsBuildError ps spares k agrees old new e = IsRefused ps spares k.size e
+IsBuildError ps spares k agrees old new e = IsRefusedBuild ps spares k.size e
 
 -- a failed read began in the bytes of the part whose volume is named
 abbrev pub NamesPart : Part → ℕ → BuildError → Type 0

@@ -8,12 +8,12 @@ use Rattle.ubi_media.specs.Geometry.{IsGeometry, Sizes}
 use Rattle.ubi_media.specs.Record.{usable}
 use Rattle.ubi_media.specs.declared.vid.VolKind.{VolKind}
 use Rattle.ubi_media.specs.declared.vid.VolKind.TheVariants as kind
-use Rattle.ubi_volume.specs.Made.{IsFirst, Items, NoCause, meaning_of}
+use Rattle.ubi_volume.specs.Made.{IsFirstMade, Items, NoCause, meaning_of}
 use Rattle.ubi_volume.specs.Meant.{Meant, pieces, share}
 use Rattle.ubi_volume.specs.declared.content.Content.{Content}
 use Rattle.ubi_volume.specs.declared.content.Content.TheVariants as content
 use Rattle.ubi_volume.specs.declared.content.Volume.{Volume}
-use Rattle.ubi_compose.specs.declared.recipe.Part.{Part}
+use Rattle.ubi_compose.specs.declared.built_image.Part.{Part}
 use Rattle.ubi_compose.specs.declared.errors.RecipeError.{RecipeError}
 use Rattle.ubi_compose.specs.declared.errors.RecipeError.TheVariants as recipe
 
@@ -72,5 +72,5 @@ pub record HaveMeaning (ps : Parts) : Type 0 where
 -- why they have none: whatever the bytes are, the first cause that applies; or memory ran out
 abbrev pub IsRecipeError : Sizes → List Part → RecipeError → Type 0
 IsRecipeError s parts (recipe.Refused c) =
-    (bytes : List ℕ) → Reaches (length bytes) parts → IsFirst s (items_of s bytes parts) c
+    (bytes : List ℕ) → Reaches (length bytes) parts → IsFirstMade s (items_of s bytes parts) c
 IsRecipeError s parts recipe.Memory = Unit {0}

@@ -9,7 +9,7 @@ use Rattle.ubi_volume.specs.Accepts.{Accepts}
 use Rattle.ubi_volume.specs.Reading.{read_volume}
 use Rattle.ubi_compose.specs.Built.{HaveMeaning, Parts, Reaches, built, most_blocks, text_of}
 use Rattle.ubi_compose.specs.Composed.{composed}
-use Rattle.ubi_compose.specs.declared.recipe.Part.{Part}
+use Rattle.ubi_compose.specs.declared.built_image.Part.{Part}
 
 -- what a volume of a number of bytes reads after some were written to it: a static one these, and a dynamic one these and 0xFF after them
 abbrev pub text_read : VolKind → ℕ → List ℕ → List ℕ

@@ -2,7 +2,7 @@
 use Rattle.std.specs.Prelude.{ℕ, List, [], ◌∷◌, ◌++◌, map, flat_map, length, ◌≡◌}
 use Rattle.std.specs.FinMap.{entries}
 use Rattle.std.specs.List.{range_with_len}
-use Rattle.ubi_media.specs.Check.{check}
+use Rattle.ubi_media.specs.Check.{crc_of}
 use Rattle.ubi_media.specs.Ec.{ec_bytes}
 use Rattle.ubi_media.specs.Fields.{filled}
 use Rattle.ubi_media.specs.Geometry.{Sizes}
@@ -42,7 +42,7 @@ piece_header pad vol used lnum size crc =
 -- a LEB of a static volume, with its header and data
 abbrev pub static_block : ℕ → ℕ → ℕ → ℕ → List ℕ → Laid
 static_block pad vol used lnum text = record {
-  header = piece_header pad vol used lnum (length text) (check text);
+  header = piece_header pad vol used lnum (length text) (crc_of text);
   text = text;
 }
 
@@ -66,12 +66,12 @@ volume_blocks s vol r (content.Static text) = static_blocks (data_pad s r) (usab
 volume_blocks s vol r (content.Dynamic lebs) = map (dynamic_block (data_pad s r) vol) (entries lebs)
 
 -- the eraseblocks of volumes, in their order
-abbrev pub blocks_of : Sizes → List (ℕ × Volume) → List Laid
-blocks_of s volumes = flat_map (λ v. volume_blocks s v.0 v.1.entry v.1.content) volumes
+abbrev pub laid_blocks : Sizes → List (ℕ × Volume) → List Laid
+laid_blocks s volumes = flat_map (λ v. volume_blocks s v.0 v.1.entry v.1.content) volumes
 
 -- the eraseblocks of a meaning: two copies of its table, and then its volumes in ascending order
 abbrev pub normal_blocks : Meant → List Laid
-normal_blocks m = layout_block m 0 ∷ layout_block m 1 ∷ blocks_of m.sizes (entries m.volumes)
+normal_blocks m = layout_block m 0 ∷ layout_block m 1 ∷ laid_blocks m.sizes (entries m.volumes)
 
 -- an erase-counter header of the normal image, with its image sequence number
 abbrev pub new_ec : ℕ → EcHeader

@@ -26,7 +26,7 @@ pub record IsPart (image : Image) (old new : Option (List ℕ)) (n : ℕ) : Type
   pub written : Appends old new (take n (normal_bytes meaning))
 
 -- the writer received the first n bytes of the normal image, but not all
-pub record IsCut (image : Image) (old new : Option (List ℕ)) (n : ℕ) : Type 0 where
+pub record IsCutShort (image : Image) (old new : Option (List ℕ)) (n : ℕ) : Type 0 where
   pub meaning : Meant
   pub accepted : Accepts image meaning
   pub short : n < length (normal_bytes meaning)
@@ -50,7 +50,7 @@ IsNormaliseToError s k agrees old new (stream.Read p n) =
     IsWholeSize s k.size × (p < blocks_in s k) × HasGot old new n
     × (((n ≡ 0) × Keeps old new) ⊎ WhereHeld agrees (λ bytes. IsPart (image_of s bytes) old new n))
 IsNormaliseToError s k agrees old new (stream.Write n) =
-    HasGot old new n × WhereHeld agrees (λ bytes. IsCut (image_of s bytes) old new n)
+    HasGot old new n × WhereHeld agrees (λ bytes. IsCutShort (image_of s bytes) old new n)
 
 -- a fact that holds if nothing was written: if the image is refused, or memory ran out
 abbrev pub WhereUnwritten : Type 0 → StreamError → Type 0

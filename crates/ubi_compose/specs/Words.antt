@@ -36,12 +36,12 @@ abbrev pub is_plain : ℕ → Bool
 is_plain b = is_between 0x21 0x7E b && not (b == 92)
 
 -- the byte that two hexadecimal digits stand for
-abbrev pub shown_byte : ℕ → ℕ → Option ℕ
-shown_byte high low = option_and_then (λ h. option_map (λ l. h * 16 + l) (hex_digit_value low)) (hex_digit_value high)
+abbrev pub escaped_byte : ℕ → ℕ → Option ℕ
+escaped_byte high low = option_and_then (λ h. option_map (λ l. h * 16 + l) (hex_digit_value low)) (hex_digit_value high)
 
 -- the byte that stands after a backslash, as an x and two digits
 abbrev pub escape_byte : List ℕ → Option ℕ
-escape_byte part = shown_byte (slice_index part 1) (slice_index part 2)
+escape_byte part = escaped_byte (slice_index part 1) (slice_index part 2)
 
 -- what follows a backslash up to the next: an x, two digits, and bytes as they are
 abbrev pub is_escape : List ℕ → Bool

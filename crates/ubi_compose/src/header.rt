@@ -1,7 +1,7 @@
 //! The volume-identifier headers of the normal image.
 
 ghost use Rattle.std.specs.Prelude.{◌≡◌, ◌<◌, ◌^◌, length};
-ghost use Rattle.ubi_media.specs.Check.{check};
+ghost use Rattle.ubi_media.specs.Check.{crc_of};
 ghost use Rattle.ubi_media.specs.Vid.{plain};
 ghost use Rattle.ubi_media.specs.declared.vid.VolKind.TheVariants as kind;
 ghost use Rattle.ubi_scan.specs.Members.{layout};

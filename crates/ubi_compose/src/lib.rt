@@ -17,34 +17,23 @@
 //! ```
 #![tactic(auto)]
 
-mod buffer;
-mod building;
-mod composing;
-mod drafts;
+mod built_image;
 mod errors;
 mod header;
 pub mod laws;
-mod laying;
 mod line;
-mod parsing;
-mod piece;
+mod memory_image;
 mod pieces;
-mod putting;
-mod reading;
-mod recipe;
 mod records;
 mod shown;
+mod source_image;
 mod sourced;
-mod stored;
-mod streaming;
-mod taking;
-mod volume;
-mod words;
+mod spec_text;
+mod writer;
 
-pub use building::build_to;
-pub use composing::{compose, normalise};
+pub use built_image::{Part, Recipe, build_to};
 pub use errors::{BuildError, ComposeError, RecipeError, SpecCause, SpecError};
-pub use parsing::parse_spec;
-pub use recipe::{Part, Recipe};
+pub use memory_image::{compose, normalise};
 pub use shown::shown_name;
-pub use streaming::normalise_to;
+pub use source_image::normalise_to;
+pub use spec_text::parse_spec;

@@ -1,16 +1,16 @@
-//! A line of the composer's text by itself.
+//! A line of the composer's text by itself, and its words.
 
 ghost use Rattle.std.specs.List.{list_all, list_any};
 ghost use Rattle.std.specs.Prelude.{◌≡◌, ◌==◌, IfOk, MatchResult, Ok, length, map, take};
 ghost use Rattle.ubi_compose.specs.inner.Drafts.{IsLineError};
 ghost use Rattle.ubi_compose.specs.Lines.{first_word, form_of, is_form, is_spelled, leb_line, line_of, number_word, said, text_line, volume_line, volume_of, word_count, words};
-ghost use Rattle.ubi_compose.specs.Words.{is_between};
+ghost use Rattle.ubi_compose.specs.Words.{escaped_byte, flags_of, hex_of, is_between, kind_of};
 
 use crate::errors::{LineError, SpecCause};
 use crate::shown::shown_name;
-use crate::words::{flags_of, hex_of, kind_of};
+use hex::FromHexError;
 use std::alloc::{AllocError, Global};
-use ubi_media::VolumeRecord;
+use ubi_media::{VolKind, VolumeRecord};
 use ubi_volume::Bytes;
 use ubi_words::number_of;
 
@@ -229,4 +229,54 @@ pub(crate) fn line_of(alloc: Global, text: &[u8]) -> Result<Line, LineError>
         Some(form) => said(alloc, words.as_slice(), form),
         None => Err(LineError::Cause(SpecCause::Word)),
     }
+}
+
+/// The bytes that a word gives as pairs of hexadecimal digits of either case. `None` if it doesn't, or has none.
+#[tactic(auto, unfolding(crate::specs::Words::hex_of))]
+pub fn hex_of(alloc: Global, word: &[u8]) -> Result<Option<Bytes>, AllocError>
+    ensures { IfOk result (λ found. found ≡ hex_of word.now) }
+{
+    if word.is_empty() {
+        return Ok(None);
+    }
+    match hex::decode(alloc, word) {
+        Ok(bytes) => Ok(Some(Bytes::new(bytes))),
+        Err(FromHexError::OutOfMemory) => Err(AllocError),
+        Err(_) => Ok(None),
+    }
+}
+
+/// The byte that two hexadecimal digits stand for.
+pub fn byte_of(high: u8, low: u8) -> Option<u8>
+    ensures { result ≡ escaped_byte high low }
+{
+    let mut byte = [0u8; 1];
+    match hex::decode_to_slice(&[high, low], &mut byte) {
+        Ok(()) => Some(byte[0]),
+        Err(_) => None,
+    }
+}
+
+/// The byte that a word of exactly two hexadecimal digits stands for.
+pub fn flags_of(word: &[u8]) -> Option<u8>
+    ensures { result ≡ flags_of word.now }
+{
+    if word.len() != 2 {
+        return None;
+    }
+    byte_of(word[0], word[1])
+}
+
+/// The kind that a word names.
+#[tactic(auto, unfolding(crate::specs::Words::kind_of))]
+pub fn kind_of(word: &[u8]) -> Option<VolKind>
+    ensures { result ≡ kind_of word.now }
+{
+    if word == b"dynamic".as_slice() {
+        return Some(VolKind::Dynamic);
+    }
+    if word == b"static".as_slice() {
+        return Some(VolKind::Static);
+    }
+    None
 }

@@ -8,7 +8,7 @@ ghost use Rattle.ubi_table.specs.Records.{table_bytes};
 ghost use Rattle.ubi_volume.specs.Meant.{records_of};
 ghost use Rattle.ubi_compose.specs.inner.Building.{part_at, table_of};
 
-use crate::recipe::Recipe;
+use crate::built_image::Recipe;
 use std::alloc::{AllocError, Global};
 use ubi_media::{RECORD_SIZE, VolumeRecord, write_rec};
 use ubi_volume::Meaning;

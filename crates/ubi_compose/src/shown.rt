@@ -4,7 +4,7 @@ ghost use Rattle.std.specs.List.{list_all};
 ghost use Rattle.std.specs.Prelude.{◌≡◌, ◌++◌, ◌&&◌, true, length, nat_le, option_and_then};
 ghost use Rattle.ubi_compose.specs.Words.{escaped, is_escape, is_plain, shown_name, some_name};
 
-use crate::words::byte_of;
+use crate::line::byte_of;
 use arrayvec::ArrayVec;
 use ubi_media::{LONGEST_NAME, VolName};
 use ubi_words::cut;

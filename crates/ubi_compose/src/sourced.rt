@@ -4,7 +4,7 @@ ghost use Rattle.std.specs.Prelude.{◌≡◌, ℕ, ◌≤◌, Option, IfSome};
 ghost use Rattle.ubi_media.specs.Geometry.{Sizes};
 ghost use Rattle.ubi_compose.specs.inner.Pieces.{IsNext, LiesIn, Pieces};
 
-use crate::piece::{Device, Piece};
+use crate::pieces::{Device, Piece};
 use ubi_media::Geometry;
 
 /// The contents of volumes, whose bytes lie in a source.

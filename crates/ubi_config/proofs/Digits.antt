@@ -1,5 +1,5 @@
 -- Numbers in decimal digits: a line may end with them, and they are read as the number.
-use Rattle.ubi_config.proofs.Prelude.{◌≡◌, ◌<◌, ◌≤◌, ◌-◌, ◌^◌, ℕ, Bool, true, false, not, arith, get_or, length, refl, rules, ◌==◌, Some, list_any, nat_le, nat_tests, position_or_len, is_blank, is_number, number_within, plain_value, size_of, trimmed, unit_of, value_of, ◌&&◌, ◌||◌, ◌*◌, suc, zero, decimal_digit, decimal_nonempty, digits_decimal, digits_value-decimal, first_decimal, length-decimal-le, drop_all, take_all, list_any_none, AllPass-from_list_all, position_or_len_is, IsNumeralModel, numerals_by_fold, decimal, fold, is_ascii_digit, before_first, list_all, is_mark, is_quote, is_no_digit, most_bytes, decimal_value, with_digit}
+use Rattle.ubi_config.proofs.Prelude.{◌≡◌, ◌<◌, ◌≤◌, ◌-◌, ◌^◌, ℕ, Bool, true, false, not, arith, get_or, length, refl, rules, ◌==◌, Some, list_any, nat_le, nat_tests, position_or_len, is_space, is_number, number_within, plain_value, size_of, trimmed, unit_of, value_of, ◌&&◌, ◌||◌, ◌*◌, suc, zero, decimal_digit, decimal_nonempty, digits_decimal, digits_value-decimal, first_decimal, length-decimal-le, drop_all, take_all, list_any_none, AllPass-from_list_all, position_or_len_is, IsNumeralModel, numerals_by_fold, decimal, fold, is_ascii_digit, before_first, list_all, is_mark, is_quote, is_no_digit, most_bytes, decimal_value, with_digit}
 use Rattle.ubi_config.proofs.Framed.{IsFramed, trimmed_stays}
 
 -- the words of this crate for digits and their number
@@ -13,7 +13,7 @@ and_false : (a : Bool) → (a && false) ≡ false
 and_false true = refl
 and_false false = refl
 
-pub visible : (b : ℕ) → is_ascii_digit b ≡ true → is_blank b ≡ false
+pub visible : (b : ℕ) → is_ascii_digit b ≡ true → is_space b ≡ false
 visible b h =
     let r = in_range b h in
     let space : (b == 32) ≡ false = grind (arith, nat_tests) in

@@ -1,13 +1,13 @@
 -- Lines that no reader trims: what they say.
-use Rattle.ubi_config.proofs.Prelude.{◌≡◌, ◌<◌, ◌≤◌, ◌+◌, ◌-◌, ℕ, Bool, true, false, not, List, ◌++◌, arith, get_or, length, refl, ap, ◌∙◌, ◌==◌, Some, None, Ok, list_any, nat_le, nat_tests, position_or_len, suffix_len, is_blank, is_one_line, line_of, line_said, trimmed, Line, ◌>>=◌, get_or-append_right, get_or_append_left, take_all, list_any-append, length-append, position_or_len_is, suffix_len_is, is_mark, is_remark, is_visible}
+use Rattle.ubi_config.proofs.Prelude.{◌≡◌, ◌<◌, ◌≤◌, ◌+◌, ◌-◌, ℕ, Bool, true, false, not, List, ◌++◌, arith, get_or, length, refl, ap, ◌∙◌, ◌==◌, Some, None, Ok, list_any, nat_le, nat_tests, position_or_len, suffix_len, is_space, is_one_line, line_of, line_said, trimmed, Line, ◌>>=◌, get_or-append_right, get_or_append_left, take_all, list_any-append, length-append, position_or_len_is, suffix_len_is, is_mark, is_remark, is_visible}
 use Rattle.std.specs.Prelude.{◌||◌, if◌then◌else◌}
 
 -- bytes that are a line: some and not too many, no blank at either end, no backslash at the end, and no byte that cuts it
 pub record IsFramed (text : List ℕ) : Type 0 where
   pub some : 0 < length text
   pub short : length text ≤ 1022
-  pub first : is_blank (get_or text 0 0) ≡ false
-  pub last : is_blank (get_or text (length text - 1) 0) ≡ false
+  pub first : is_space (get_or text 0 0) ≡ false
+  pub last : is_space (get_or text (length text - 1) 0) ≡ false
   pub slash : (get_or text (length text - 1) 0 == 92) ≡ false
   pub zero : list_any (λ b. b == 0) text ≡ false
 
@@ -18,19 +18,19 @@ or_true false = refl
 not_false : (b : Bool) → b ≡ false → not b ≡ true
 not_false b h = rw h refl
 
-starts : (text : List ℕ) → is_blank (get_or text 0 0) ≡ false → position_or_len is_visible text ≡ 0
+starts : (text : List ℕ) → is_space (get_or text 0 0) ≡ false → position_or_len is_visible text ≡ 0
 starts text h =
     position_or_len_is is_visible text 0 0 (omega arith) (λ k below. absurd (omega arith))
-    (λ some. not_false (is_blank (get_or text 0 0)) h)
+    (λ some. not_false (is_space (get_or text 0 0)) h)
 
-ends : (text : List ℕ) → is_blank (get_or text (length text - 1) 0) ≡ false → suffix_len is_blank text ≡ 0
+ends : (text : List ℕ) → is_space (get_or text (length text - 1) 0) ≡ false → suffix_len is_space text ≡ 0
 ends text h =
-    let end = suffix_len_is is_blank text (length text) 0 (omega arith) (λ k from below. absurd (omega arith)) (λ some. h) in
+    let end = suffix_len_is is_space text (length text) 0 (omega arith) (λ k from below. absurd (omega arith)) (λ some. h) in
     omega (arith, end)
 
 -- bytes without a blank at either end stay as they are
-pub trimmed_stays : (text : List ℕ) → is_blank (get_or text 0 0) ≡ false
-    → is_blank (get_or text (length text - 1) 0) ≡ false → trimmed text ≡ text
+pub trimmed_stays : (text : List ℕ) → is_space (get_or text 0 0) ≡ false
+    → is_space (get_or text (length text - 1) 0) ≡ false → trimmed text ≡ text
 unfolding trimmed
 trimmed_stays text first last =
     rw (starts text first) (rw (ends text last) (take_all (length text - 0) text (omega arith)))
@@ -61,7 +61,7 @@ pub both_none : (p : ℕ → Bool) (xs ys : List ℕ) → list_any p xs ≡ fals
 both_none p xs ys h k = list_any-append p xs ys ∙ rw (h, k) refl
 
 -- bytes behind others that begin a line
-pub framed_behind : (front text : List ℕ) → 0 < length front → is_blank (get_or front 0 0) ≡ false
+pub framed_behind : (front text : List ℕ) → 0 < length front → is_space (get_or front 0 0) ≡ false
     → list_any (λ b. b == 0) front ≡ false → length front + length text ≤ 1022 → IsFramed text
     → IsFramed (front ++ text)
 framed_behind front text some first zero short f =

@@ -1,5 +1,5 @@
 -- The section of a volume gives back its record.
-use Rattle.ubi_config.proofs.Prelude.{◌≡◌, ◌<◌, ◌≤◌, ◌^◌, ℕ, Bool, true, false, not, arith, refl, sym, ap, ◌∙◌, ◌==◌, Some, None, Ok, nat_tests, rec_fault, record_in, reserving, Sizes, VolKind, ◌&&◌, ◌*◌, ◌/◌, ◌%◌, nat_lt, mul-div_cancel, mul-mod_left, div_ceil, usable_some, slots, is_static, usable, VolumeRecord, blocks_of, fitting, bytes_reserved, SectionGivesRecord, section_for, ConfigVolume}
+use Rattle.ubi_config.proofs.Prelude.{◌≡◌, ◌<◌, ◌≤◌, ◌^◌, ℕ, Bool, true, false, not, arith, refl, sym, ap, ◌∙◌, ◌==◌, Some, None, Ok, nat_tests, rec_fault, record_in, reserving, Sizes, VolKind, ◌&&◌, ◌*◌, ◌/◌, ◌%◌, nat_lt, mul-div_cancel, mul-mod_left, div_ceil, usable_some, slots, is_static, usable, VolumeRecord, blocks_for, fitting, bytes_reserved, SectionGivesRecord, section_for, ConfigVolume}
 use Rattle.ubi_media.specs.declared.vid.VolKind.TheVariants as kind
 use Rattle.ubi_config.proofs.CanSay.{reserved_few, reserved_some}
 use Rattle.ubi_config.proofs.Reserved.{fault_reserving}
@@ -43,7 +43,7 @@ module _ (s : Sizes) (n len : ℕ) (v : ConfigVolume) (sound : rec_fault s v.ent
       sym (fault_reserving s (section_for s n v) v.entry.reserved some few)
       ∙ ap (rec_fault s) is_record ∙ sound
 
-  blocks : blocks_of s (section_for s n v) (bytes_reserved s v.entry) ≡ v.entry.reserved
+  blocks : blocks_for s (section_for s n v) (bytes_reserved s v.entry) ≡ v.entry.reserved
   blocks =
       let parts : div_ceil (v.entry.reserved * usable s v.entry) (usable s v.entry) ≡ v.entry.reserved =
       whole v.entry.reserved (usable s v.entry) (usable_some s v.entry sound) in

@@ -1,7 +1,7 @@
 -- Lines have no more sections whose volume grows than they have lines that let one grow.
 use Rattle.ubi_config.proofs.Prelude.{◌≡◌, ◌≤◌, ◌+◌, ◌∙◌, ℕ, Bool, true, false, List, [], ◌∷◌, ap, arith, drop, refl, sym, Result, Ok, Err, ◌==◌, cond, count_by, before_first, cons_option, list_any, position_or_len, result_ok, take-append-drop, is_autoresize, is_heading, Group, groups, section_of, sections_in, ConfigCause, Line, Section}
 use Rattle.ubi_config.specs.declared.line.Line.TheVariants as line
-use Rattle.ubi_config.proofs.Apart.{from_heading, from_next, no_sections, sections_cons}
+use Rattle.ubi_config.proofs.DistinctSections.{from_heading, from_next, no_sections, sections_cons}
 use Rattle.ubi_config.proofs.Counts.{count_both, count_cons, some_counted}
 use Rattle.ubi_config.proofs.Fields.{no_growth}
 

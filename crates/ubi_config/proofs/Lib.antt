@@ -1,4 +1,3 @@
-pub mod Apart
 pub mod AllMade
 pub mod AllRead
 pub mod AreRead
@@ -7,15 +6,16 @@ pub mod ConfigVectors
 pub mod Counts
 pub mod Digits
 pub mod Distinct
+pub mod DistinctSections
+pub mod FaultlessLines
 pub mod Faults
-pub mod Framed
 pub mod Fields
+pub mod FirstPlace
+pub mod Framed
 pub mod GivenRecord
 pub mod Groups
 pub mod Grows
-pub mod Kept
 pub mod LinesLeft
-pub mod Places
 pub mod QuotedValues
 pub mod ReadSoFar
 pub mod Reserved
@@ -24,8 +24,8 @@ pub mod SectionsDiffer
 pub mod Texts
 pub mod TitlesApart
 pub mod Unbroken
-pub mod WrittenReads
-pub mod WrittenVectors
 pub mod WrittenLines
+pub mod WrittenReads
 pub mod WrittenRemarks
+pub mod WrittenVectors
 pub mod Prelude

@@ -47,13 +47,13 @@ pub use Rattle.ubi_config.specs.ErrorTexts.{config_error_text}
 pub use Rattle.ubi_config.specs.Laws.{SectionsDiffer}
 pub use Rattle.ubi_config.specs.Lines.{is_special, is_title, ◌>>=◌}
 unfoldable pub use Rattle.ubi_config.specs.Lines.{flag_of, heading_line, is_one_line, kind_of, line_of, line_said, setting, setting_at, setting_line, title_of}
-pub use Rattle.ubi_config.specs.Records.{blocks_of, fitting, reserving}
+pub use Rattle.ubi_config.specs.Records.{blocks_for, fitting, reserving}
 unfoldable pub use Rattle.ubi_config.specs.Records.{record_in}
 pub use Rattle.ubi_config.specs.Sections.{no_draft, with_line}
 unfoldable pub use Rattle.ubi_config.specs.Sections.{draft_of, finished}
 pub use Rattle.ubi_config.specs.Values.{is_mark, is_quotable, is_quote, is_remark}
 unfoldable pub use Rattle.ubi_config.specs.Values.{key_of, plain_value, quoted_value, value_of}
-pub use Rattle.ubi_config.specs.Words.{is_blank, is_no_digit, is_visible, most_bytes}
+pub use Rattle.ubi_config.specs.Words.{is_no_digit, is_space, is_visible, most_bytes}
 unfoldable pub use Rattle.ubi_config.specs.Words.{size_of, trimmed, unit_named, unit_of}
 pub use Rattle.ubi_config.specs.Written.{bytes_reserved, config_lines, config_text, ended, flag_lines, has_words, is_growing, is_no_value, is_writable, kind_word, left_out_words, lines_by, longest_value, may_grow, path_of, quote_of, quoted, section_lines, text_of, title, volume_lines}
 unfoldable pub use Rattle.ubi_config.specs.Written.{head, left_out}

@@ -1,5 +1,5 @@
 -- Values in quotes: a line may end with them, and they are read as what stands between the quotes.
-use Rattle.ubi_config.proofs.Prelude.{◌≡◌, ◌≤◌, ℕ, Bool, true, false, not, List, [], ◌∷◌, ◌++◌, arith, length, refl, ◌∙◌, ◌==◌, Some, list_any, list_any-append, nat_le, nat_tests, position, position_or_len, is_blank, quoted_value, trimmed, value_of, if◌then◌else◌, length-append, nat_lt, drop-append-add, take-append_seam, and_parts, is_quotable, is_quote, is_no_value, is_writable, longest_value, quote_of, quoted}
+use Rattle.ubi_config.proofs.Prelude.{◌≡◌, ◌≤◌, ℕ, Bool, true, false, not, List, [], ◌∷◌, ◌++◌, arith, length, refl, ◌∙◌, ◌==◌, Some, list_any, list_any-append, nat_le, nat_tests, position, position_or_len, is_space, quoted_value, trimmed, value_of, if◌then◌else◌, length-append, nat_lt, drop-append-add, take-append_seam, and_parts, is_quotable, is_quote, is_no_value, is_writable, longest_value, quote_of, quoted}
 use Rattle.ubi_config.proofs.Distinct.{or_false}
 use Rattle.ubi_config.proofs.Framed.{IsFramed, framed_behind, trimmed_stays}
 
@@ -74,8 +74,8 @@ module _ (value : List ℕ) (w : CanWrite value) where
   shut = record {
     some = omega arith;
     short = omega arith;
-    first = of_quotes is_blank false refl refl value;
-    last = of_quotes is_blank false refl refl value;
+    first = of_quotes is_space false refl refl value;
+    last = of_quotes is_space false refl refl value;
     slash = of_quotes (λ b. b == 92) false refl refl value;
     zero = rw (of_quotes (λ b. b == 0) false refl refl value) refl;
   }
@@ -84,7 +84,7 @@ module _ (value : List ℕ) (w : CanWrite value) where
   pub quoted_framed : IsFramed (quoted value)
   quoted_framed =
       framed_behind (quote_of value ∷ value) (quote_of value ∷ []) (omega arith)
-      (of_quotes is_blank false refl refl value)
+      (of_quotes is_space false refl refl value)
       (rw (of_quotes (λ b. b == 0) false refl refl value) no_zero)
       (omega (arith, w.short)) shut
 

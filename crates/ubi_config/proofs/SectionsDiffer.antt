@@ -3,12 +3,12 @@ use Rattle.ubi_config.proofs.Prelude.{◌≡◌, ◌≤◌, ◌<◌, ◌+◌, �
 use Rattle.std.specs.Prelude.{◌||◌}
 use Rattle.ubi_config.specs.declared.errors.ConfigCause.TheVariants as cause
 use Rattle.ubi_config.specs.declared.line.Line.TheVariants as line
-use Rattle.ubi_config.proofs.Apart.{distinct_keys, distinct_more, distinct_same, no_sections, sections_cons}
+use Rattle.ubi_config.proofs.DistinctSections.{distinct_keys, distinct_more, distinct_same, no_sections, sections_cons}
 use Rattle.ubi_config.proofs.Counts.{count_cons, count_more, none_counted}
 use Rattle.ubi_config.proofs.Distinct.{distinct_none}
 use Rattle.ubi_config.proofs.Fields.{id_given, id_in, name_given, name_in}
 use Rattle.ubi_config.proofs.Grows.{sections_grow}
-use Rattle.ubi_config.proofs.Kept.{kept, or_none}
+use Rattle.ubi_config.proofs.FaultlessLines.{kept, or_none}
 
 id_any : (n : ℕ) (ls : List Line)
     → list_any (gives_id n) ls ≡ list_any (λ l. option_map_or (λ x. x == n) (id_in l) false) ls

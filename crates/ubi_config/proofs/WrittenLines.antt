@@ -1,5 +1,5 @@
 -- What each line of a config that is written says.
-use Rattle.ubi_config.proofs.Prelude.{◌≡◌, ◌<◌, ◌≤◌, ◌+◌, ◌-◌, ◌^◌, ℕ, true, false, List, [], ◌∷◌, ◌++◌, arith, get_or, length, drop, take, refl, ap, ◌∙◌, ◌==◌, codes, Some, None, Ok, list_any, nat_le, nat_tests, position, is_blank, flag_of, heading_line, is_one_line, key_of, kind_of, line_of, line_said, plain_value, setting, setting_at, setting_line, title_of, trimmed, value_of, Key, Line, VolKind, length-append, slice_range, get_or-append_right, drop-append-add, take-append_seam, decimal, is_name, is_ascii_digit, is_special, is_title, is_mark, is_remark, most_bytes, kind_word, quote_of, quoted, title, most_number}
+use Rattle.ubi_config.proofs.Prelude.{◌≡◌, ◌<◌, ◌≤◌, ◌+◌, ◌-◌, ◌^◌, ℕ, true, false, List, [], ◌∷◌, ◌++◌, arith, get_or, length, drop, take, refl, ap, ◌∙◌, ◌==◌, codes, Some, None, Ok, list_any, nat_le, nat_tests, position, is_space, flag_of, heading_line, is_one_line, key_of, kind_of, line_of, line_said, plain_value, setting, setting_at, setting_line, title_of, trimmed, value_of, Key, Line, VolKind, length-append, slice_range, get_or-append_right, drop-append-add, take-append_seam, decimal, is_name, is_ascii_digit, is_special, is_title, is_mark, is_remark, most_bytes, kind_word, quote_of, quoted, title, most_number}
 use Rattle.ubi_media.specs.declared.vid.VolKind.TheVariants as kind
 use Rattle.ubi_config.proofs.Digits.{above, none_is, digits_framed, digits_number, digits_short, digits_size, digits_trimmed, digits_value}
 use Rattle.ubi_config.proofs.Framed.{IsFramed, both_none, framed_behind, framed_trimmed, line_read}
@@ -55,7 +55,7 @@ empty_read n = refl
 
 -- the lines that end with a number
 module _ (n number : ℕ) (small : number < 2 ^ 64) where
-  framed : (front : List ℕ) → 0 < length front → is_blank (get_or front 0 0) ≡ false
+  framed : (front : List ℕ) → 0 < length front → is_space (get_or front 0 0) ≡ false
       → list_any (λ b. b == 0) front ≡ false → length front ≤ 1000 → IsFramed (front ++ decimal number)
   framed front some first zero short =
       framed_behind front (decimal number) some first zero (omega (arith, short, digits_short number small))

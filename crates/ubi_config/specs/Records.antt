@@ -30,8 +30,8 @@ abbrev pub parts_of : ℕ → ℕ → ℕ
 parts_of bytes part = div_ceil bytes part
 
 -- how many eraseblocks this many bytes take, each without what the alignment leaves free: at least one, even for no byte
-abbrev pub blocks_of : Sizes → Section → ℕ → ℕ
-blocks_of s section bytes = max 1 (parts_of bytes (usable s (reserving section 1)))
+abbrev pub blocks_for : Sizes → Section → ℕ → ℕ
+blocks_for s section bytes = max 1 (parts_of bytes (usable s (reserving section 1)))
 
 -- the record that reserves this many eraseblocks, if a record can, and there is a slot for it
 abbrev pub fitting : Sizes → Section → ℕ → Result VolumeRecord ConfigCause
@@ -43,7 +43,7 @@ fitting s section n =
 abbrev pub sized : Sizes → Section → ℕ → Result VolumeRecord ConfigCause
 sized s section bytes =
     option_map_or (λ fault. Err (cause.Record fault)) (rec_fault s (reserving section 1))
-    (fitting s section (blocks_of s section bytes))
+    (fitting s section (blocks_for s section bytes))
 
 -- whether a volume that should have bytes has none: one without an image file, or a dynamic one with an empty file
 abbrev pub is_empty : Section → Option ℕ → Bool

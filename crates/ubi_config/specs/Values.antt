@@ -3,7 +3,7 @@ use Rattle.std.specs.Prelude.{ℕ, ◌+◌, ◌-◌, ◌==◌, ◌&&◌, ◌||�
 use Rattle.std.specs.Bool.{then_some}
 use Rattle.std.specs.List.{before_first}
 use Rattle.std.specs.Str.{str_eq_ignore_ascii_case}
-use Rattle.ubi_config.specs.Words.{is_blank, trimmed}
+use Rattle.ubi_config.specs.Words.{is_space, trimmed}
 use Rattle.ubi_config.specs.declared.key.Key.{Key}
 use Rattle.ubi_config.specs.declared.key.Key.TheVariants as key
 
@@ -45,7 +45,7 @@ plain_value text = some_bytes (trimmed (before_first is_mark text))
 
 -- what may stand in quotes: some bytes, the last of which isn't a blank
 abbrev pub is_quotable : List ℕ → Bool
-is_quotable bytes = nat_le 1 (length bytes) && not (is_blank (slice_index bytes (length bytes - 1)))
+is_quotable bytes = nat_le 1 (length bytes) && not (is_space (slice_index bytes (length bytes - 1)))
 
 -- a value that a quote at a place ends, with nothing but a remark after it
 abbrev pub value_before : List ℕ → ℕ → Option (List ℕ)

@@ -7,12 +7,12 @@ use Rattle.ubi_media.specs.Fields.{same_bytes}
 use Rattle.ubi_words.specs.Words.{number_within}
 
 -- a blank: a space, or a byte from 0x09 to 0x0D
-abbrev pub is_blank : ℕ → Bool
-is_blank b = (b == 32) || (nat_le 9 b && nat_le b 13)
+abbrev pub is_space : ℕ → Bool
+is_space b = (b == 32) || (nat_le 9 b && nat_le b 13)
 
 -- a byte that isn't a blank
 abbrev pub is_visible : ℕ → Bool
-is_visible b = not (is_blank b)
+is_visible b = not (is_space b)
 
 -- bytes without the blanks before them
 abbrev pub trimmed_start : List ℕ → List ℕ
@@ -20,7 +20,7 @@ trimmed_start bytes = drop (position_or_len is_visible bytes) bytes
 
 -- bytes without the blanks after them
 abbrev pub trimmed_end : List ℕ → List ℕ
-trimmed_end bytes = take (length bytes - suffix_len is_blank bytes) bytes
+trimmed_end bytes = take (length bytes - suffix_len is_space bytes) bytes
 
 -- bytes without the blanks at both ends
 unfoldable pub trimmed : List ℕ → List ℕ

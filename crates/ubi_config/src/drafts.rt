@@ -133,7 +133,7 @@ fn heading_place(lines: &[Line]) -> Option<usize>
 }
 
 /// The lines before the next section.
-#[tactic(auto, using(crate::proofs::Places::first_or_end))]
+#[tactic(auto, using(crate::proofs::FirstPlace::first_or_end))]
 fn settings(lines: &[Line]) -> &[Line]
     ensures { result.now ≡ before_first is_heading lines.now }
 {

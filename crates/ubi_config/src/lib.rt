@@ -21,12 +21,12 @@
 #![tactic(auto)]
 
 mod above;
+mod config;
 mod drafts;
 mod errors;
 mod key;
 pub mod laws;
 mod line;
-mod parsing;
 mod section;
 mod text;
 mod value;
@@ -34,9 +34,9 @@ mod volume;
 mod words;
 mod written;
 
+pub use config::parse_config;
 pub use errors::{ConfigCause, ConfigError};
 pub use key::Key;
-pub use parsing::parse_config;
 pub use section::Section;
 pub use text::Text;
 pub use volume::{ConfigVolume, LeftOut};

@@ -1,7 +1,7 @@
 //! A section of a config, and the record of its volume.
 
 ghost use Rattle.std.specs.Prelude.{◌≡◌, ◌*◌, ◌≤◌, IfOk, None, unwrap_or};
-ghost use Rattle.ubi_config.specs.Records.{blocks_of, bytes_of, fitting, is_empty, parts_of, record_in, reserving, sized};
+ghost use Rattle.ubi_config.specs.Records.{blocks_for, bytes_of, fitting, is_empty, parts_of, record_in, reserving, sized};
 ghost use Rattle.ubi_media.specs.Record.{rec_fault, usable};
 
 use crate::errors::ConfigCause;

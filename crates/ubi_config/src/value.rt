@@ -28,7 +28,7 @@ fn mark_place(text: &[u8]) -> Option<usize>
 }
 
 /// What stands before a remark.
-#[tactic(auto, using(crate::proofs::Places::first_or_end))]
+#[tactic(auto, using(crate::proofs::FirstPlace::first_or_end))]
 fn before_remark(text: &[u8]) -> &[u8]
     ensures { result.now ≡ before_first is_mark text.now }
 {

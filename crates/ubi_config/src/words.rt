@@ -2,7 +2,7 @@
 
 ghost use Rattle.std.specs.List.{position_or_len};
 ghost use Rattle.std.specs.Prelude.{◌≡◌, ◌≤◌, length, position};
-ghost use Rattle.ubi_config.specs.Words.{ends_with_byte, is_blank, is_no_digit, is_no_gap, is_visible, size_in, size_of, trimmed, trimmed_end, trimmed_start, unit_named, unit_of};
+ghost use Rattle.ubi_config.specs.Words.{ends_with_byte, is_space, is_no_digit, is_no_gap, is_visible, size_in, size_of, trimmed, trimmed_end, trimmed_start, unit_named, unit_of};
 
 use ubi_words::number_within;
 
@@ -11,7 +11,7 @@ const MOST_BYTES: u64 = 0x7FFF_FFFF_FFFF_FFFF;
 
 /// Whether a byte is a blank: a space, or a byte from 0x09 to 0x0D.
 pub(crate) fn is_blank(byte: u8) -> bool
-    ensures { result ≡ is_blank byte }
+    ensures { result ≡ is_space byte }
 {
     byte == b' ' || (byte >= 0x09 && byte <= 0x0D)
 }
@@ -24,7 +24,7 @@ fn visible_place(bytes: &[u8]) -> Option<usize>
 }
 
 /// How many blanks stand before the first byte that isn't one.
-#[tactic(auto, using(crate::proofs::Places::first_or_end))]
+#[tactic(auto, using(crate::proofs::FirstPlace::first_or_end))]
 fn blanks_before(bytes: &[u8]) -> usize
     ensures value { result ≡ position_or_len is_visible bytes.now }
     ensures within { result ≤ length bytes.now }
@@ -73,7 +73,7 @@ fn unit_place(rest: &[u8]) -> Option<usize>
 }
 
 /// How many spaces and tabs stand before a unit.
-#[tactic(auto, using(crate::proofs::Places::first_or_end))]
+#[tactic(auto, using(crate::proofs::FirstPlace::first_or_end))]
 fn gap_before(rest: &[u8]) -> usize
     ensures value { result ≡ position_or_len is_no_gap rest.now }
     ensures within { result ≤ length rest.now }
@@ -128,7 +128,7 @@ fn digits_place(word: &[u8]) -> Option<usize>
 }
 
 /// How many decimal digits stand before the first byte that isn't one.
-#[tactic(auto, using(crate::proofs::Places::first_or_end))]
+#[tactic(auto, using(crate::proofs::FirstPlace::first_or_end))]
 fn digits_before(word: &[u8]) -> usize
     ensures value { result ≡ position_or_len is_no_digit word.now }
     ensures within { result ≤ length word.now }

@@ -1,5 +1,5 @@
 -- The group that speaks for the most bytes is that of the image.
-use Rattle.ubi_detect.proofs.Prelude.{◌≡◌, ℕ, ◌+◌, ◌-◌, ◌*◌, ◌<◌, ◌≤◌, ◌⊎◌, Bool, true, false, List, length, inl, inr, refl, ap, sym, ◌∙◌, subst, arith, All, list_all, ◌&&◌, ◌||◌, ◌==◌, IfSome, IsFalse, IsTrue, MatchOption, None, Option, Some, nat_lt, not, slice_index_or, and_cases, and_from, and_parts, le-leb, leb-true, ltb-false, ltb-true, true≢false, get_or-map, list_all-map, dvd_antisymm, below_or_last, below_same_or_above, IsGroup, IsImage, IsSpacing, Says, greatest_size, no_key, spoken, keys_of, places, same_offsets, speaks, Group, Head, Key, AreGroups, IsBestOf, IsWithin, NoneSays, says_size, speaks_among, beats}
+use Rattle.ubi_detect.proofs.Prelude.{◌≡◌, ℕ, ◌+◌, ◌-◌, ◌*◌, ◌<◌, ◌≤◌, ◌⊎◌, Bool, true, false, List, length, inl, inr, refl, ap, sym, ◌∙◌, subst, arith, All, list_all, ◌&&◌, ◌||◌, ◌==◌, IfSome, IsFalse, IsTrue, MatchOption, None, Option, Some, nat_lt, not, slice_index_or, and_cases, and_from, and_parts, le-leb, leb-true, ltb-false, ltb-true, true≢false, get_or-map, list_all-map, dvd_antisymm, below_or_last, below_same_or_above, IsGroup, IsImage, IsSpacing, Says, greatest_size, no_key, spoken, keys_of, places, same_offsets, speaks, Group, Head, Key, AreGroups, IsBestOf, IsWithin, NoneSays, says_size, speaks_among, speaks_for_more}
 use Rattle.ubi_detect.proofs.AddedGroups.{no_group}
 use Rattle.ubi_detect.proofs.MoreKeys.{as_many_keys}
 
@@ -9,7 +9,7 @@ and_true false = refl
 
 module _ (gs : List Group) (n : ℕ) (inside : n < length gs) (g : Group) (is : (d : Group) → slice_index_or gs n d ≡ g) where
   -- a group that says a size, and speaks for more bytes than the best one before it
-  pub best_taken : (best : Option Group) → MatchOption best (NoneSays gs n) (IsBestOf gs n) → IsTrue (says_size gs g) → IsTrue (beats g best)
+  pub best_taken : (best : Option Group) → MatchOption best (NoneSays gs n) (IsBestOf gs n) → IsTrue (says_size gs g) → IsTrue (speaks_for_more g best)
       → IsBestOf gs (n + 1) g
   best_taken None none says more = record {
     index = n;
@@ -61,7 +61,7 @@ module _ (gs : List Group) (n : ℕ) (inside : n < length gs) (g : Group) (is : 
     ];
   }
 
-  pub stays_best : (best : Option Group) → MatchOption best (NoneSays gs n) (IsBestOf gs n) → IsFalse (says_size gs g && beats g best)
+  pub stays_best : (best : Option Group) → MatchOption best (NoneSays gs n) (IsBestOf gs n) → IsFalse (says_size gs g && speaks_for_more g best)
       → MatchOption best (NoneSays gs (n + 1)) (IsBestOf gs (n + 1))
   stays_best None none fails = none_kept none (sym (and_true (says_size gs g)) ∙ fails)
   stays_best (Some f) best fails = best_kept f best (and_cases (says_size gs g) (nat_lt (spoken f) (spoken g)) fails)

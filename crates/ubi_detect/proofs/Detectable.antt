@@ -1,5 +1,5 @@
 -- In each file something is found, or it is refused for a cause.
-use Rattle.ubi_detect.proofs.Prelude.{◌≡◌, ℕ, ◌-◌, ◌≤◌, ◌⊎◌, Bool, true, false, List, [], ◌∷◌, length, inl, inr, refl, ap, sym, ◌∙◌, arith, within_or_past, AreDetected, IsFound, IsUndetected, IsWhole, NonePlain, DetectedOrRefused, IsImage, heads_of, key_count, most_keys, end_of_last, has_no_page, told, is_sure, Detected, Undetected, Group, Head}
+use Rattle.ubi_detect.proofs.Prelude.{◌≡◌, ℕ, ◌-◌, ◌≤◌, ◌⊎◌, Bool, true, false, List, [], ◌∷◌, length, inl, inr, refl, ap, sym, ◌∙◌, arith, within_or_past, AreDetected, IsFound, IsUndetected, IsWholeGroup, NonePlain, DetectedOrRefused, IsImage, heads_of, key_count, most_keys, end_of_last, has_no_page, told, is_sure, Detected, Undetected, Group, Head}
 use Rattle.ubi_detect.specs.declared.detect.Undetected.TheVariants as cause
 use Rattle.ubi_detect.proofs.PlainOrNot.{surely_or_not}
 use Rattle.ubi_detect.proofs.SaidGroups.{not_sure, too_many}
@@ -18,7 +18,7 @@ module _ (bytes : List ℕ) where
   by_told g found (d ∷ ds) e =
       inl (d ∷ ds, record { group = g; is = found; are = sym e; some = λ f. let n = ap length f in omega (arith, n) })
 
-  by_sure : (g : Group) → IsWhole bytes g → (b : Bool) → is_sure bytes g ≡ b → Answer
+  by_sure : (g : Group) → IsWholeGroup bytes g → (b : Bool) → is_sure bytes g ≡ b → Answer
   by_sure g whole true e = by_told g (inr (whole, e)) (told bytes g) refl
   by_sure g whole false e = inr (cause.NoSize, not_sure bytes g whole e)
 

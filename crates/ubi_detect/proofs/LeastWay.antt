@@ -1,5 +1,5 @@
 -- The first of what is found in a file has the least page, and if pages have no out-of-band bytes nothing else differs.
-use Rattle.ubi_detect.proofs.Prelude.{◌≡◌, ℕ, suc, ◌-◌, ◌/◌, ◌%◌, ◌*◌, ◌≤◌, Bool, true, false, cond, List, [], ◌∷◌, ◌++◌, refl, sym, subst, arith, then_some, ◌∣◌, All, AllByRecursion, AllPairs, cons_option, filter_map, flat_map, Contains, option_map, nat_le, nat_lt, ◌==◌, ◌&&◌, nat_tests, All-append, All-cons, All-contains, All-from_recursion, All-head, All-map, All-nil, All-tail, All-weaker, AllPairs-cons, AllPairs-filter, dvd_of_mod-eq-zero, dvd_refl, mod_self, page_sizes, with_page, EcOffsets, AreDetected, is_laid_out, sizes_of, end_of_image, has_vote, is_voted, is_without, start_of_image, told, told_by, told_ways, ways_with, ways_without, page_counts, plain_way, way_of, Detected, Group, Way}
+use Rattle.ubi_detect.proofs.Prelude.{◌≡◌, ℕ, suc, ◌-◌, ◌/◌, ◌%◌, ◌*◌, ◌≤◌, Bool, true, false, cond, List, [], ◌∷◌, ◌++◌, refl, sym, subst, arith, then_some, ◌∣◌, All, AllByRecursion, AllPairs, cons_option, filter_map, flat_map, Contains, option_map, nat_le, nat_lt, ◌==◌, ◌&&◌, nat_tests, All-append, All-cons, All-contains, All-from_recursion, All-head, All-map, All-nil, All-tail, All-weaker, AllPairs-cons, AllPairs-filter, dvd_of_mod-eq-zero, dvd_refl, mod_self, page_sizes, with_page, EcOffsets, AreDetected, is_laid_out, layout_sizes, end_of_image, has_vote, is_voted, is_without, start_of_image, told, told_by, told_ways, ways_with, ways_without, page_counts, plain_way, way_of, Detected, Group, Way}
 use Rattle.std.proofs.Common.{map}
 use Rattle.std.specs.Prelude.{filter}
 
@@ -59,15 +59,15 @@ all_more P false w ws first rest = rest
 module _ (q : ℕ) (o : EcOffsets) where
   -- pages without out-of-band bytes
   abbrev plain : ℕ → Way
-  plain page = record { geometry = sizes_of q o page; oob = 0 }
+  plain page = record { geometry = layout_sizes q o page; oob = 0 }
 
   plain_all : (x : ℕ) (ys : List ℕ) → All (IsMultiple x) ys → All (IsLesser (plain x)) (filter_map (plain_way q o) ys)
   plain_all x [] h = All-nil (IsLesser (plain x))
-  plain_all x (y ∷ ys) h = by (is_laid_out (sizes_of q o y)) _ (plain_all x ys (All-tail (IsMultiple x) y ys h))
+  plain_all x (y ∷ ys) h = by (is_laid_out (layout_sizes q o y)) _ (plain_all x ys (All-tail (IsMultiple x) y ys h))
     where
       by : (b : Bool) (ws : List Way) → All (IsLesser (plain x)) ws
           → All (IsLesser (plain x))
-          (cons_option (option_map (λ s. record { geometry = s; oob = 0 }) (then_some b (sizes_of q o y))) ws)
+          (cons_option (option_map (λ s. record { geometry = s; oob = 0 }) (then_some b (layout_sizes q o y))) ws)
       by true ws rest =
           All-cons (IsLesser (plain x)) (plain y) ws
           (dvd_of_mod-eq-zero x (All-head (IsMultiple x) y ys h), λ none. (refl, refl)) rest
@@ -76,12 +76,12 @@ module _ (q : ℕ) (o : EcOffsets) where
   plain_pairs : (xs : List ℕ) → AllPairs IsMultiple xs → AllPairs IsLesser (filter_map (plain_way q o) xs)
   plain_pairs [] h = pairs_none IsLesser
   plain_pairs (x ∷ xs) h =
-      by (is_laid_out (sizes_of q o x)) _ (plain_all x xs (pairs_first IsMultiple x xs h))
+      by (is_laid_out (layout_sizes q o x)) _ (plain_all x xs (pairs_first IsMultiple x xs h))
       (plain_pairs xs (pairs_behind IsMultiple x xs h))
     where
       by : (b : Bool) (ws : List Way) → All (IsLesser (plain x)) ws → AllPairs IsLesser ws
           → AllPairs IsLesser
-          (cons_option (option_map (λ s. record { geometry = s; oob = 0 }) (then_some b (sizes_of q o x))) ws)
+          (cons_option (option_map (λ s. record { geometry = s; oob = 0 }) (then_some b (layout_sizes q o x))) ws)
       by true ws all rest = AllPairs-cons IsLesser (plain x) ws all rest
       by false ws all rest = rest
 
@@ -89,7 +89,7 @@ module _ (q : ℕ) (o : EcOffsets) where
   abbrev fits : ℕ → ℕ → Bool
   fits page n =
       (q % n == 0) && nat_lt page (q / n) && nat_le 256 page && nat_le (q / n - page) (page / 4)
-      && is_laid_out (sizes_of (page * n) o page)
+      && is_laid_out (layout_sizes (page * n) o page)
 
   some_oob : (page n : ℕ) → fits page n ≡ true → 1 ≤ q / n - page
   some_oob page n e = grind (arith, nat_tests)

@@ -1,7 +1,6 @@
 -- Bytes with a magic that isn't that of a header aren't a header.
-use Rattle.ubi_detect.proofs.Prelude.{◌≡◌, ℕ, ◌+◌, ◌-◌, Bool, true, false, cond, List, take, drop, refl, ap, sym, ◌∙◌, arith, ◌==◌, IsFalse, None, not, take-take, big_number, ec_fields, ec_magic, ec_reading, ec_start, offsets_of, reading_by, sizes_naming, start_by, field, form_of, is_sealed, key_by, key_in}
+use Rattle.ubi_detect.proofs.Prelude.{◌≡◌, ℕ, ◌+◌, ◌-◌, Bool, true, false, cond, List, take, drop, refl, ap, sym, ◌∙◌, arith, ◌==◌, IsFalse, None, not, take-take, big_number, ec_fields, ec_magic, ec_reading, ec_start, offsets_of, reading_by, sizes_naming, start_by, field, form_of, is_sealed, key_by, key_in, is_blank}
 use Rattle.std.specs.Prelude.{slice_range}
-use Rattle.ubi_media.specs.Fields.{is_blank}
 use Rattle.ubi_media.specs.declared.header.Form.TheVariants as form
 
 module _ (front : List ℕ) where

@@ -1,5 +1,5 @@
 -- A file holds at most one image, and what is found in it is one list or one cause.
-use Rattle.ubi_detect.proofs.Prelude.{◌≡◌, ℕ, List, inl, inr, ap, sym, ◌∙◌, arith, slice_index_or, IsWhole, OneDetection, OneFound, OneImage, TwoHeaders, IsImage, no_key, first_place, heads_of, keys_of, last_place, places, told, Group, Head}
+use Rattle.ubi_detect.proofs.Prelude.{◌≡◌, ℕ, List, inl, inr, ap, sym, ◌∙◌, arith, slice_index_or, IsWholeGroup, OneDetection, OneFound, OneImage, TwoHeaders, IsImage, no_key, first_place, heads_of, keys_of, last_place, places, told, Group, Head}
 use Rattle.ubi_detect.proofs.BestGroup.{same_count, same_size}
 use Rattle.ubi_detect.proofs.OnePlain.{one_plain, same_groups}
 
@@ -30,7 +30,7 @@ module _ (heads : List Head) (i j : ℕ) (f g : Group) (one : IsImage heads i f)
 pub one_image : OneImage
 one_image heads i j f g one two = (same_index heads i j f g one two, same_group heads i j f g one two)
 
-pub same_whole : (bytes : List ℕ) (f g : Group) → IsWhole bytes f → IsWhole bytes g → f ≡ g
+pub same_whole : (bytes : List ℕ) (f g : Group) → IsWholeGroup bytes f → IsWholeGroup bytes g → f ≡ g
 same_whole bytes f g one two = same_group (heads_of bytes) one.index two.index f g one.image two.image
 
 pub one_found : OneFound

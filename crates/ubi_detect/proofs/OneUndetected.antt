@@ -1,5 +1,5 @@
 -- A file in which something is found isn't refused; and a file is refused for at most one cause.
-use Rattle.ubi_detect.proofs.Prelude.{◌≡◌, ◌≢◌, ℕ, ◌-◌, ◌<◌, ◌≤◌, List, [], length, inl, inr, refl, ap, sym, ◌∙◌, arith, IsFalse, true≢false, below_same_or_above, AreDetected, IsFound, IsUndetected, IsWhole, NonePlain, DetectedOrNot, OneUndetected, IsImage, heads_of, key_count, most_keys, end_of_last, has_no_page, told, is_sure, Detected, Undetected, Group}
+use Rattle.ubi_detect.proofs.Prelude.{◌≡◌, ◌≢◌, ℕ, ◌-◌, ◌<◌, ◌≤◌, List, [], length, inl, inr, refl, ap, sym, ◌∙◌, arith, IsFalse, true≢false, below_same_or_above, AreDetected, IsFound, IsUndetected, IsWholeGroup, NonePlain, DetectedOrNot, OneUndetected, IsImage, heads_of, key_count, most_keys, end_of_last, has_no_page, told, is_sure, Detected, Undetected, Group}
 use Rattle.ubi_detect.specs.declared.detect.Undetected.TheVariants as cause
 use Rattle.ubi_detect.proofs.OneImage.{one_found, same_group, same_whole}
 use Rattle.ubi_detect.proofs.SaidGroups.{image_heads}
@@ -29,7 +29,7 @@ module _ (bytes : List ℕ) where
   found_heads g (inr one) = image_heads (heads_of bytes) one.0.index g one.0.image
 
   -- an image whose last eraseblock isn't all there isn't whole, nor found
-  not_whole : (j : ℕ) (f g : Group) → IsImage (heads_of bytes) j f → length bytes < end_of_last f → IsWhole bytes g → ⊥
+  not_whole : (j : ℕ) (f g : Group) → IsImage (heads_of bytes) j f → length bytes < end_of_last f → IsWholeGroup bytes g → ⊥
   not_whole j f g one less two =
       let e = ap end_of_last (same_group (heads_of bytes) j two.index f g one two.image) in
       let w = two.whole in omega (arith, e, less, w)
@@ -39,7 +39,7 @@ module _ (bytes : List ℕ) where
   not_found j f g none one less (inr two) = not_whole j f g one less two.0
 
   -- nor is one that isn't sure
-  not_sure : (f g : Group) → NonePlain bytes → IsWhole bytes f → IsFalse (is_sure bytes f) → IsFound bytes g → ⊥
+  not_sure : (f g : Group) → NonePlain bytes → IsWholeGroup bytes f → IsFalse (is_sure bytes f) → IsFound bytes g → ⊥
   not_sure f g none one fails (inl two) = none g two
   not_sure f g none one fails (inr two) =
       true≢false (sym two.1 ∙ sym (ap (is_sure bytes) (same_whole bytes f g one two.0)) ∙ fails)

@@ -1,5 +1,5 @@
 -- The geometry of an image is among those that are found for it.
-use Rattle.ubi_detect.proofs.Prelude.{◌≡◌, ℕ, Bool, true, false, List, [], ◌∷◌, cond, length, zero, suc, refl, ap, sym, ◌∙◌, subst, arith, Contains, Option, Some, None, is_none, map, option_map, ◌==◌, ◌&&◌, ◌||◌, cons_option, filter_map, list_any, then_some, eqb-true, eq-eqb, nat_tests, Sizes, page_sizes, first_broken, GeometryOfImage, OutOfBandOfImage, AreDetected, IsFound, data_place, is_laid_out, sizes_of, end_of_image, has_vote, is_voted, start_of_image, told, told_by, told_ways, ways_with, ways_without, plain_way, Detected, Group, Way}
+use Rattle.ubi_detect.proofs.Prelude.{◌≡◌, ℕ, Bool, true, false, List, [], ◌∷◌, cond, length, zero, suc, refl, ap, sym, ◌∙◌, subst, arith, Contains, Option, Some, None, is_none, map, option_map, ◌==◌, ◌&&◌, ◌||◌, cons_option, filter_map, list_any, then_some, eqb-true, eq-eqb, nat_tests, Sizes, page_sizes, first_broken, GeometryOfImage, OutOfBandOfImage, AreDetected, IsFound, data_place, is_laid_out, layout_sizes, end_of_image, has_vote, is_voted, start_of_image, told, told_by, told_ways, ways_with, ways_without, plain_way, Detected, Group, Way}
 use Rattle.std.proofs.Common.{true≢false}
 use Rattle.std.specs.Prelude.{filter}
 
@@ -64,7 +64,7 @@ module _ (bytes : List ℕ) (g : Group) (found : IsFound bytes g) (w : Way) (has
 
 pub geometry_of_image : GeometryOfImage
 geometry_of_image bytes g page found none place without voted =
-    let s : Sizes = sizes_of g.size g.key.offsets page in
+    let s : Sizes = layout_sizes g.size g.key.offsets page in
     let w : Way = record { geometry = s; oob = 0 } in
     let way : plain_way g.size g.key.offsets page ≡ Some w =
     ap (λ b. option_map (λ z. record { geometry = z; oob = 0 }) (then_some b s)) (laid_out s none place) in

@@ -1,5 +1,5 @@
 -- The size of an image in a file is sure if it is in the image's own bytes.
-use Rattle.ubi_detect.proofs.Prelude.{◌≡◌, ℕ, ◌+◌, ◌-◌, ◌*◌, ◌/◌, ◌%◌, ◌≤◌, Bool, true, false, List, length, refl, ap, sym, ◌∙◌, arith, All, ◌==◌, ◌&&◌, ◌||◌, nat_le, nat_lt, not, mul-div-le, mul-le-mul_right, and_parts, leb-true, slots, record_size, vid_magic, step, layout, HoldsPart, SureOfPart, moved, count_starts, all_are, are_no_parts, copy_at, end_in, ends_blank, goes_on, has_room, have_copies, holds_table, is_blank, is_filled, is_hole, is_prime, is_seen, is_start, is_sure, is_whole_size, looked_at, may_be_parts, may_be_size, meet_in, meets, number_at, says_so, some_ends_blank, some_inner, some_part, some_start, tables_meet, plain_ways, put, ways, Group, Way}
+use Rattle.ubi_detect.proofs.Prelude.{◌≡◌, ℕ, ◌+◌, ◌-◌, ◌*◌, ◌/◌, ◌%◌, ◌≤◌, Bool, true, false, List, length, refl, ap, sym, ◌∙◌, arith, All, ◌==◌, ◌&&◌, ◌||◌, nat_le, nat_lt, not, mul-div-le, mul-le-mul_right, and_parts, leb-true, slots, record_size, vid_magic, step, layout, HoldsPart, SureOfPart, moved, count_starts, all_are, are_no_parts, copy_at, end_in, ends_blank, goes_on, has_room, have_copies, holds_table, is_blank_at, is_filled, is_hole, is_prime, is_seen, is_start, is_sure, is_whole_size, looked_at, may_be_parts, may_be_size, meet_in, meets, number_at, says_so, some_ends_blank, some_inner, some_part, some_start, tables_meet, plain_ways, put, ways, Group, Way}
 use Rattle.ubi_detect.proofs.OnePlain.{next_mul}
 use Rattle.ubi_detect.proofs.PartPlaces.{first_or_behind, size_of_unit}
 use Rattle.ubi_detect.proofs.PartReads.{all_same, any_each, any_same, le_moved, lt_moved, same_all, same_blocks, same_count, same_number, same_some, same_start}
@@ -58,12 +58,12 @@ module _ (file : List ℕ) (at : ℕ) (part : List ℕ) (g : Group) (holds : Hol
         let next : at + p + vid + 8 ≡ at + p + (vid + 8) = omega arith in
         let here : p + (vid + 8) ≡ p + vid + 8 = omega arith in
         let place : at + p + rec ≡ at + (p + rec) = omega arith in
-        ap (λ n. (n == vid_magic) && (number_at file (at + p + vid + 8) == layout) && not (is_blank file (at + p + rec)))
+        ap (λ n. (n == vid_magic) && (number_at file (at + p + vid + 8) == layout) && not (is_blank_at file (at + p + rec)))
         (number_same p vid (omega (arith, few)) inside)
-        ∙ ap (λ n. (number_at part (p + vid) == vid_magic) && (n == layout) && not (is_blank file (at + p + rec)))
+        ∙ ap (λ n. (number_at part (p + vid) == vid_magic) && (n == layout) && not (is_blank_at file (at + p + rec)))
         (ap (number_at file) next ∙ number_same p (vid + 8) (omega (arith, few)) inside ∙ ap (number_at part) here)
         ∙ ap (λ b. (number_at part (p + vid) == vid_magic) && (number_at part (p + vid + 8) == layout) && not b)
-        (ap (is_blank file) place ∙ same_all file part at holds.lies 0xFF 64 (p + rec) (omega (arith, last, inside)))
+        (ap (is_blank_at file) place ∙ same_all file part at holds.lies 0xFF 64 (p + rec) (omega (arith, last, inside)))
 
     copy_same : (p : ℕ) → p + g.size ≤ length part → copy_at file w (at + p) ≡ copy_at part w p
     copy_same p inside = let few = vid_inside g.size w fits in number_same p (vid + 12) (omega (arith, few)) inside

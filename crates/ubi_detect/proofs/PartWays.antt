@@ -1,5 +1,5 @@
 -- Where the headers and the last record stand in an eraseblock, for each page that it may have: within it.
-use Rattle.ubi_detect.proofs.Prelude.{◌≡◌, ℕ, ◌+◌, ◌-◌, ◌*◌, ◌/◌, ◌%◌, ◌<◌, ◌≤◌, Bool, true, false, List, [], ◌∷◌, inl, inr, refl, ap, sym, ◌∙◌, subst, arith, then_some, All, cons_option, filter_map, flat_map, ◌==◌, ◌&&◌, None, Option, Some, is_none, nat_le, nat_lt, option_map, div-zero, lt_of_mul-lt-mul_right, mod-add-div', mod-lt, mul-le-mul_right, mul_comm, and_parts, eqb-true, leb-true, ltb-true, true≢false, All-append, All-cons, All-nil, none-some, same_Some, within_or_past, kept_limits, IsGeometry, Sizes, page_sizes, slots, first_broken, record_size, EcOffsets, is_laid_out, sizes_of, page_counts, plain_way, plain_ways, put, way_of, ways, Way}
+use Rattle.ubi_detect.proofs.Prelude.{◌≡◌, ℕ, ◌+◌, ◌-◌, ◌*◌, ◌/◌, ◌%◌, ◌<◌, ◌≤◌, Bool, true, false, List, [], ◌∷◌, inl, inr, refl, ap, sym, ◌∙◌, subst, arith, then_some, All, cons_option, filter_map, flat_map, ◌==◌, ◌&&◌, None, Option, Some, is_none, nat_le, nat_lt, option_map, div-zero, lt_of_mul-lt-mul_right, mod-add-div', mod-lt, mul-le-mul_right, mul_comm, and_parts, eqb-true, leb-true, ltb-true, true≢false, All-append, All-cons, All-nil, none-some, same_Some, within_or_past, kept_limits, IsGeometry, Sizes, page_sizes, slots, first_broken, record_size, EcOffsets, is_laid_out, layout_sizes, page_counts, plain_way, plain_ways, put, way_of, ways, Way}
 
 -- an eraseblock of q bytes is whole pages of a way, with its out-of-band bytes
 pub record Fits (q : ℕ) (w : Way) : Type 0 where
@@ -36,15 +36,15 @@ module _ {X : Type 0} (P : X → Type 0) where
 
 plain_fits : (q : ℕ) (o : EcOffsets) (page : ℕ) (w : Way) → plain_way q o page ≡ Some w → Fits q w
 plain_fits q o page w e =
-    let s : Sizes = sizes_of q o page in
+    let s : Sizes = layout_sizes q o page in
     by_test (is_laid_out s) refl e
   where
-    by_test : (b : Bool) → is_laid_out (sizes_of q o page) ≡ b → option_map (λ s. record { geometry = s; oob = 0 }) (then_some b (sizes_of q o page)) ≡ Some w
+    by_test : (b : Bool) → is_laid_out (layout_sizes q o page) ≡ b → option_map (λ s. record { geometry = s; oob = 0 }) (then_some b (layout_sizes q o page)) ≡ Some w
         → Fits q w
     by_test false laid f = absurd (none-some w f)
     by_test true laid f =
         let P : Way → Type 0 = λ v. Fits q v in
-        let is = laid_out (sizes_of q o page) laid in
+        let is = laid_out (layout_sizes q o page) laid in
         let pages = is.peb_pages in
         let leb = is.leb in
         let split = mod-add-div' q page in
@@ -71,12 +71,12 @@ all_five a b c d e all =
 -- so many pages and their out-of-band bytes are all
 module _ (q : ℕ) (o : EcOffsets) (page n : ℕ) (w : Way) (is : way_of q o page n ≡ Some w) where
   abbrev found : Way
-  found = record { geometry = sizes_of (page * n) o page; oob = q / n - page }
+  found = record { geometry = layout_sizes (page * n) o page; oob = q / n - page }
 
   passes : ((q % n == 0) ≡ true) × (nat_lt page (q / n) ≡ true) × (nat_le 256 page ≡ true) × (nat_le (q / n - page) (page / 4) ≡ true)
-      × (is_laid_out (sizes_of (page * n) o page) ≡ true)
+      × (is_laid_out (layout_sizes (page * n) o page) ≡ true)
   passes =
-      all_five (q % n == 0) (nat_lt page (q / n)) (nat_le 256 page) (nat_le (q / n - page) (page / 4)) (is_laid_out (sizes_of (page * n) o page))
+      all_five (q % n == 0) (nat_lt page (q / n)) (nat_le 256 page) (nat_le (q / n - page) (page / 4)) (is_laid_out (layout_sizes (page * n) o page))
       (if_true _ found w is).0
 
   some : 1 ≤ n
@@ -100,7 +100,7 @@ module _ (q : ℕ) (o : EcOffsets) (page n : ℕ) (w : Way) (is : way_of q o pag
       let least : 1 * (q / n) ≤ n * (q / n) = mul-le-mul_right (q / n) some in
       let P : Way → Type 0 = λ v. Fits q v in
       subst P (if_true _ found w is).1 (record {
-        geometry = laid_out (sizes_of (page * n) o page) passes.4;
+        geometry = laid_out (layout_sizes (page * n) o page) passes.4;
         count = n;
         pages = mul_comm page n;
         all = all;

@@ -28,7 +28,7 @@ pub use Rattle.ubi_media.proofs.First.{none_passes}
 pub use Rattle.ubi_media.proofs.KeptLimits.{kept_limits}
 pub use Rattle.ubi_media.specs.Ec.{ec_magic, offsets_of, reading_by, sizes_naming, start_by}
 unfoldable pub use Rattle.ubi_media.specs.Ec.{ec_fields, ec_reading, ec_start}
-pub use Rattle.ubi_media.specs.Fields.{field, is_sealed}
+pub use Rattle.ubi_media.specs.Fields.{field, is_blank, is_sealed}
 unfoldable pub use Rattle.ubi_media.specs.Fields.{form_of}
 pub use Rattle.ubi_media.specs.Geometry.{IsGeometry, Sizes, page_sizes, slots}
 unfoldable pub use Rattle.ubi_media.specs.Limits.{first_broken}
@@ -39,15 +39,15 @@ pub use Rattle.ubi_media.specs.declared.ec.EcOffsets.{EcOffsets}
 pub use Rattle.ubi_scan.specs.Members.{layout}
 pub use Rattle.ubi_scan.specs.Source.{Agreed, Narrows, Source, WhereHeld}
 pub use Rattle.ubi_detect.specs.DetectLaws.{DetectedOrNot, DetectedOrRefused, EachOnGrid, GeometryOfImage, GreatestSize, OneDetection, OneFound, OneImage, OneUndetected, OutOfBandOfImage, PlaceOnGrid, SizeOfImage, TwoHeaders}
-pub use Rattle.ubi_detect.specs.Detected.{AreDetected, AreDetectedOf, IsDetectError, IsFound, IsUndetected, IsWhole, NonePlain}
+pub use Rattle.ubi_detect.specs.Detected.{AreDetected, AreDetectedOf, IsDetectError, IsFound, IsUndetected, IsWholeGroup, NonePlain}
 pub use Rattle.ubi_detect.specs.ErrorTexts.{undetected_text}
 pub use Rattle.ubi_detect.specs.Groups.{Divides, IsGroup, IsImage, IsSpacing, Says, greatest_size, no_key, spoken}
 pub use Rattle.ubi_detect.specs.Heads.{first_place, head_at, heads_of, heads_to, is_of, key_at, key_by, key_count, key_in, keys_of, last_place, most_keys, places, same_key, same_offsets, speaks, step, with_key}
-pub use Rattle.ubi_detect.specs.Layout.{data_place, is_laid_out, sizes_of}
+pub use Rattle.ubi_detect.specs.Layout.{data_place, is_laid_out, layout_sizes}
 pub use Rattle.ubi_detect.specs.PartLaws.{HoldsPart, LiesAt, NoneOutside, PartOfFile, PlaceOfPart, StandsAlone, SureOfPart, ToldOfPart, further, moved}
 pub use Rattle.ubi_detect.specs.Place.{blanks_before, blanks_behind, count_starts, end_of_image, end_of_last, has_no_page, has_vid, has_vote, is_voted, is_without, run, start_of_image, told, told_by, told_ways, top_vote, votes, ways_with, ways_without}
 pub use Rattle.ubi_detect.specs.Plain.{IsPlain, IsSurelyPlain}
-pub use Rattle.ubi_detect.specs.Sure.{all_are, are_no_parts, block_at, blocks, copy_at, end_in, ends_blank, goes_on, has_inner_start, has_part_start, has_room, have_copies, holds_table, is_blank, is_filled, is_hole, is_member, is_prime, is_seen, is_start, is_sure, is_whole_size, looked_at, may_be_parts, may_be_size, meet_in, meets, number_at, says_so, some_ends_blank, some_inner, some_part, some_start, tables_meet}
+pub use Rattle.ubi_detect.specs.Sure.{all_are, are_no_parts, block_at, blocks, copy_at, end_in, ends_blank, goes_on, has_inner_start, has_part_start, has_room, have_copies, holds_table, is_blank_at, is_filled, is_hole, is_member, is_prime, is_seen, is_start, is_sure, is_whole_size, looked_at, may_be_parts, may_be_size, meet_in, meets, number_at, says_so, some_ends_blank, some_inner, some_part, some_start, tables_meet}
 pub use Rattle.ubi_detect.specs.Ways.{has_no_way, page_counts, plain_way, plain_ways, put, way_of, ways}
 pub use Rattle.ubi_detect.specs.declared.detect.DetectError.{DetectError}
 pub use Rattle.ubi_detect.specs.declared.detect.Detected.{Detected}
@@ -57,5 +57,5 @@ pub use Rattle.ubi_detect.specs.declared.heads.Head.{Head}
 pub use Rattle.ubi_detect.specs.declared.heads.Key.{Key}
 pub use Rattle.ubi_detect.specs.declared.way.Way.{Way}
 pub use Rattle.ubi_detect.specs.declared.ways.Ways.{Ways}
-pub use Rattle.ubi_detect.specs.inner.Detecting.{AreAdded, AreGroups, AreReady, AreWays, IsAdded, IsBestOf, IsReadAt, IsReadError, IsUntold, IsWithin, LiesIn, NoneSays, beats, first_with, group_with, has_key, head_in, is_most_voted, says_size, speaks_among, unnumbered}
+pub use Rattle.ubi_detect.specs.inner.Detecting.{AreAdded, AreGroups, AreReady, AreWays, IsAdded, IsBestOf, IsReadAt, IsReadError, IsUntold, IsWithin, LiesIn, NoneSays, first_with, group_with, has_key, head_in, is_most_voted, says_size, speaks_among, speaks_for_more, unnumbered}
 pub use Rattle.ubi_detect.specs.inner.Joined.{AreJoined, HasHeadOf, IsFirstHead, IsJoined, IsPlainSize, NoHeads, NoneAlone, NoneJoined, NoneOwns, NotPlain}

@@ -1,5 +1,5 @@
 -- The group that the headers of a file say.
-use Rattle.ubi_detect.proofs.Prelude.{◌≡◌, ◌≢◌, ℕ, ◌/◌, ◌<◌, ◌≤◌, true, List, [], ◌∷◌, length, inl, inr, refl, ap, sym, ◌∙◌, arith, list_any, IsFalse, map, and_from, eq-eqb, or_left, true≢false, length-map, IsUndetected, IsWhole, NonePlain, IsImage, heads_of, key_count, keys_of, most_keys, same_key, step, is_sure, Group, Head, Key, AreGroups, IsWithin, LiesIn}
+use Rattle.ubi_detect.proofs.Prelude.{◌≡◌, ◌≢◌, ℕ, ◌/◌, ◌<◌, ◌≤◌, true, List, [], ◌∷◌, length, inl, inr, refl, ap, sym, ◌∙◌, arith, list_any, IsFalse, map, and_from, eq-eqb, or_left, true≢false, length-map, IsUndetected, IsWholeGroup, NonePlain, IsImage, heads_of, key_count, keys_of, most_keys, same_key, step, is_sure, Group, Head, Key, AreGroups, IsWithin, LiesIn}
 use Rattle.ubi_detect.specs.declared.detect.Undetected.TheVariants as cause
 use Rattle.ubi_detect.proofs.NewGroups.{any_key}
 
@@ -48,5 +48,5 @@ pub too_many : (bytes : List ℕ) → NonePlain bytes → most_keys < key_count 
 too_many bytes none many = (many_heads bytes many, none, inl many)
 
 -- a whole image of which the size isn't sure is refused for it
-pub not_sure : (bytes : List ℕ) (g : Group) → IsWhole bytes g → IsFalse (is_sure bytes g) → IsUndetected bytes cause.NoSize
+pub not_sure : (bytes : List ℕ) (g : Group) → IsWholeGroup bytes g → IsFalse (is_sure bytes g) → IsUndetected bytes cause.NoSize
 not_sure bytes g is fails = (image_heads (heads_of bytes) is.index g is.image, is.none, inr (inr (g, is, fails)))

@@ -1,5 +1,5 @@
 -- Headers form groups, and say an image or none.
-use Rattle.ubi_detect.proofs.Prelude.{◌≡◌, ℕ, ◌+◌, ◌-◌, ◌*◌, ◌/◌, ◌%◌, ◌<◌, ◌≤◌, ◌⊎◌, Bool, true, false, List, [], ◌∷◌, ◌++◌, length, slice_range, zero, suc, inl, inr, refl, ap, sym, ◌∙◌, subst, arith, IsGcd, option_to_list, ◌&&◌, IsFalse, MatchOption, None, Option, Some, option_map, slice_index_or, mod-lt, and_parts, true≢false, append-nil, get_or_default, All-nil, IsGcd-from_mod, IsGcd-from_zero, dvd-zero, below_same_or_above, IsGroup, IsImage, heads_of, heads_to, is_of, key_in, step, Group, Head, Key, AreAdded, AreGroups, AreReady, IsAdded, IsBestOf, NoneSays, first_with, group_with, has_key, says_size, unnumbered, beats}
+use Rattle.ubi_detect.proofs.Prelude.{◌≡◌, ℕ, ◌+◌, ◌-◌, ◌*◌, ◌/◌, ◌%◌, ◌<◌, ◌≤◌, ◌⊎◌, Bool, true, false, List, [], ◌∷◌, ◌++◌, length, slice_range, zero, suc, inl, inr, refl, ap, sym, ◌∙◌, subst, arith, IsGcd, option_to_list, ◌&&◌, IsFalse, MatchOption, None, Option, Some, option_map, slice_index_or, mod-lt, and_parts, true≢false, append-nil, get_or_default, All-nil, IsGcd-from_mod, IsGcd-from_zero, dvd-zero, below_same_or_above, IsGroup, IsImage, heads_of, heads_to, is_of, key_in, step, Group, Head, Key, AreAdded, AreGroups, AreReady, IsAdded, IsBestOf, NoneSays, first_with, group_with, has_key, says_size, unnumbered, speaks_for_more}
 use Rattle.ubi_detect.proofs.AddedGroups.{groups_more, no_group, ready, ready_with}
 use Rattle.ubi_detect.proofs.BestGroup.{best_taken, image_of, stays_best}
 use Rattle.ubi_detect.proofs.NewGroups.{group_of_none, group_of_unnumbered}
@@ -101,7 +101,7 @@ module _ (gs : List Group) where
   Best n = (o : Option Group) × MatchOption o (NoneSays gs n) (IsBestOf gs n)
 
   best_by : (n : ℕ) (inside : n < length gs) (o : Option Group) → MatchOption o (NoneSays gs n) (IsBestOf gs n) → (b : Bool)
-      → (says_size gs (slice_index_or gs n no_group) && beats (slice_index_or gs n no_group) o) ≡ b → Best (n + 1)
+      → (says_size gs (slice_index_or gs n no_group) && speaks_for_more (slice_index_or gs n no_group) o) ≡ b → Best (n + 1)
   best_by n inside o best true e =
       let both = and_parts _ _ e in (
         Some (slice_index_or gs n no_group),

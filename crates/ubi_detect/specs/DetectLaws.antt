@@ -5,7 +5,7 @@ use Rattle.ubi_media.specs.Limits.{first_broken}
 use Rattle.ubi_detect.specs.Detected.{AreDetected, IsFound, IsUndetected}
 use Rattle.ubi_detect.specs.Groups.{Divides, IsImage}
 use Rattle.ubi_detect.specs.Heads.{heads_of, places}
-use Rattle.ubi_detect.specs.Layout.{data_place, sizes_of}
+use Rattle.ubi_detect.specs.Layout.{data_place, layout_sizes}
 use Rattle.ubi_detect.specs.Place.{end_of_image, end_of_last, has_vote, is_voted, is_without, start_of_image, told, told_by, ways_with}
 use Rattle.ubi_detect.specs.declared.detect.Detected.{Detected}
 use Rattle.ubi_detect.specs.declared.detect.Undetected.{Undetected}
@@ -45,7 +45,7 @@ SizeOfImage = (bytes : List ℕ) (j q p : ℕ) (g : Group) → IsImage (heads_of
 -- stands where this page has it, and eraseblocks of its size have no out-of-band bytes, or fewer volume-identifier headers say that they do
 abbrev pub GeometryOfImage : Type 0
 GeometryOfImage = (bytes : List ℕ) (g : Group) (page : ℕ) → IsFound bytes g
-    → let s = sizes_of g.size g.key.offsets page in let w : Way = record { geometry = s; oob = 0 } in
+    → let s = layout_sizes g.size g.key.offsets page in let w : Way = record { geometry = s; oob = 0 } in
     first_broken s ≡ None → data_place page g.key.offsets.vid_offset ≡ g.key.offsets.data_offset
     → IsTrue (is_without bytes g) → IsTrue (has_vote bytes g w)
     → AreDetected bytes (told bytes g) × Contains (told bytes g) (told_by (start_of_image bytes g) (end_of_image bytes g) w)

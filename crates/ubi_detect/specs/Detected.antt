@@ -19,7 +19,7 @@ NonePlain bytes = (g : Group) → IsSurelyPlain bytes g → ⊥
 
 -- this is the group of the image that the headers of a file say, if none plainly is, the headers name few keys, and the last
 -- eraseblock of the image is all there
-pub record IsWhole (bytes : List ℕ) (g : Group) : Type 0 where
+pub record IsWholeGroup (bytes : List ℕ) (g : Group) : Type 0 where
   pub none : NonePlain bytes
   pub few : key_count bytes ≤ most_keys
   pub index : ℕ
@@ -28,7 +28,7 @@ pub record IsWhole (bytes : List ℕ) (g : Group) : Type 0 where
 
 -- this is the group of the image that a file holds
 abbrev pub IsFound : List ℕ → Group → Type 0
-IsFound bytes g = IsSurelyPlain bytes g ⊎ (IsWhole bytes g × IsTrue (is_sure bytes g))
+IsFound bytes g = IsSurelyPlain bytes g ⊎ (IsWholeGroup bytes g × IsTrue (is_sure bytes g))
 
 -- this is what is found in a file
 pub record AreDetected (bytes : List ℕ) (found : List Detected) : Type 0 where
@@ -44,7 +44,7 @@ IsUndetected bytes cause.NoHeader = heads_of bytes ≡ []
 -- headers do, but they name too many keys, or no group says a size, or the size isn't sure
 IsUndetected bytes cause.NoSize =
     (heads_of bytes ≢ []) × NonePlain bytes × ((most_keys < key_count bytes)
-    ⊎ (((j : ℕ) (g : Group) → IsImage (heads_of bytes) j g → ⊥) ⊎ ((g : Group) × IsWhole bytes g × IsFalse (is_sure bytes g))))
+    ⊎ (((j : ℕ) (g : Group) → IsImage (heads_of bytes) j g → ⊥) ⊎ ((g : Group) × IsWholeGroup bytes g × IsFalse (is_sure bytes g))))
 -- they name few keys, and only `rest` bytes of the last eraseblock of the image are there
 IsUndetected bytes (cause.Length size rest) =
     NonePlain bytes × (key_count bytes ≤ most_keys) × ((j : ℕ) × (g : Group) × IsImage (heads_of bytes) j g × (length bytes < end_of_last g) × (size ≡ g.size)

@@ -7,8 +7,8 @@ use Rattle.ubi_media.specs.Limits.{first_broken}
 use Rattle.ubi_media.specs.declared.ec.EcOffsets.{EcOffsets}
 
 -- the sizes of a device with eraseblocks of a size, with a page and with offsets; it may have as many eraseblocks as any
-abbrev pub sizes_of : ℕ → EcOffsets → ℕ → Sizes
-sizes_of size o page =
+abbrev pub layout_sizes : ℕ → EcOffsets → ℕ → Sizes
+layout_sizes size o page =
     record { peb_size = size; page = page; vid_offset = o.vid_offset; data_offset = o.data_offset; pebs = 1048576 }
 
 -- where Linux has the data begin: at the end of the volume-identifier header, rounded up to a page
@@ -21,4 +21,4 @@ is_laid_out s = (data_place s.page s.vid_offset == s.data_offset) && is_none (fi
 
 -- the geometry of a page, if it is one
 abbrev pub geometry_of : ℕ → EcOffsets → ℕ → Option Sizes
-geometry_of size o page = then_some (is_laid_out (sizes_of size o page)) (sizes_of size o page)
+geometry_of size o page = then_some (is_laid_out (layout_sizes size o page)) (layout_sizes size o page)

@@ -1,10 +1,10 @@
 -- Laws of an image that lies in a file, with anything before and after it: the file shows the same image as the image's own bytes.
 use Rattle.std.specs.Prelude.{◌≡◌, ◌≢◌, ℕ, ◌+◌, ◌-◌, ◌*◌, ◌%◌, ◌<◌, ◌≤◌, ◌⊎◌, IsFalse, IsTrue, List, [], Some, length, map, slice_range}
-use Rattle.ubi_detect.specs.Detected.{AreDetected, IsWhole, NonePlain}
+use Rattle.ubi_detect.specs.Detected.{AreDetected, IsWholeGroup, NonePlain}
 use Rattle.ubi_detect.specs.Groups.{Says, spoken}
 use Rattle.ubi_detect.specs.Heads.{heads_of, is_of, key_at, key_count, most_keys, step}
 use Rattle.ubi_detect.specs.Place.{end_of_image, end_of_last, start_of_image, told}
-use Rattle.ubi_detect.specs.Sure.{is_blank, is_sure}
+use Rattle.ubi_detect.specs.Sure.{is_blank_at, is_sure}
 use Rattle.ubi_detect.specs.declared.detect.Detected.{Detected}
 use Rattle.ubi_detect.specs.declared.groups.Group.{Group}
 use Rattle.ubi_detect.specs.declared.heads.Key.{Key}
@@ -38,9 +38,9 @@ pub record IsForemost (file : List ℕ) (at : ℕ) (part : List ℕ) (g : Group)
 -- no blank eraseblock lies right before the image, and none right after it, unless these bytes have all of it
 pub record StandsAlone (file : List ℕ) (at : ℕ) (part : List ℕ) (g : Group) : Type 0 where
   pub before : start_of_image part g < g.size → g.size ≤ at + start_of_image part g
-      → IsFalse (is_blank file (at + start_of_image part g - g.size))
+      → IsFalse (is_blank_at file (at + start_of_image part g - g.size))
   pub behind : length part < end_of_image part g + g.size → at + end_of_image part g + g.size ≤ length file
-      → IsFalse (is_blank file (at + end_of_image part g))
+      → IsFalse (is_blank_at file (at + end_of_image part g))
 
 -- the group of the same headers, this many bytes further on
 abbrev pub moved : ℕ → Group → Group
@@ -53,7 +53,7 @@ further at d = record d { start = at + d.start }
 -- the group is that of the file's image
 abbrev pub PartOfFile : Type 0
 PartOfFile = (file : List ℕ) (at : ℕ) (part : List ℕ) (g : Group) → HoldsPart file at part g → IsForemost file at part g
-    → IsWhole file (moved at g)
+    → IsWholeGroup file (moved at g)
 
 -- the size of the image is sure in the file if it is in its own bytes
 abbrev pub SureOfPart : Type 0

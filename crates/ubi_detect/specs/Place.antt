@@ -2,7 +2,7 @@
 use Rattle.std.specs.Prelude.{ℕ, ◌+◌, ◌-◌, ◌*◌, ◌/◌, ◌==◌, ◌&&◌, ◌||◌, Bool, List, count_by, filter, fold, if◌then◌else◌, length, map, max, nat_lt}
 use Rattle.std.specs.List.{prefix_len, range_with_len}
 use Rattle.ubi_media.specs.Vid.{vid_magic}
-use Rattle.ubi_detect.specs.Sure.{block_at, blocks, is_blank, is_start, number_at, some_start}
+use Rattle.ubi_detect.specs.Sure.{block_at, blocks, is_blank_at, is_start, number_at, some_start}
 use Rattle.ubi_detect.specs.Ways.{has_no_way, plain_ways, put, ways}
 use Rattle.ubi_detect.specs.declared.detect.Detected.{Detected}
 use Rattle.ubi_detect.specs.declared.groups.Group.{Group}
@@ -14,7 +14,7 @@ run test n = prefix_len test (range_with_len 0 n)
 
 -- how many eraseblocks right before the first header are blank
 abbrev pub blanks_before : List ℕ → Group → ℕ
-blanks_before bytes g = run (λ j. is_blank bytes (g.first - (j + 1) * g.size)) (g.first / g.size)
+blanks_before bytes g = run (λ j. is_blank_at bytes (g.first - (j + 1) * g.size)) (g.first / g.size)
 
 -- where the image begins: at the first header, or the first of the blank eraseblocks right before it
 abbrev pub start_of_image : List ℕ → Group → ℕ
@@ -26,7 +26,7 @@ end_of_last g = g.last + g.size
 
 -- how many eraseblocks right after it are blank
 abbrev pub blanks_behind : List ℕ → Group → ℕ
-blanks_behind bytes g = run (λ j. is_blank bytes (end_of_last g + j * g.size)) ((length bytes - end_of_last g) / g.size)
+blanks_behind bytes g = run (λ j. is_blank_at bytes (end_of_last g + j * g.size)) ((length bytes - end_of_last g) / g.size)
 
 -- where the image ends: there, or with the last of these blank eraseblocks
 abbrev pub end_of_image : List ℕ → Group → ℕ

@@ -18,8 +18,8 @@ abbrev pub all_are : ℕ → ℕ → List ℕ → ℕ → Bool
 all_are b n bytes at = nat_le (at + n) (length bytes) && list_all (λ x. x == b) (slice_range bytes at (at + n))
 
 -- whether 64 bytes 0xFF stand at a place: an eraseblock that begins there is blank
-abbrev pub is_blank : List ℕ → ℕ → Bool
-is_blank = all_are 0xFF 64
+abbrev pub is_blank_at : List ℕ → ℕ → Bool
+is_blank_at = all_are 0xFF 64
 
 -- whether something stands at a place: 64 bytes that are neither all 0xFF nor all zero, as those of a bad eraseblock may be
 abbrev pub is_filled : List ℕ → ℕ → Bool
@@ -81,7 +81,7 @@ abbrev pub holds_table : List ℕ → Way → ℕ → Bool
 holds_table bytes w p =
     let v = p + put w w.geometry.vid_offset in
     (number_at bytes v == vid_magic) && (number_at bytes (v + 8) == layout)
-    && not (is_blank bytes (p + put w (w.geometry.data_offset + record_size * (slots w.geometry - 1))))
+    && not (is_blank_at bytes (p + put w (w.geometry.data_offset + record_size * (slots w.geometry - 1))))
 
 -- which copy an eraseblock holds, by the same header
 abbrev pub copy_at : List ℕ → Way → ℕ → ℕ

@@ -4,7 +4,7 @@ use Rattle.std.specs.Bool.{then_some}
 use Rattle.std.specs.List.{flat_map}
 use Rattle.ubi_media.specs.Geometry.{page_sizes}
 use Rattle.ubi_media.specs.declared.ec.EcOffsets.{EcOffsets}
-use Rattle.ubi_detect.specs.Layout.{geometry_of, is_laid_out, sizes_of}
+use Rattle.ubi_detect.specs.Layout.{geometry_of, is_laid_out, layout_sizes}
 use Rattle.ubi_detect.specs.declared.way.Way.{Way}
 
 -- a page without out-of-band bytes
@@ -22,7 +22,7 @@ page_counts = 16 ∷ 32 ∷ 64 ∷ 128 ∷ 256 ∷ 512 ∷ 1024 ∷ 2048 ∷ []
 -- a page of at least 256 bytes with out-of-band bytes, if n of both are q bytes: at least one for each page, at most a quarter of it
 abbrev pub way_of : ℕ → EcOffsets → ℕ → ℕ → Option Way
 way_of q o page n =
-    let s = sizes_of (page * n) o page in
+    let s = layout_sizes (page * n) o page in
     then_some ((q % n == 0) && nat_lt page (q / n) && nat_le 256 page && nat_le (q / n - page) (page / 4) && is_laid_out s)
     (record { geometry = s; oob = q / n - page })
 

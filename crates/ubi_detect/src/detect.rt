@@ -1,7 +1,7 @@
 //! The geometry of a file of which nothing else is known, and where in it the image lies.
 
 ghost use Rattle.std.specs.Prelude.{◌≡◌, ◌≢◌, ℕ, ◌<◌, ◌≤◌, ◌^◌, [], IfErr, IfOk, IfSome, MatchOption, Some};
-ghost use Rattle.ubi_detect.specs.Detected.{AreDetectedOf, IsDetectError, IsFound, IsWhole, NamesPlace, NonePlain, after_detecting};
+ghost use Rattle.ubi_detect.specs.Detected.{AreDetectedOf, IsDetectError, IsFound, IsWholeGroup, NamesPlace, NonePlain, after_detecting};
 ghost use Rattle.ubi_detect.specs.Place.{end_of_last, told};
 ghost use Rattle.ubi_detect.specs.Plain.{IsSurelyPlain};
 ghost use Rattle.ubi_scan.specs.Source.{Narrows, WhereHeld};
@@ -212,7 +212,7 @@ fn said_group<S: BlockSource>(alloc: Global, source: &mut S) -> Result<Group, De
     requires none { WhereHeld (S.agrees source.old) NonePlain }
     ensures known { S.known source.new ≡ after_detecting (S.known source.old) result }
     ensures narrows { Narrows (S.agrees source.old) (S.agrees source.new) }
-    ensures found { IfOk result (λ g. WhereHeld (S.agrees source.new) (λ bytes. IsWhole bytes g)) }
+    ensures found { IfOk result (λ g. WhereHeld (S.agrees source.new) (λ bytes. IsWholeGroup bytes g)) }
     ensures lies { IfOk result (LiesIn (S.known source.old).size) }
     ensures whole { IfOk result (λ g. end_of_last g ≤ (S.known source.old).size) }
     ensures refused { IfErr result (IsDetectError (S.known source.old) (S.agrees source.new)) }

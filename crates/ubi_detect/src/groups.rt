@@ -7,7 +7,7 @@ ghost use Rattle.ubi_detect.specs.Groups.{IsImage};
 ghost use Rattle.ubi_detect.specs.Heads.{step};
 ghost use Rattle.ubi_detect.specs.declared.heads.Head.{Head};
 ghost use Rattle.ubi_detect.specs.Groups.{IsGroup, greatest_size, spoken};
-ghost use Rattle.ubi_detect.specs.inner.Detecting.{AreAdded, AreGroups, AreReady, IsAdded, IsWithin, are_unnumbered, beats, first_with, group_with, has_key, says_size, speaks_among};
+ghost use Rattle.ubi_detect.specs.inner.Detecting.{AreAdded, AreGroups, AreReady, IsAdded, IsWithin, are_unnumbered, speaks_for_more, first_with, group_with, has_key, says_size, speaks_among};
 
 use crate::heads::{Head, Key};
 use std::alloc::AllocError;
@@ -193,7 +193,7 @@ impl Group {
 
     /// Whether it speaks for more bytes than another group, if there is one.
     fn beats(&self, other: &Option<Group>) -> bool
-        ensures { result ≡ beats self.now other.now }
+        ensures { result ≡ speaks_for_more self.now other.now }
     {
         match other {
             Some(group) => group.spoken() < self.spoken(),
@@ -204,7 +204,7 @@ impl Group {
 
 /// Whether a group says a size, and speaks for more bytes than another group, if there is one.
 fn is_better(groups: &[Group], group: &Group, best: &Option<Group>) -> bool
-    ensures { result ≡ says_size groups.now group.now && beats group.now best.now }
+    ensures { result ≡ says_size groups.now group.now && speaks_for_more group.now best.now }
 {
     says_size(groups, group) && group.beats(best)
 }

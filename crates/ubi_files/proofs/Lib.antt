@@ -1,12 +1,12 @@
 pub mod Defaults
 pub mod FileRows
-pub mod Filled
 pub mod Marked
 pub mod MaskedBytes
 pub mod OpensAtPlaces
 pub mod PageBytes
 pub mod PartBytes
 pub mod PartRead
-pub mod Prelude
+pub mod PlaceByPlace
 pub mod SeenBytes
 pub mod Tells
+pub mod Prelude

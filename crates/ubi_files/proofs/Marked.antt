@@ -2,7 +2,7 @@
 use Rattle.ubi_files.proofs.Prelude.{◌≡◌, ◌∙◌, ℕ, ◌+◌, ◌-◌, ◌<◌, ◌≤◌, ◌&&◌, ◌||◌, ◌⊎◌, Bool, List, [], ◌∷◌, ◌++◌, ap, arith, cond, drop, false, get_or, length, min, nat_le, nat_lt, refl, replicate, sym, take, true, list_any, slice_split, cases_lt, nat_tests, length-append, length-drop, length-replicate, length-take-le, same_lists, length-slice_split, Bor, option_map_or, None, Option, filter_map, filter_map-append, has_number, range_of, range_of_parts, ranges_of, with_ranges, BlockRange, Some}
 use Rattle.std.specs.Prelude.{is_some}
 use Rattle.std.specs.Prelude.{◌==◌}
-use Rattle.ubi_files.proofs.Filled.{get_or-filled, get_or-placed, length-placed}
+use Rattle.ubi_files.proofs.PlaceByPlace.{get_or-filled, get_or-placed, length-placed}
 
 -- an item that is cut twice at its hyphens has no range
 pub range_of_cut_twice : (item first rest last : List ℕ) (behind : Option (Bor (List ℕ)))

@@ -1,6 +1,6 @@
 -- Bytes in which those of marked eraseblocks read 0xFF.
 use Rattle.ubi_files.proofs.Prelude.{◌≡◌, ◌∙◌, ℕ, zero, suc, ◌+◌, ◌-◌, ◌*◌, ◌/◌, ◌%◌, ◌<◌, ◌≤◌, ◌&&◌, ◌||◌, ◌⊎◌, ◌==◌, Bool, List, [], ◌∷◌, ◌++◌, ap, arith, cond, drop, false, get_or, inl, inr, length, map, min, nat_le, nat_lt, refl, replicate, subst, sym, take, true, div-lt_iff_lt-mul, enumerate_from, ReadsAtMost, ForSome, Err, IfOk, None, Ok, Option, Result, if◌then◌else◌, option_map, cases_lt, nat_tests, div-mul-add, get_or-drop, get_or-replicate, get_or-take, length-append, length-drop, length-replicate, length-take, length-take-le, same_lists, take-append-le, take_all, is_listed, StandsAt, masked, Some}
-use Rattle.ubi_files.proofs.Filled.{get_or-filled, get_or-placed, length-placed}
+use Rattle.ubi_files.proofs.PlaceByPlace.{get_or-filled, get_or-placed, length-placed}
 
 pub length-masked : (size : ℕ) (marks : List Bool) (bytes : List ℕ) → length (masked size marks bytes) ≡ length bytes
 length-masked size marks bytes = length-placed (λ i b. if is_listed marks (i / size) then 0xFF else b) 0 bytes

@@ -21,8 +21,8 @@ pub use Rattle.std.specs.Option.{ForSome, option_map_or}
 pub use Rattle.std.specs.Prelude.{Err, IfOk, IfSome, None, Ok, OnErr, Option, Result, Some, filter_map, if◌then◌else◌, option_and_then, option_map, sum_by, unwrap_or}
 pub use Rattle.ubi_media.specs.Geometry.{Sizes, page_sizes}
 unfoldable pub use Rattle.ubi_media.specs.Limits.{first_broken}
-pub use Rattle.ubi_scan.proofs.Stands.{stand_within}
-pub use Rattle.ubi_scan.specs.Image.{judged}
+pub use Rattle.ubi_scan.proofs.BytesAtPlace.{stand_within}
+pub use Rattle.ubi_scan.specs.Image.{seen_of}
 pub use Rattle.ubi_scan.specs.Marks.{is_listed}
 pub use Rattle.ubi_scan.specs.Placed.{StandsAt}
 pub use Rattle.ubi_files.specs.BadBlocks.{has_number, masked, range_of, range_of_parts, ranges_of, with_ranges}

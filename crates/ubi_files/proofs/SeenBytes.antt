@@ -1,5 +1,5 @@
 -- The bytes of a file, as a dump is read.
-use Rattle.ubi_files.proofs.Prelude.{◌≡◌, ◌∙◌, ℕ, ◌+◌, ◌*◌, ◌/◌, ◌<◌, ◌≤◌, ◌⊎◌, Bool, List, ap, arith, drop, inl, inr, length, min, refl, subst, sym, take, cases_lt, length-take, take-take, take_all, ForSome, option_map_or, IfSome, None, Option, option_map, unwrap_or, Sizes, judged, masked, Files, Fits, marks_of, misfit_of, most_of, viewed, sizes_of, pages_of, part_len, part_of, Dump, Some}
+use Rattle.ubi_files.proofs.Prelude.{◌≡◌, ◌∙◌, ℕ, ◌+◌, ◌*◌, ◌/◌, ◌<◌, ◌≤◌, ◌⊎◌, Bool, List, ap, arith, drop, inl, inr, length, min, refl, subst, sym, take, cases_lt, length-take, take-take, take_all, ForSome, option_map_or, IfSome, None, Option, option_map, unwrap_or, Sizes, seen_of, masked, Files, Fits, marks_of, misfit_of, most_of, viewed, sizes_of, pages_of, part_len, part_of, Dump, Some}
 use Rattle.ubi_files.proofs.MaskedBytes.{for_mapped, length-masked, masked-take}
 use Rattle.ubi_files.proofs.PageBytes.{judged_pages}
 use Rattle.ubi_files.proofs.PartBytes.{is_part}
@@ -42,7 +42,7 @@ judged_whole : (dump : Dump) (all bytes : List ℕ) → 0 < (sizes_of dump.numbe
     → bytes ≡ take (most_of dump) (drop dump.part.start all)
     → masked (sizes_of dump.numbers).peb_size (marks_of dump)
     (take ((sizes_of dump.numbers).pebs * (sizes_of dump.numbers).peb_size + 1) (pages_of (sizes_of dump.numbers).page dump.oob bytes))
-    ≡ judged (sizes_of dump.numbers) (viewed dump all)
+    ≡ seen_of (sizes_of dump.numbers) (viewed dump all)
 judged_whole dump all bytes some are =
     ap (λ xs. masked s.peb_size (marks_of dump) xs)
     (ap (λ xs. take (device + 1) (pages_of s.page dump.oob xs)) (are ∙ take-part dump.part.length raw (drop dump.part.start all))
@@ -63,7 +63,7 @@ pub judged_seen : (dump : Dump) (held : Option (List ℕ)) (bytes now : List ℕ
     → now ≡ masked (sizes_of dump.numbers).peb_size (marks_of dump)
     (take ((sizes_of dump.numbers).pebs * (sizes_of dump.numbers).peb_size + 1) (pages_of (sizes_of dump.numbers).page dump.oob bytes))
     → IfSome held (λ all. bytes ≡ take (most_of dump) (drop dump.part.start all))
-    → IfSome (option_map (viewed dump) held) (λ all. now ≡ judged (sizes_of dump.numbers) all)
+    → IfSome (option_map (viewed dump) held) (λ all. now ≡ seen_of (sizes_of dump.numbers) all)
 judged_seen dump None bytes now some is are = tt
 judged_seen dump (Some all) bytes now some is are = is ∙ judged_whole dump all bytes some are
 

@@ -4,7 +4,7 @@ use Rattle.std.specs.Borrow.{Bor}
 use Rattle.std.specs.Io.KnownBytes.{Appends}
 use Rattle.std.specs.Option.{ForSome}
 use Rattle.ubi_media.specs.Geometry.{Sizes}
-use Rattle.ubi_scan.specs.Image.{judged}
+use Rattle.ubi_scan.specs.Image.{seen_of}
 use Rattle.ubi_files.specs.declared.outcome.Outcome.{Outcome}
 
 -- whether it is known what files that are written receive, and what the file at a path holds, if that is known
@@ -31,7 +31,7 @@ pub record IsKept (old new : Files) (path : List ℕ) (received : Option (List �
 
 -- the bytes are those of the named file that are judged
 abbrev pub IsJudgedOf : Files → List ℕ → Sizes → List ℕ → Type 0
-IsJudgedOf d path s bytes = IfSome (d.holds path) (λ all. bytes ≡ judged s all)
+IsJudgedOf d path s bytes = IfSome (d.holds path) (λ all. bytes ≡ seen_of s all)
 
 -- the bytes are those of the named file
 abbrev pub IsTextOf : Files → List ℕ → List ℕ → Type 0

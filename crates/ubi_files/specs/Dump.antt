@@ -3,7 +3,7 @@ use Rattle.std.specs.Prelude.{◌≡◌, ℕ, ◌*◌, ◌+◌, Bool, IfSome, Li
 use Rattle.std.specs.Option.{option_map_or}
 use Rattle.ubi_files.specs.BadBlocks.{bad_marks, masked}
 use Rattle.ubi_files.specs.Disk.{Files}
-use Rattle.ubi_files.specs.Numbers.{greatest, sizes_of}
+use Rattle.ubi_files.specs.Numbers.{greatest_numbers, sizes_of}
 use Rattle.ubi_files.specs.Views.{misfit, most_of_part, pages_of, part_of}
 use Rattle.ubi_files.specs.declared.dump.Dump.{Dump}
 use Rattle.ubi_files.specs.declared.view.FilePart.{FilePart}
@@ -49,7 +49,7 @@ FitsWhole d dump path = IfSome (d.holds path) (λ all. misfit_of (as_read dump) 
 -- for a file of unknown geometry, a part of the greatest dump that there is
 abbrev pub greatest_dump : FilePart → Dump
 greatest_dump part = record {
-  numbers = greatest;
+  numbers = greatest_numbers;
   part = part;
   oob = 0;
   bad = None;

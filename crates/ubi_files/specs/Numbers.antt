@@ -25,8 +25,8 @@ numbers_of s = record {
 }
 
 -- the numbers of the greatest device that there is: no more is read of a file of unknown geometry
-abbrev pub greatest : Numbers
-greatest = record {
+abbrev pub greatest_numbers : Numbers
+greatest_numbers = record {
   peb_size = 16777216;
   page = 65536;
   vid_offset = None;

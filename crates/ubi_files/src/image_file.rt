@@ -3,7 +3,7 @@
 ghost use Rattle.std.specs.Io.KnownBytes.{Consumes};
 ghost use Rattle.std.specs.Prelude.{◌≡◌, ◌+◌, ◌*◌, ◌≤◌, IfErr, IfOk, IfSome, List, MatchResult, None, OnErr, codes, vec_len, ℕ};
 ghost use Rattle.ubi_media.specs.Limits.{first_broken};
-ghost use Rattle.ubi_scan.specs.Image.{judged};
+ghost use Rattle.ubi_scan.specs.Image.{seen_of};
 ghost use Rattle.ubi_files.specs.Answer.{Gives, says};
 ghost use Rattle.ubi_files.specs.Disk.{IsJudgedOf};
 ghost use Rattle.ubi_files.specs.Lines.{file_line, geometry_line};
@@ -71,7 +71,7 @@ fn read_judged<F: Read>(
     file: &mut WholeFile<F>,
     geometry: &Geometry,
 ) -> Result<Vec<u8>, ToolError>
-    ensures bytes { IfOk result (λ v. IfSome (F.remaining file.old.reader) (λ xs. v.items ≡ judged geometry.now xs)) }
+    ensures bytes { IfOk result (λ v. IfSome (F.remaining file.old.reader) (λ xs. v.items ≡ seen_of geometry.now xs)) }
     ensures few { IfOk result (λ v. vec_len v ≤ geometry.now.pebs * geometry.now.peb_size + 1) }
     ensures rest { IfOk result (λ v. Consumes (F.remaining file.old.reader) (F.remaining file.new.reader) v.items) }
     ensures taken { OnErr result (TakesAtMost (geometry.now.pebs * geometry.now.peb_size + 1) (F.remaining file.old.reader) (F.remaining file.new.reader)) }

@@ -1,6 +1,6 @@
-pub mod ListedWhole
+pub mod Alike
 pub mod DifferencesWhole
 pub mod GeometriesWhole
-pub mod Alike
-pub mod Prelude
+pub mod ListedWhole
 pub mod OneLine
+pub mod Prelude

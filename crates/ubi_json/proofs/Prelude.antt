@@ -30,6 +30,6 @@ pub use Rattle.ubi_json.specs.Differences.{difference_data, differences_data}
 pub use Rattle.ubi_json.specs.Geometry.{detected_data, geometries_data, place_data}
 pub use Rattle.ubi_json.specs.Laws.{refused_at}
 pub use Rattle.ubi_json.specs.List.{listed_data, record_members, volume_data, with_amount}
-pub use Rattle.ubi_json.specs.Told.{told_of, told_text, undetected_told, with_numbers}
+pub use Rattle.ubi_json.specs.Told.{refusal_told, told_text, undetected_told, with_numbers}
 pub use Rattle.ubi_json.specs.Words.{same_state, shown, side_word}
 pub use Rattle.ubi_json.specs.declared.list.ListedVolume.{ListedVolume}

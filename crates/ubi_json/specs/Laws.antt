@@ -12,7 +12,7 @@ use Rattle.ubi_compare.specs.declared.difference.Side.{Side}
 use Rattle.ubi_compare.specs.declared.difference.Side.TheVariants as side
 use Rattle.ubi_compare.specs.declared.errors.CompareError.{CompareError}
 use Rattle.ubi_compare.specs.declared.errors.CompareError.TheVariants as error
-use Rattle.ubi_json.specs.Told.{told_of, told_text, undetected_told}
+use Rattle.ubi_json.specs.Told.{refusal_told, told_text, undetected_told}
 use Rattle.ubi_json.specs.Words.{side_word}
 
 -- one of two images is refused
@@ -23,9 +23,9 @@ refused_at side.Right c = error.Right c
 -- the printed line of a cause says the same as its JSON: the code, the name, each number under its word, and the name of the rule;
 -- and the side, if it is one of two images
 pub record TellAlike : Type 0 where
-  pub refusals : (c : Refusal) → refusal_text c ≡ told_text (told_of c)
+  pub refusals : (c : Refusal) → refusal_text c ≡ told_text (refusal_told c)
   pub undetected : (c : Undetected) → undetected_text c ≡ told_text (undetected_told c)
-  pub sides : (s : Side) (c : Refusal) → compare_error_text (refused_at s c) ≡ side_word s ++ codes " " ++ told_text (told_of c)
+  pub sides : (s : Side) (c : Refusal) → compare_error_text (refused_at s c) ≡ side_word s ++ codes " " ++ told_text (refusal_told c)
 
 -- the text of any data is one line: no byte of it is below 0x20
 abbrev pub OneLine : Type 0

@@ -67,33 +67,33 @@ abbrev pub at_fault : List ℕ → List ℕ → ℕ → List ℕ → Told
 at_fault code name p fault = record { code = code; cause = name; numbers = (codes "block", p) ∷ []; fault = Some fault }
 
 -- the cause for which an image is refused
-abbrev pub told_of : Refusal → Told
-told_of cause.Length = bare (codes "S1") (codes "Length")
-told_of cause.TooMany = bare (codes "S2") (codes "TooMany")
-told_of (cause.Ec p f) = at_fault (codes "S3") (codes "Ec") p (ec_fault_name f)
-told_of (cause.ImageSeq p) = at_block (codes "S4") (codes "ImageSeq") p
-told_of (cause.Vid p f) = at_fault (codes "S5") (codes "Vid") p (vid_fault_name f)
-told_of (cause.Incompatible p volume) =
+abbrev pub refusal_told : Refusal → Told
+refusal_told cause.Length = bare (codes "S1") (codes "Length")
+refusal_told cause.TooMany = bare (codes "S2") (codes "TooMany")
+refusal_told (cause.Ec p f) = at_fault (codes "S3") (codes "Ec") p (ec_fault_name f)
+refusal_told (cause.ImageSeq p) = at_block (codes "S4") (codes "ImageSeq") p
+refusal_told (cause.Vid p f) = at_fault (codes "S5") (codes "Vid") p (vid_fault_name f)
+refusal_told (cause.Incompatible p volume) =
     record { code = codes "S6"; cause = codes "Incompatible"; numbers = (codes "block", p) ∷ (codes "volume", volume) ∷ []; fault = None }
-told_of (cause.Layout p) = at_block (codes "S7") (codes "Layout") p
-told_of (cause.SameSqnum p q) =
+refusal_told (cause.Layout p) = at_block (codes "S7") (codes "Layout") p
+refusal_told (cause.SameSqnum p q) =
     record { code = codes "S8"; cause = codes "SameSqnum"; numbers = (codes "block", p) ∷ (codes "earlier", q) ∷ []; fault = None }
-told_of cause.NoTable = bare (codes "T1") (codes "NoTable")
-told_of cause.BothCorrupt = bare (codes "T2") (codes "BothCorrupt")
-told_of (cause.Record p slot f) =
+refusal_told cause.NoTable = bare (codes "T1") (codes "NoTable")
+refusal_told cause.BothCorrupt = bare (codes "T2") (codes "BothCorrupt")
+refusal_told (cause.Record p slot f) =
     record { code = codes "T3"; cause = codes "Record"; numbers = (codes "block", p) ∷ (codes "slot", slot) ∷ []; fault = Some (rec_fault_name f) }
-told_of (cause.SameName p i j) =
+refusal_told (cause.SameName p i j) =
     record { code = codes "T4"; cause = codes "SameName"; numbers = (codes "block", p) ∷ (codes "slot", i) ∷ (codes "next_slot", j) ∷ []; fault = None }
-told_of cause.NoSpace = bare (codes "T5") (codes "NoSpace")
-told_of (cause.Mismatch p) = at_block (codes "V1") (codes "Mismatch") p
+refusal_told cause.NoSpace = bare (codes "T5") (codes "NoSpace")
+refusal_told (cause.Mismatch p) = at_block (codes "V1") (codes "Mismatch") p
 
 -- the object of an image that is refused
 abbrev pub refusal_data : Refusal → Data
-refusal_data c = refused_data (told_members (told_of c))
+refusal_data c = refused_data (told_members (refusal_told c))
 
 -- the object of one of two images that is refused, with the side on which it stands
 abbrev pub side_data : Side → Refusal → Data
-side_data side c = refused_data (put (codes "side") (string (side_word side)) (told_members (told_of c)))
+side_data side c = refused_data (put (codes "side") (string (side_word side)) (told_members (refusal_told c)))
 
 -- the cause for which no geometry is found in a file
 abbrev pub undetected_told : Undetected → Told

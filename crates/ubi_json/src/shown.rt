@@ -1,13 +1,13 @@
 //! Names as they are shown.
 
 ghost use Rattle.std.specs.Prelude.{◌≡◌, ◌++◌, IfOk, OnOk, string_bytes};
-ghost use Rattle.ubi_json.specs.Words.{shown, shown_byte};
+ghost use Rattle.ubi_json.specs.Words.{shown, byte_shown};
 
 use std::alloc::{AllocError, Global};
 
 /// Adds a byte of a name as it is shown.
 fn put_shown_byte(alloc: Global, text: &mut String, byte: u8) -> Result<(), AllocError>
-    ensures { OnOk result (string_bytes text.new ≡ string_bytes text.old ++ shown_byte byte) }
+    ensures { OnOk result (string_bytes text.new ≡ string_bytes text.old ++ byte_shown byte) }
 {
     if byte >= 0x21 && byte <= 0x7E && byte != b'\\' {
         text.push(byte as char)?;

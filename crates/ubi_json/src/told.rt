@@ -5,7 +5,7 @@ ghost use Rattle.std.specs.Str.Lossy.{utf8_lossy};
 ghost use Rattle.serde_json.specs.View.{members_view, view};
 ghost use Rattle.serde_json.specs.Written.{has_float};
 ghost use Rattle.ubi_json.specs.Line.{IsLineOf};
-ghost use Rattle.ubi_json.specs.Told.{at_block, at_fault, bare, error_data, refusal_data, refused_data, side_data, told_members, told_of, undetected_data, undetected_told, with_fault, with_numbers};
+ghost use Rattle.ubi_json.specs.Told.{at_block, at_fault, bare, error_data, refusal_data, refused_data, side_data, told_members, refusal_told, undetected_data, undetected_told, with_fault, with_numbers};
 
 use crate::differences::side_word;
 use crate::line::line_of;
@@ -106,7 +106,7 @@ fn at_fault(
 
 /// The members of the cause for which an image is refused.
 fn refusal_members(alloc: Global, cause: Refusal) -> Result<Map<String, Value>, AllocError>
-    ensures { IfOk result (λ m. members_view m.entries ≡ told_members (told_of cause)) }
+    ensures { IfOk result (λ m. members_view m.entries ≡ told_members (refusal_told cause)) }
 {
     match cause {
         Refusal::Length => bare(alloc, "S1", "Length"),

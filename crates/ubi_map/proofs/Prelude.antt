@@ -19,5 +19,5 @@ pub use Rattle.ubi_scan.specs.Source.{Narrows, WhereHeld, blocks_of}
 pub use Rattle.ubi_volume.specs.Survey.{Seen}
 pub use Rattle.ubi_map.specs.Headers.{block_lines}
 pub use Rattle.ubi_map.specs.Letters.{header_letter, header_letters, row, state_letter}
-pub use Rattle.ubi_map.specs.Map.{block_texts, refused_data, surveyed_data}
+pub use Rattle.ubi_map.specs.Map.{block_texts, refused_page_data, surveyed_data}
 pub use Rattle.ubi_map.specs.Page.{page_of, script_byte}

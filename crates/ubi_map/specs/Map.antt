@@ -48,9 +48,9 @@ abbrev pub map_data : List (List ℕ) → Seen → Meant → Data
 map_data bs a m = surveyed_data m.sizes (block_texts m.sizes bs (length bs)) a (map listed_volume (entries m.volumes))
 
 -- the data of an image that is refused
-abbrev pub refused_data : Sizes → List (List ℕ) → List ℕ → Refusal → Data
-refused_data s texts letters c = unaccepted_data (texts_data texts) (sizes_data s) (refusal_data c) (string letters)
+abbrev pub refused_page_data : Sizes → List (List ℕ) → List ℕ → Refusal → Data
+refused_page_data s texts letters c = unaccepted_data (texts_data texts) (sizes_data s) (refusal_data c) (string letters)
 
 -- the data of an image that is refused, with letters for its eraseblocks by their headers alone
 abbrev pub refused_map_data : Sizes → List (List ℕ) → Refusal → Data
-refused_map_data s bs c = refused_data s (block_texts s bs (length bs)) (header_letters s bs (length bs)) c
+refused_map_data s bs c = refused_page_data s (block_texts s bs (length bs)) (header_letters s bs (length bs)) c

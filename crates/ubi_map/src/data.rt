@@ -5,7 +5,7 @@ ghost use Rattle.serde_json.specs.Data.{string};
 ghost use Rattle.serde_json.specs.View.{view};
 ghost use Rattle.serde_json.specs.Written.{has_float};
 ghost use Rattle.ubi_media.specs.Record.{rec_fault};
-ghost use Rattle.ubi_map.specs.Map.{accepted_data, refused_data, surveyed_data, texts_data, unaccepted_data};
+ghost use Rattle.ubi_map.specs.Map.{accepted_data, refused_page_data, surveyed_data, texts_data, unaccepted_data};
 
 use crate::letters::state_letters;
 use serde_json::{Value, json};
@@ -85,7 +85,7 @@ pub(crate) fn refused_value(
     letters: &str,
     cause: Refusal,
 ) -> Result<Value, AllocError>
-    ensures value { IfOk result (λ v. view v ≡ refused_data geometry.now (map string_bytes texts.now) letters.now cause) }
+    ensures value { IfOk result (λ v. view v ≡ refused_page_data geometry.now (map string_bytes texts.now) letters.now cause) }
     ensures whole { IfOk result (λ v. has_float (view v) ≡ false) }
 {
     let blocks = texts_value(alloc, texts)?;

@@ -3,15 +3,15 @@
 //! The page needs no other file: it is a frame around one JSON value, whose text no `<` can end.
 #![tactic(auto)]
 
+mod blocks;
 mod data;
 mod frame;
 mod headers;
 pub mod laws;
 mod letters;
 mod page;
-mod reading;
 
+pub use blocks::{block_text, block_texts, header_letters};
 pub use headers::header_text;
 pub use letters::{put_rows, state_letters};
 pub use page::{refused_page, surveyed_page};
-pub use reading::{block_text, block_texts, header_letters};

@@ -5,7 +5,7 @@ ghost use Rattle.std.specs.Prelude.{◌≡◌, ◌++◌, All, IfOk, None, OnOk, 
 ghost use Rattle.serde_json.specs.View.{view};
 ghost use Rattle.serde_json.specs.Written.{has_float};
 ghost use Rattle.ubi_media.specs.Record.{rec_fault};
-ghost use Rattle.ubi_map.specs.Map.{refused_data, surveyed_data};
+ghost use Rattle.ubi_map.specs.Map.{refused_page_data, surveyed_data};
 ghost use Rattle.ubi_map.specs.Page.{page_of, script_byte};
 
 use crate::data::{refused_value, surveyed_value};
@@ -74,7 +74,7 @@ pub fn refused_page(
     letters: &str,
     cause: Refusal,
 ) -> Result<Vec<u8>, AllocError>
-    ensures { IfOk result (λ page. page.items ≡ page_of (refused_data geometry.now (map string_bytes texts.now) letters.now cause)) }
+    ensures { IfOk result (λ page. page.items ≡ page_of (refused_page_data geometry.now (map string_bytes texts.now) letters.now cause)) }
 {
     let value = refused_value(alloc, geometry, texts, letters, cause)?;
     page_of(alloc, &value)

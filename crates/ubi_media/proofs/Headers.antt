@@ -1,5 +1,5 @@
 -- What is written is read back.
-use Rattle.ubi_media.proofs.Prelude.{◌≡◌, ℕ, ◌^◌, ◌<◌, [], Bool, true, false, not, ◌==◌, refl, sym, ap, ◌∙◌, arith, nat_tests, big_number-reads_back, check, field, Sizes, FormIs, EcIs, ec_magic, ec_front, ec_bytes, ec_fields, VidIs, kind_number, kind_of, vid_magic, vid_fault, vid_front, vid_bytes, vid_fields, header_of, EcFits, VidFits, EcHeader, Sealed, VidFields, VidHeader, VolKind, Dynamic, Static}
+use Rattle.ubi_media.proofs.Prelude.{◌≡◌, ℕ, ◌^◌, ◌<◌, [], Bool, true, false, not, ◌==◌, refl, sym, ap, ◌∙◌, arith, nat_tests, big_number-reads_back, crc_of, field, Sizes, FormIs, EcIs, ec_magic, ec_front, ec_bytes, ec_fields, VidIs, kind_number, kind_of, vid_magic, vid_fault, vid_front, vid_bytes, vid_fields, header_of, EcFits, VidFits, EcHeader, Sealed, VidFields, VidHeader, VolKind, Dynamic, Static}
 use Rattle.std.proofs.Common.{None}
 use Rattle.std.specs.Bool.{if◌then◌else◌}
 use Rattle.ubi_media.specs.Ec as ec
@@ -28,7 +28,7 @@ ec_fields-ec_bytes s h vid_fits data_fits counter seq =
 
 ec_bytes-Sealed : (s : Sizes) (h : EcHeader) → FormIs ec_magic (ec_bytes s h) Sealed
 ec_bytes-Sealed s h =
-    (refl, big_number-reads_back 4 (check (ec_front s h)) [] (check_from-lt 0xFFFFFFFF (ec_front s h) (omega arith)))
+    (refl, big_number-reads_back 4 (crc_of (ec_front s h)) [] (check_from-lt 0xFFFFFFFF (ec_front s h) (omega arith)))
 
 -- the fields of a header break no rule
 ec_unbroken : (s : Sizes) (counter seq : ℕ) → counter < 2 ^ 31
@@ -75,7 +75,7 @@ vid_fields-vid_bytes h fits =
 vid_bytes-Sealed : (h : VidHeader) → FormIs vid_magic (vid_bytes h) Sealed
 vid_bytes-Sealed h =
     let front = vid_front (fields_from h) in
-    (refl, big_number-reads_back 4 (check front) [] (check_from-lt 0xFFFFFFFF front (omega arith)))
+    (refl, big_number-reads_back 4 (crc_of front) [] (check_from-lt 0xFFFFFFFF front (omega arith)))
 
 pub kind_back : (k : VolKind) → kind_of (kind_number k) ≡ k
 kind_back Dynamic = refl

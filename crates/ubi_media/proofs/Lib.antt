@@ -28,7 +28,7 @@ pub mod RecordVectors
 pub mod Records
 pub mod Register
 pub mod Sizes
-pub mod Sound
+pub mod SoundRecords
 pub mod Starts
 pub mod Table
 pub mod VidVectors

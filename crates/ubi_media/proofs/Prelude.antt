@@ -26,7 +26,7 @@ pub use Rattle.std.specs.Prelude.{All, None, Option, Some, find, if◌then◌els
 pub use Rattle.std.specs.Simd.{first_chunks}
 pub use Rattle.byteorder.specs.Endian.{big_bytes, big_number}
 pub use Rattle.byteorder.specs.Numbers.{big_from-lt, big_number-reads_back}
-pub use Rattle.ubi_media.specs.Check.{add_to_front, bits, check, dividend, generator, polynomial}
+pub use Rattle.ubi_media.specs.Check.{add_to_front, bits, crc_of, dividend, generator, polynomial}
 unfoldable pub use Rattle.ubi_media.specs.Check.{check_from, remainder}
 pub use Rattle.ubi_media.specs.Ec.{EcIs, ec_bytes, ec_front, ec_magic, reading_by}
 unfoldable pub use Rattle.ubi_media.specs.Ec.{ec_fields, ec_reading, ec_start}
@@ -43,7 +43,7 @@ pub use Rattle.ubi_media.specs.OtherPage.{with_page}
 pub use Rattle.ubi_media.specs.Record.{RecIs, data_pad, ends_at, faults, rec_fault, rec_front, record_size, slot_reading, usable}
 unfoldable pub use Rattle.ubi_media.specs.Record.{breaks, empty_record, fields_from, first_fault, judged, rec_bytes, rec_fields, rec_reading, record_of}
 pub use Rattle.ubi_media.specs.Remainder.{IsRemainder, product}
-pub use Rattle.ubi_media.specs.Vid.{VidIs, kind_number, kind_of, says_static, vid_bytes, vid_fault, vid_front, vid_magic}
+pub use Rattle.ubi_media.specs.Vid.{VidIs, kind_number, kind_of, says_static, vid_bytes, vid_fault, vid_front, vid_magic, vid_usable}
 unfoldable pub use Rattle.ubi_media.specs.Vid.{header_of, vid_fields, vid_reading}
 pub use Rattle.ubi_media.specs.Widths.{EcFits, IsNumberFault, RecFits, VidFits}
 pub use Rattle.ubi_media.specs.declared.ec.EcFault.{EcFault}

@@ -1,5 +1,5 @@
 -- What is written for a slot of the volume table is read back.
-use Rattle.ubi_media.proofs.Prelude.{◌≡◌, ◌≢◌, ℕ, ◌+◌, ◌-◌, ◌%◌, ◌^◌, ◌<◌, ◌==◌, true, false, get_or, List, [], ◌∷◌, ◌++◌, length, take, drop, set, replicate, refl, sym, ap, subst, ◌∙◌, arith, append_assoc, length-append, slice_index, slice_range, Option, Some, None, if◌then◌else◌, ForSome, nat_tests, mod-lt, take_at, get_or_at, big_bytes, big_number-reads_back, check, field, sealed, overwrite, padded, Sizes, leb_size, is_name, RecIs, data_pad, empty_record, fields_from, first_fault, rec_bytes, rec_fault, rec_fields, rec_front, record_of, slot_reading, kind_number, RecFits, VolumeRecord, VolKind, Dynamic, Static}
+use Rattle.ubi_media.proofs.Prelude.{◌≡◌, ◌≢◌, ℕ, ◌+◌, ◌-◌, ◌%◌, ◌^◌, ◌<◌, ◌==◌, true, false, get_or, List, [], ◌∷◌, ◌++◌, length, take, drop, set, replicate, refl, sym, ap, subst, ◌∙◌, arith, append_assoc, length-append, slice_index, slice_range, Option, Some, None, if◌then◌else◌, ForSome, nat_tests, mod-lt, take_at, get_or_at, big_bytes, big_number-reads_back, crc_of, field, sealed, overwrite, padded, Sizes, leb_size, is_name, RecIs, data_pad, empty_record, fields_from, first_fault, rec_bytes, rec_fault, rec_fields, rec_front, record_of, slot_reading, kind_number, RecFits, VolumeRecord, VolKind, Dynamic, Static}
 use Rattle.ubi_media.specs.declared.record.RecRead.TheVariants as read
 use Rattle.ubi_media.proofs.Headers.{kind_back, flag_back}
 use Rattle.ubi_media.proofs.Names.{IsName, name_facts, length-padded}
@@ -73,20 +73,20 @@ module _ (pad : ℕ) (r : VolumeRecord) (named : IsName r.name) where
   made = front_with pad (padded r.name) r
 
   behind : List ℕ
-  behind = (r.flags ∷ replicate 23 0) ++ big_bytes 4 (check made)
+  behind = (r.flags ∷ replicate 23 0) ++ big_bytes 4 (crc_of made)
 
   name_back : slice_range (sealed made) 16 144 ≡ padded r.name
   unfolding made behind
   name_back =
-      ap (take 128) (append_assoc (padded r.name) (r.flags ∷ replicate 23 0) (big_bytes 4 (check made)))
+      ap (take 128) (append_assoc (padded r.name) (r.flags ∷ replicate 23 0) (big_bytes 4 (crc_of made)))
       ∙ take_at (padded r.name) behind 128 (length-padded r.name named)
 
   flags_back : slice_index (sealed made) 144 ≡ r.flags
   unfolding made
   flags_back =
       ap (λ bytes. get_or bytes 128 0)
-      (append_assoc (padded r.name) (r.flags ∷ replicate 23 0) (big_bytes 4 (check made)))
-      ∙ get_or_at (padded r.name) r.flags (replicate 23 0 ++ big_bytes 4 (check made)) 0 128
+      (append_assoc (padded r.name) (r.flags ∷ replicate 23 0) (big_bytes 4 (crc_of made)))
+      ∙ get_or_at (padded r.name) r.flags (replicate 23 0 ++ big_bytes 4 (crc_of made)) 0 128
       (length-padded r.name named)
 
   length_back : field 2 14 (sealed made) ≡ length r.name

@@ -1,5 +1,5 @@
 -- Bytes have one reading as a record of the volume table, and only the numbers of a record can break a rule.
-use Rattle.ubi_media.proofs.Prelude.{◌≡◌, ◌≢◌, ℕ, ◌+◌, ◌-◌, ◌%◌, ◌^◌, ◌<◌, ◌≤◌, ◌==◌, ◌&&◌, Bool, true, false, not, cond, get_or, nat_lt, List, [], length, take, replicate, refl, sym, ap, subst, ◌∙◌, lit<, arith, slice_index, slice_range, IfSome, eq-eqb, eqb-true, ◌↔◌, Option, Some, None, if◌then◌else◌, option_map_or, same_text, other_text, nat_tests, take_at, drop_at, mod_below, big_bytes, big_number, big_number-reads_back, check, sealed, is_sealed, same_bytes, Sizes, leb_size, IsSealed, is_name, RecIs, breaks, data_pad, empty_record, ends_at, faults, fields_from, first_fault, judged, rec_fault, rec_fields, rec_reading, record_of, usable, kind_number, IsNumberFault, RecFault, RecFields, RecRead, VolumeRecord, VolKind, Dynamic, Static}
+use Rattle.ubi_media.proofs.Prelude.{◌≡◌, ◌≢◌, ℕ, ◌+◌, ◌-◌, ◌%◌, ◌^◌, ◌<◌, ◌≤◌, ◌==◌, ◌&&◌, Bool, true, false, not, cond, get_or, nat_lt, List, [], length, take, replicate, refl, sym, ap, subst, ◌∙◌, lit<, arith, slice_index, slice_range, IfSome, eq-eqb, eqb-true, ◌↔◌, Option, Some, None, if◌then◌else◌, option_map_or, same_text, other_text, nat_tests, take_at, drop_at, mod_below, big_bytes, big_number, big_number-reads_back, crc_of, sealed, is_sealed, same_bytes, Sizes, leb_size, IsSealed, is_name, RecIs, breaks, data_pad, empty_record, ends_at, faults, fields_from, first_fault, judged, rec_fault, rec_fields, rec_reading, record_of, usable, kind_number, IsNumberFault, RecFault, RecFields, RecRead, VolumeRecord, VolKind, Dynamic, Static}
 use Rattle.ubi_media.specs.declared.record.RecFault.TheVariants as fault
 use Rattle.ubi_media.specs.declared.record.RecRead.TheVariants as read
 use Rattle.ubi_media.proofs.Checks.{check_from-lt}
@@ -54,12 +54,12 @@ module _ (s : Sizes) (f : RecFields) where
 -- what is sealed is found to be so
 pub sealed_back : (at : ℕ) (front : List ℕ) → length front ≡ at → IsSealed at (sealed front)
 sealed_back at front e =
-    let sum = big_bytes 4 (check front) in
+    let sum = big_bytes 4 (crc_of front) in
     let size : at + 4 - at ≡ 4 = omega arith in
     let part : slice_range (sealed front) at (at + 4) ≡ sum = rw (drop_at front sum at e, size) refl in
     ap (big_number 4) part
-    ∙ big_number-reads_back 4 (check front) [] (check_from-lt 0xFFFFFFFF front (omega arith))
-    ∙ sym (ap check (take_at front sum at e))
+    ∙ big_number-reads_back 4 (crc_of front) [] (check_from-lt 0xFFFFFFFF front (omega arith))
+    ∙ sym (ap crc_of (take_at front sum at e))
 
 empty_sealed : IsSealed 168 empty_record
 unfolding empty_record

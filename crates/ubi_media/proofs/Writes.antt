@@ -1,5 +1,5 @@
 -- What stands in bytes after numbers were written into them.
-use Rattle.ubi_media.proofs.Prelude.{◌≡◌, ℕ, ◌+◌, ◌≤◌, List, [], ◌++◌, length, take, drop, set, replicate, refl, sym, ap, ◌∙◌, arith, append_assoc, length-take, length-append, min, append-nil, drop-drop, take_at, drop_of_length-le, big_bytes, check, ec_magic, ec_front, ec_bytes, overwrite, sealed, Sizes, vid_magic, vid_front, vid_bytes, EcHeader, VidFields, VidHeader}
+use Rattle.ubi_media.proofs.Prelude.{◌≡◌, ℕ, ◌+◌, ◌≤◌, List, [], ◌++◌, length, take, drop, set, replicate, refl, sym, ap, ◌∙◌, arith, append_assoc, length-take, length-append, min, append-nil, drop-drop, take_at, drop_of_length-le, big_bytes, crc_of, ec_magic, ec_front, ec_bytes, overwrite, sealed, Sizes, vid_magic, vid_front, vid_bytes, EcHeader, VidFields, VidHeader}
 use borrow.Rule.Slice.PartMut.{put_mid, mid_of}
 use Rattle.ubi_media.specs.Vid.{fields_from}
 
@@ -29,10 +29,10 @@ overwrite_end at xs front rest e h =
 
 -- the check over the last four bytes
 pub sealed_is : (at : ℕ) (front rest : List ℕ) → length front ≡ at → length rest ≡ 4
-    → overwrite at (big_bytes 4 (check (take at (front ++ rest)))) (front ++ rest) ≡ sealed front
+    → overwrite at (big_bytes 4 (crc_of (take at (front ++ rest)))) (front ++ rest) ≡ sealed front
 sealed_is at front rest e h =
-    ap (λ (part : List ℕ). overwrite at (big_bytes 4 (check part)) (front ++ rest)) (take_at front rest at e)
-    ∙ overwrite_end at (big_bytes 4 (check front)) front rest e h
+    ap (λ (part : List ℕ). overwrite at (big_bytes 4 (crc_of part)) (front ++ rest)) (take_at front rest at e)
+    ∙ overwrite_end at (big_bytes 4 (crc_of front)) front rest e h
 
 -- the fields of an erase-counter header over zeros
 pub ec_assembled : (s : Sizes) (h : EcHeader)
@@ -46,7 +46,7 @@ unfolding overwrite
 ec_assembled s h = refl
 
 pub ec_sealed : (s : Sizes) (h : EcHeader)
-    → overwrite 60 (big_bytes 4 (check (take 60 (ec_front s h ++ replicate 4 0)))) (ec_front s h ++ replicate 4 0)
+    → overwrite 60 (big_bytes 4 (crc_of (take 60 (ec_front s h ++ replicate 4 0)))) (ec_front s h ++ replicate 4 0)
     ≡ ec_bytes s h
 unfolding overwrite
 ec_sealed s h = refl
@@ -67,7 +67,7 @@ unfolding overwrite
 vid_assembled f = refl
 
 pub vid_sealed : (h : VidHeader)
-    → overwrite 60 (big_bytes 4 (check (take 60 (vid_front (fields_from h) ++ replicate 4 0))))
+    → overwrite 60 (big_bytes 4 (crc_of (take 60 (vid_front (fields_from h) ++ replicate 4 0))))
     (vid_front (fields_from h) ++ replicate 4 0) ≡ vid_bytes h
 unfolding overwrite
 vid_sealed h = refl

@@ -3,7 +3,7 @@ use Rattle.std.specs.Prelude.{ℕ, ◌<◌, Bool, ◌==◌, List, ◌+◌, ◌++
 use Rattle.std.specs.Cmp.Lexicographic.{pointwise}
 use Rattle.std.specs.List.{AllByRecursion, list_all}
 use Rattle.byteorder.specs.Endian.{big_bytes, big_number}
-use Rattle.ubi_media.specs.Check.{check}
+use Rattle.ubi_media.specs.Check.{crc_of}
 use Rattle.ubi_media.specs.declared.header.Form.{Form}
 use Rattle.ubi_media.specs.declared.header.Form.TheVariants as form
 
@@ -33,11 +33,11 @@ filled n bytes = bytes ++ blank (n - length bytes)
 
 -- bytes, and then their CRC
 abbrev pub sealed : List ℕ → List ℕ
-sealed front = front ++ big_bytes 4 (check front)
+sealed front = front ++ big_bytes 4 (crc_of front)
 
 -- whether the four bytes at a place are the CRC of all bytes before them
 abbrev pub is_sealed : ℕ → List ℕ → Bool
-is_sealed at bytes = field 4 at bytes == check (take at bytes)
+is_sealed at bytes = field 4 at bytes == crc_of (take at bytes)
 
 -- whether two lists of bytes are the same
 abbrev pub same_bytes : List ℕ → List ℕ → Bool

@@ -1,6 +1,6 @@
 -- When bytes are blank or sealed, and which form a header has.
 use Rattle.std.specs.Prelude.{◌≡◌, ℕ, List, All, take, ◌≢◌, ◌⊎◌}
-use Rattle.ubi_media.specs.Check.{check}
+use Rattle.ubi_media.specs.Check.{crc_of}
 use Rattle.ubi_media.specs.Fields.{field}
 use Rattle.ubi_media.specs.declared.header.Form.{Form}
 use Rattle.ubi_media.specs.declared.header.Form.TheVariants as form
@@ -11,7 +11,7 @@ IsBlank bytes = All (λ byte. byte ≡ 255) bytes
 
 -- the four bytes at a place are the CRC of all bytes before them
 abbrev pub IsSealed : ℕ → List ℕ → Type 0
-IsSealed at bytes = field 4 at bytes ≡ check (take at bytes)
+IsSealed at bytes = field 4 at bytes ≡ crc_of (take at bytes)
 
 -- what bytes are before their rules are tried: blank or corrupt without the magic, corrupt with a wrong CRC
 abbrev pub FormIs : ℕ → List ℕ → Form → Type 0

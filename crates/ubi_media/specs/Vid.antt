@@ -50,8 +50,8 @@ abbrev pub says_static : VidFields → Bool
 says_static f = f.kind == 2
 
 -- how many bytes of a logical eraseblock its volume may use
-abbrev pub usable : Sizes → VidFields → ℕ
-usable s f = leb_size s - f.data_pad
+abbrev pub vid_usable : Sizes → VidFields → ℕ
+vid_usable s f = leb_size s - f.data_pad
 
 -- whether a 32-bit number is negative when it is read as signed
 abbrev pub is_negative : ℕ → Bool
@@ -70,7 +70,7 @@ breaks s f fault.Pad = nat_le (leb_size s / 2) f.data_pad
 breaks s f fault.Size =
     nat_lt (leb_size s) f.data_size
     || (says_static f
-    && ((f.data_size == 0) || nat_lt (usable s f) f.data_size || (nat_lt (f.lnum + 1) f.used_ebs && not (f.data_size == usable s f))))
+    && ((f.data_size == 0) || nat_lt (vid_usable s f) f.data_size || (nat_lt (f.lnum + 1) f.used_ebs && not (f.data_size == vid_usable s f))))
 breaks s f fault.UsedEbs = if says_static f then f.used_ebs == 0 else not (f.used_ebs == 0)
 breaks s f fault.Lnum = says_static f && nat_le f.used_ebs f.lnum
 breaks s f fault.CopyFields =

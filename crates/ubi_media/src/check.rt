@@ -5,7 +5,7 @@ ghost use Rattle.std.specs.Prelude.{◌≡◌, ◌+◌, ◌<◌, ◌≤◌, [], 
 ghost use Rattle.ubi_media.specs.declared.tables.TheConstants.{TABLES};
 ghost use Rattle.std.specs.List.{concat};
 ghost use Rattle.byteorder.specs.Endian.{big_bytes};
-ghost use Rattle.ubi_media.specs.Check.{check, check_from};
+ghost use Rattle.ubi_media.specs.Check.{crc_of, check_from};
 ghost use Rattle.ubi_media.specs.Fields.{is_sealed, overwrite};
 
 use crate::bytes::put_u32;
@@ -18,7 +18,7 @@ const START: u32 = 0xFFFF_FFFF;
 
 /// The CRC of a message.
 pub fn crc(message: &[u8]) -> u32
-    ensures { result ≡ check message.now }
+    ensures { result ≡ crc_of message.now }
 {
     crc_more(START, message)
 }
@@ -151,7 +151,7 @@ pub fn is_sealed(bytes: &[u8], at: usize) -> bool
 /// Writes the CRC of the bytes before a place into the four bytes from there on.
 pub fn seal(bytes: &mut [u8], at: usize)
     requires { at + 4 ≤ length bytes.old }
-    ensures { bytes.new ≡ overwrite at (big_bytes 4 (check (take at bytes.old))) bytes.old }
+    ensures { bytes.new ≡ overwrite at (big_bytes 4 (crc_of (take at bytes.old))) bytes.old }
 {
     let check = crc(&bytes[..at]);
     put_u32(bytes, at, check);

@@ -33,7 +33,7 @@ abbrev pub answer : Probe → ℕ → Option ℕ
 answer p n = if (fitting p n == 0) && (not (n == 0) && is_error p.failure) then None else Some (fitting p n)
 
 -- what a write leaves as it was
-pub record IsSameProbe (old new : Probe) : Type 0 where
+pub record IsSameWriter (old new : Probe) : Type 0 where
   pub room : new.room ≡ old.room
   pub most : new.most ≡ old.most
   pub failure : new.failure ≡ old.failure

@@ -3,7 +3,7 @@
 ghost use Rattle.std.specs.Prelude.{◌≡◌, [], IfOk, Some, None, MatchResult, IsOk, length};
 ghost use Rattle.std.specs.Io.KnownBytes.{Keeps, WriteAppends};
 ghost use Rattle.std.specs.Io.{WritesAtMost};
-ghost use Rattle.ubi_probe.specs.ProbedWriter.{IsSameProbe, answer};
+ghost use Rattle.ubi_probe.specs.ProbedWriter.{IsSameWriter, answer};
 
 use std::alloc::{AllocError, Global};
 use std::io;
@@ -80,7 +80,7 @@ impl Write for ProbeWriter {
         ensures bound { WritesAtMost result buf.now }
         ensures bytes { WriteAppends (Some self.old.taken) (Some self.new.taken) result buf.now }
         ensures answer { MatchResult result (λ n. answer self.old (length buf.now) ≡ Some n) (λ _. answer self.old (length buf.now) ≡ None) }
-        ensures kept { IsSameProbe self.old self.new }
+        ensures kept { IsSameWriter self.old self.new }
     {
         let left = self.buffer.len() - self.len;
         let count = buf.len().min(left).min(self.most);

@@ -1,5 +1,5 @@
 -- A pass that makes a member the candidate of its LEB, and then keeps one of both, goes on over it.
-use Rattle.ubi_scan.proofs.Prelude.{◌≡◌, ℕ, [], ◌∷◌, ◌++◌, refl, ap, sym, ◌∙◌, subst, Option, Some, None, MatchOption, if◌then◌else◌, BTreeMap, EcRead, VidHeader, VidRead, beaten, candidate, takes_over, AreCounted, IsEntered, IsNominated, IsPassed, IsPutAside, IsTaken, Puts, Stamp, beaten_in, quiet_state, stamp_cmp, Leb, leb_of, member_if, header_of, leb_cmp, Candidate, Meeting, Counts, Pass}
+use Rattle.ubi_scan.proofs.Prelude.{◌≡◌, ℕ, [], ◌∷◌, ◌++◌, refl, ap, sym, ◌∙◌, subst, Option, Some, None, MatchOption, if◌then◌else◌, BTreeMap, EcRead, VidHeader, VidRead, beaten, candidate, takes_over, AreCounted, IsEntered, IsNominated, IsPassed, IsPutAside, IsTaken, Puts, Stamp, beaten_in, quiet_state, stamp_cmp, Leb, leb_of, member_if, kept_header, leb_cmp, Candidate, Meeting, Counts, Pass}
 use Rattle.std.specs.Prelude.{Bool, true}
 use Rattle.std.specs.BTreeMap as tree
 use Rattle.ubi_scan.specs.declared.found.ScanState.TheVariants as state
@@ -40,7 +40,7 @@ known_over old mid new p e v met (Some h) n k = record {
   best = puts_over old.best mid.best new.best (leb_of h) _ _ n.best k.best;
   others = subst (λ (x : BTreeMap Stamp ℕ). IsPutAside (leb_of h) x new.others (beaten met (candidate p h)))
       (ap (λ (x : Pass). x.others) n.rest) k.others;
-  states = k.states ∙ ap (λ (x : Pass). beaten_in (leb_of h) (x.states.items ++ state.Winner (header_of h) ∷ [])
+  states = k.states ∙ ap (λ (x : Pass). beaten_in (leb_of h) (x.states.items ++ state.Winner (kept_header h) ∷ [])
       (beaten met (candidate p h))) n.rest;
 }
 

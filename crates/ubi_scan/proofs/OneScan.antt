@@ -1,5 +1,5 @@
 -- A scan finds one value.
-use Rattle.ubi_scan.proofs.Prelude.{◌≡◌, ℕ, ◌<◌, Bool, List, ap, ap₂, arith, false, get_or, inl, inr, length, refl, subst, sym, true, ◌∙◌, ◌⊎◌, same_lists, same_Some, slice_get-get_or, then_some, FinMap, IfSome, IsSome, MatchOption, None, Option, Some, option_map, slice_get, Sizes, EcRead, VidHeader, VidRead, NoFault, block, ec, vid, IsMember, Leb, NoMember, Wins, foreign_if, has_members, leb_of, member_if, valid_ec, AreStates, AreWinners, Found, IsHeader, IsScan, StateIs, header_of, leb_cmp, MemberHeader, ScanState}
+use Rattle.ubi_scan.proofs.Prelude.{◌≡◌, ℕ, ◌<◌, Bool, List, ap, ap₂, arith, false, get_or, inl, inr, length, refl, subst, sym, true, ◌∙◌, ◌⊎◌, same_lists, same_Some, slice_get-get_or, then_some, FinMap, IfSome, IsSome, MatchOption, None, Option, Some, option_map, slice_get, Sizes, EcRead, VidHeader, VidRead, NoFault, block, ec, vid, IsMember, Leb, NoMember, Wins, foreign_if, has_members, leb_of, member_if, valid_ec, AreStates, AreWinners, Found, IsHeader, IsScan, StateIs, kept_header, leb_cmp, MemberHeader, ScanState}
 use Rattle.std.specs.Prelude.{not}
 use Rattle.std.specs.FinMap as finite
 use Rattle.ubi_media.specs.declared.ec.EcRead.TheVariants as ec_read
@@ -99,7 +99,7 @@ module _ (s : Sizes) (bs : List (List ℕ)) where
   sorted p (state.Beaten of) h = sort_of_member of p h.0
 
   same_header : (p : ℕ) (m n : MemberHeader) → IsHeader s bs p m → IsHeader s bs p n → m ≡ n
-  same_header p m n h k = h.2 ∙ ap header_of (same_Some _ _ (sym h.1 ∙ k.1)) ∙ sym k.2
+  same_header p m n h k = h.2 ∙ ap kept_header (same_Some _ _ (sym h.1 ∙ k.1)) ∙ sym k.2
 
   of_header : (p : ℕ) (m : MemberHeader) (of : Leb) → IsHeader s bs p m → IsMember s bs of p → m.leb ≡ of
   of_header p m of h k =

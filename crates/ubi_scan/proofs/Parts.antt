@@ -4,7 +4,7 @@ use Rattle.ubi_scan.proofs.Prelude.{◌≡◌, ◌≢◌, ℕ, ◌+◌, ◌-◌,
 use Rattle.std.specs.Prelude.{slice_range}
 use Rattle.ubi_media.specs.declared.ec.EcRead.TheVariants as ec_read
 use Rattle.ubi_media.specs.declared.vid.VidRead.TheVariants as vid_read
-use Rattle.ubi_scan.proofs.Filled.{filled-by, length-filled}
+use Rattle.ubi_scan.proofs.FilledWithBlanks.{filled-by, length-filled}
 
 no_vid_magic : field 4 0 (blank 64) ≢ vid_magic
 no_vid_magic e = let all : field 4 0 (blank 64) ≡ 0xFFFFFFFF = refl in omega arith

@@ -35,7 +35,7 @@ pub use Rattle.std.specs.declared.ops.Bound.TheVariants.{Included, Unbounded}
 pub use Rattle.ubi_media.proofs.Cases.{below_or_last, below_same_or_above}
 pub use Rattle.ubi_media.proofs.Readings.{counter_within, ec_is_of, one_ec_reading, one_vid_reading, vid_is_of}
 pub use Rattle.ubi_media.proofs.Words.{small, words}
-pub use Rattle.ubi_media.specs.Check.{check}
+pub use Rattle.ubi_media.specs.Check.{crc_of}
 unfoldable pub use Rattle.ubi_media.specs.Check.{check_from, remainder}
 pub use Rattle.ubi_media.specs.Ec.{ec_magic}
 unfoldable pub use Rattle.ubi_media.specs.Ec.{ec_reading}
@@ -46,7 +46,7 @@ pub use Rattle.ubi_media.specs.Kind.{is_static}
 pub use Rattle.ubi_media.specs.OtherPage.{with_page}
 pub use Rattle.ubi_media.specs.Record.{record_size}
 pub use Rattle.ubi_media.specs.Vid.{VidIs, faults, vid_magic}
-unfoldable pub use Rattle.ubi_media.specs.Vid.{breaks, first_fault, judged, vid_fields, vid_reading}
+unfoldable pub use Rattle.ubi_media.specs.Vid.{breaks, first_fault, header_of, judged, vid_fields, vid_reading}
 pub use Rattle.ubi_media.specs.declared.ec.EcFault.{EcFault}
 pub use Rattle.ubi_media.specs.declared.ec.EcHeader.{EcHeader}
 pub use Rattle.ubi_media.specs.declared.ec.EcRead.{EcRead}
@@ -57,12 +57,12 @@ pub use Rattle.ubi_media.specs.declared.vid.VidRead.{VidRead}
 pub use Rattle.ubi_media.specs.declared.vid.VolKind.{VolKind}
 pub use Rattle.ubi_scan.specs.Clean.{IsClean, IsSound}
 pub use Rattle.ubi_scan.specs.Coded.{places_of}
-pub use Rattle.ubi_scan.specs.Faults.{HasFault, IsFirstFault, IsIncompatible, IsMislaid, IsScanFault, NoFault, NoFaultBelow, rank}
-pub use Rattle.ubi_scan.specs.Image.{Image, IsLengthFault, IsWhole, IsWholeSize, block, ec, eraseblocks, in_image, leb, slots_in, vid}
+pub use Rattle.ubi_scan.specs.Faults.{HasFault, IsFirstFault, IsIncompatible, IsMislaid, IsScanFault, NoFault, NoFaultBelow, fault_rank}
+pub use Rattle.ubi_scan.specs.Image.{Image, IsLengthFault, IsWholeImage, IsWholeSize, block, ec, eraseblocks, leb, of_blocks, slots_in, vid}
 pub use Rattle.ubi_scan.specs.Members.{IsMember, Leb, NoMember, Wins, foreign, foreign_if, good_at, good_in, has_members, header, header_if, is_right, layout, leb_of, member, member_if, named_in, sqnum_at, sqnum_in}
 pub use Rattle.ubi_scan.specs.Numbers.{CounterFits, carriers, counters, image_seq, is_carrier, mean_ec, seq_if, seq_of, sqnum_in_use, top_sqnum, valid_ec}
 pub use Rattle.ubi_scan.specs.Placed.{StandsAt}
-pub use Rattle.ubi_scan.specs.Scan.{AreStates, AreWinners, Found, IsDropped, IsHeader, IsScan, StateIs, header_of, leb_cmp}
+pub use Rattle.ubi_scan.specs.Scan.{AreStates, AreWinners, Found, IsDropped, IsHeader, IsScan, StateIs, kept_header, leb_cmp}
 pub use Rattle.ubi_scan.specs.Source.{Agreed, IsSource, Narrows, Source, WhereHeld, blocks_in, blocks_of, holds, memory}
 pub use Rattle.ubi_scan.specs.Stream.{IsScanOf, IsScanOfError, LiesWithin, NamesBlock}
 pub use Rattle.ubi_scan.specs.declared.candidate.Candidate.{Candidate}
@@ -77,4 +77,4 @@ pub use Rattle.ubi_scan.specs.declared.window.Window.{Window}
 pub use Rattle.ubi_scan.specs.inner.Ahead.{HoldsAt}
 pub use Rattle.ubi_scan.specs.inner.Choice.{beaten, beats, candidate, held_of, kept, known, takes_over}
 pub use Rattle.ubi_scan.specs.inner.Counts.{carrier_if, counted_if, counter_if, first_seq, sqnum_if}
-pub use Rattle.ubi_scan.specs.inner.Pass.{AreAtMost, AreCounted, IsEntered, IsMeeting, IsNominated, IsPassed, IsPutAside, IsTaken, Puts, Stamp, beaten_in, ec_fault, fault_if, found_by, header_fault, held_in, is_incompatible, is_mislaid, member_state, quiet_state, stamp_cmp, stamp_of, twin_aside, twin_by, twin_held, twin_in, vid_fault}
+pub use Rattle.ubi_scan.specs.inner.Pass.{AreAtMost, AreCounted, IsEntered, IsMeeting, IsNominated, IsPassed, IsPutAside, IsTaken, Puts, Stamp, beaten_in, ec_fault, fault_if, found_by, header_fault, held_in, is_incompatible, is_mislaid, member_state, quiet_state, stamp_cmp, stamp_of, twin_aside, twin_by, twin_held, twin_in, vid_refusal}

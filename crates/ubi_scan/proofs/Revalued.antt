@@ -3,7 +3,7 @@ use Rattle.ubi_scan.proofs.Prelude.{◌≡◌, ℕ, ◌+◌, inl, inr, T, cond, 
 use Rattle.std.specs.FinMap as finite
 use Rattle.ubi_scan.proofs.Entries.{sorted_entries}
 use Rattle.ubi_scan.proofs.Keys.{told}
-use Rattle.ubi_scan.proofs.Truths.{true_is}
+use Rattle.ubi_scan.proofs.TrueTests.{true_is}
 
 module _ {X Y : Type 0} (f : ℕ → X → Y) where
   abbrev pub revalued : List (ℕ × X) → List (ℕ × Y)

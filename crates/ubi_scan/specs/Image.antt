@@ -20,8 +20,8 @@ abbrev pub image_of : Sizes → List ℕ → Image
 image_of s bytes = record { sizes = s; bytes = bytes }
 
 -- the bytes of a file that are judged: all of them, or the first ones, up to one more than the device has
-abbrev pub judged : Sizes → List ℕ → List ℕ
-judged s bytes = take (s.pebs * s.peb_size + 1) bytes
+abbrev pub seen_of : Sizes → List ℕ → List ℕ
+seen_of s bytes = take (s.pebs * s.peb_size + 1) bytes
 
 -- n bytes have the size of an image: whole eraseblocks, at least one and no more than the device has
 pub record IsWholeSize (s : Sizes) (n : ℕ) : Type 0 where
@@ -30,8 +30,8 @@ pub record IsWholeSize (s : Sizes) (n : ℕ) : Type 0 where
   pub fits : n ≤ s.pebs * s.peb_size
 
 -- the bytes are an image
-abbrev pub IsWhole : Image → Type 0
-IsWhole image = IsWholeSize image.sizes (length image.bytes)
+abbrev pub IsWholeImage : Image → Type 0
+IsWholeImage image = IsWholeSize image.sizes (length image.bytes)
 
 -- why n bytes are no image: there are too many, or they aren't whole eraseblocks
 abbrev pub IsLengthFault : Sizes → ℕ → Refusal → Type 0
@@ -48,8 +48,8 @@ abbrev pub eraseblocks : Image → List (List ℕ)
 eraseblocks image = first_chunks image.sizes.peb_size (length image.bytes / image.sizes.peb_size) image.bytes
 
 -- what is defined over sizes and a list of eraseblocks, for an image
-abbrev pub in_image {ℓ} : {A : Type ℓ} → (Sizes → List (List ℕ) → A) → Image → A
-in_image f image = f image.sizes (eraseblocks image)
+abbrev pub of_blocks {ℓ} : {A : Type ℓ} → (Sizes → List (List ℕ) → A) → Image → A
+of_blocks f image = f image.sizes (eraseblocks image)
 
 -- the eraseblock at a place
 abbrev pub block : List (List ℕ) → ℕ → List ℕ

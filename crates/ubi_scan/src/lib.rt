@@ -22,7 +22,7 @@
 //!     vol: u32,
 //!     lnum: u32,
 //! ) -> Result<Option<u32>, AttachError>
-//!     ensures { IfOk result (λ holder. (found : Found) × in_image IsScan (image_of geometry.now image.now) found × (holder ≡ get found.winners (vol, lnum))) }
+//!     ensures { IfOk result (λ holder. (found : Found) × of_blocks IsScan (image_of geometry.now image.now) found × (holder ≡ get found.winners (vol, lnum))) }
 //! {
 //!     let blocks = Blocks::new(geometry, image)?;
 //!     let found = scan(alloc, &blocks)?;
@@ -42,8 +42,8 @@ mod header;
 pub mod laws;
 mod pass;
 mod placed;
-mod reading;
-mod scanning;
+mod read;
+mod scans;
 mod size;
 mod source;
 mod trace;
@@ -54,8 +54,8 @@ pub use errors::StreamError;
 pub use file::FileSource;
 pub use found::{Leb, MemberHeader, Scan, ScanState};
 pub use placed::{PlacedFile, SystemFile, file_len};
-pub use reading::{read_headers, read_leb, read_member, read_part};
-pub use scanning::{scan, scan_from};
+pub use read::{read_headers, read_leb, read_member, read_part};
+pub use scans::{scan, scan_from};
 pub use size::block_count;
 pub use source::{BlockSource, MemorySource, SourceFault};
 pub use trace::Trace;

@@ -3,7 +3,7 @@ use Rattle.ubi_table.proofs.Prelude.{◌≡◌, ℕ, ◌+◌, ◌<◌, inl, inr,
 use Rattle.std.specs.FinMap as finite
 use Rattle.ubi_media.specs.declared.refusal.Refusal.TheVariants as refusal
 use Rattle.ubi_table.specs.declared.copy.CopyRead.TheVariants as copy
-use Rattle.ubi_table.proofs.One.{copy_unique}
+use Rattle.ubi_table.proofs.OneTable.{copy_unique}
 
 module _ (s : Sizes) (bs : List (List ℕ)) where
   -- no copy below c can decide

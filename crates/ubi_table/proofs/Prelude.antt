@@ -31,7 +31,7 @@ pub use Rattle.ubi_media.proofs.LesserPage.{reading_kept}
 pub use Rattle.ubi_media.proofs.Names.{IsName, name_facts, padded_begins, padded_ends}
 pub use Rattle.ubi_media.proofs.RecordBytes.{length-rec_front, slot_read_back}
 pub use Rattle.ubi_media.proofs.Records.{kept, one_rec_reading}
-pub use Rattle.ubi_media.proofs.Sound.{valid_sound}
+pub use Rattle.ubi_media.proofs.SoundRecords.{valid_sound}
 pub use Rattle.ubi_media.proofs.Words.{small, words}
 unfoldable pub use Rattle.ubi_media.specs.Check.{check_from, remainder}
 unfoldable pub use Rattle.ubi_media.specs.Ec.{ec_reading}
@@ -49,6 +49,7 @@ pub use Rattle.ubi_media.specs.declared.refusal.Refusal.{Refusal}
 pub use Rattle.ubi_media.specs.declared.vid.VidHeader.{VidHeader}
 pub use Rattle.ubi_media.specs.declared.vid.VolKind.TheVariants.{Dynamic}
 pub use Rattle.ubi_scan.proofs.AnyPage.{no_member_of_page, wins_of_page}
+pub use Rattle.ubi_scan.proofs.BlocksReordered.{IsMoved, inside_of, no_member_to, same_back, swapped, trade, wins_to}
 pub use Rattle.ubi_scan.proofs.Choice.{false_or_true}
 pub use Rattle.ubi_scan.proofs.Chunks.{get_or-first_chunks, length-first_chunks}
 pub use Rattle.ubi_scan.proofs.Decided.{Wins-unique, winner_or_none}
@@ -57,10 +58,9 @@ pub use Rattle.ubi_scan.proofs.Finite.{find_at, rising_at}
 pub use Rattle.ubi_scan.proofs.InMemory.{scan_of_memory, still}
 pub use Rattle.ubi_scan.proofs.Keys.{apart_test, at_itself, at_other, same_test}
 pub use Rattle.ubi_scan.proofs.Least.{least_or}
-pub use Rattle.ubi_scan.proofs.Moved.{IsMoved, inside_of, no_member_to, same_back, swapped, trade, wins_to}
 pub use Rattle.ubi_scan.proofs.ReadParts.{leb_of_read}
 pub use Rattle.ubi_scan.proofs.Revalued.{revalued_is, sorted_revalued}
-pub use Rattle.ubi_scan.proofs.Truths.{both_are, both_right, true_is}
+pub use Rattle.ubi_scan.proofs.TrueTests.{both_are, both_right, true_is}
 pub use Rattle.ubi_scan.specs.Faults.{NoFault}
 pub use Rattle.ubi_scan.specs.Image.{block, ec, eraseblocks, leb, slots_in, vid}
 pub use Rattle.ubi_scan.specs.Members.{Leb, NoMember, Wins, layout, leb_of, member, member_if, named_in}

@@ -2,7 +2,7 @@
 
 ghost use Rattle.std.specs.Prelude.{◌≡◌, ◌<◌, IfErr, IfOk, length};
 ghost use Rattle.ubi_media.specs.Geometry.{leb_size};
-ghost use Rattle.ubi_scan.specs.Image.{in_image};
+ghost use Rattle.ubi_scan.specs.Image.{of_blocks};
 ghost use Rattle.ubi_scan.specs.Scan.{IsScan};
 ghost use Rattle.ubi_scan.specs.Source.{Narrows, WhereHeld, blocks_in, blocks_of};
 ghost use Rattle.ubi_scan.specs.Stream.{IsScanOf, NamesBlock, after};
@@ -108,8 +108,8 @@ pub fn read_copy(
     c: u32,
 ) -> Result<CopyRead, AllocError>
     requires copy { c < 2 }
-    requires scan { in_image IsScan blocks.now scan.now }
-    ensures { IfOk result (in_image CopyIs blocks.now c) }
+    requires scan { of_blocks IsScan blocks.now scan.now }
+    ensures { IfOk result (of_blocks CopyIs blocks.now c) }
 {
     let Some(p) = scan.winner(LAYOUT_VOLUME, c) else {
         return Ok(CopyRead::Absent);

@@ -20,7 +20,7 @@
 //!     image: &[u8],
 //!     id: u32,
 //! ) -> Result<Option<VolumeRecord>, AttachError>
-//!     ensures { IfOk result (λ said. (table : Records) × in_image IsTable (image_of geometry.now image.now) table × (said ≡ get table.of id)) }
+//!     ensures { IfOk result (λ said. (table : Records) × of_blocks IsTable (image_of geometry.now image.now) table × (said ≡ get table.of id)) }
 //! {
 //!     let blocks = Blocks::new(geometry, image)?;
 //!     let found = scan(alloc, &blocks)?;
@@ -30,13 +30,13 @@
 //! ```
 #![tactic(auto)]
 
-mod choosing;
+mod choice;
 mod copy;
 mod encode;
 pub mod laws;
-mod naming;
+mod renamed;
 mod table;
 
-pub use choosing::{choose, choose_from};
+pub use choice::{choose, choose_from};
 pub use copy::{CopyRead, read_copy, read_copy_from};
 pub use table::Table;

@@ -2,7 +2,7 @@
 
 ghost use Rattle.std.specs.FinMap.{get};
 ghost use Rattle.std.specs.Prelude.{◌≡◌, IfOk};
-ghost use Rattle.ubi_scan.specs.Image.{image_of, in_image};
+ghost use Rattle.ubi_scan.specs.Image.{image_of, of_blocks};
 ghost use Rattle.ubi_scan.specs.Scan.{Found, IsScan};
 
 use std::alloc::Global;
@@ -17,7 +17,7 @@ pub fn holder(
     vol: u32,
     lnum: u32,
 ) -> Result<Option<u32>, AttachError>
-    ensures { IfOk result (λ holder. (found : Found) × in_image IsScan (image_of geometry.now image.now) found × (holder ≡ get found.winners (vol, lnum))) }
+    ensures { IfOk result (λ holder. (found : Found) × of_blocks IsScan (image_of geometry.now image.now) found × (holder ≡ get found.winners (vol, lnum))) }
 {
     let blocks = Blocks::new(geometry, image)?;
     let found = scan(alloc, &blocks)?;

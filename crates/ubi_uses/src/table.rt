@@ -2,7 +2,7 @@
 
 ghost use Rattle.std.specs.FinMap.{get};
 ghost use Rattle.std.specs.Prelude.{◌≡◌, IfOk};
-ghost use Rattle.ubi_scan.specs.Image.{image_of, in_image};
+ghost use Rattle.ubi_scan.specs.Image.{image_of, of_blocks};
 ghost use Rattle.ubi_table.specs.Records.{Records};
 ghost use Rattle.ubi_table.specs.Table.{IsTable};
 
@@ -18,7 +18,7 @@ pub fn record_of(
     image: &[u8],
     id: u32,
 ) -> Result<Option<VolumeRecord>, AttachError>
-    ensures { IfOk result (λ said. (table : Records) × in_image IsTable (image_of geometry.now image.now) table × (said ≡ get table.of id)) }
+    ensures { IfOk result (λ said. (table : Records) × of_blocks IsTable (image_of geometry.now image.now) table × (said ≡ get table.of id)) }
 {
     let blocks = Blocks::new(geometry, image)?;
     let found = scan(alloc, &blocks)?;

@@ -1,20 +1,20 @@
 -- How much a volume reads, by the places of its LEBs.
-use Rattle.ubi_volume.proofs.Prelude.{◌≡◌, ◌≢◌, ℕ, ◌+◌, cond, List, [], length, refl, ap, sym, ◌∙◌, subst, None, Option, Some, is_some, nat_cmp_total, length-put, nat_cmp, blank, Sizes, usable, VolumeRecord, blocks_of, sorted_entries, AmountIs, amount_of, AreKept, ContentIs, LebReads, Placed}
+use Rattle.ubi_volume.proofs.Prelude.{◌≡◌, ◌≢◌, ℕ, ◌+◌, cond, List, [], length, refl, ap, sym, ◌∙◌, subst, None, Option, Some, is_some, nat_cmp_total, length-put, nat_cmp, blank, Sizes, usable, VolumeRecord, blocks_of, sorted_entries, AmountIs, amount_of, AreKeptLebs, ContentIs, LebReads, Placed}
 use Rattle.std.specs.FinMap as finite
 use Rattle.ubi_volume.specs.declared.block.Amount.TheVariants as amount
 use Rattle.ubi_volume.specs.declared.content.Content.TheVariants as content
 use Rattle.ubi_volume.specs.declared.places.PlaceContent.TheVariants as place
 use Rattle.ubi_volume.proofs.Dynamic.{dynamic_is, gathered_blank, gathered_none, gathered_text, none_behind}
-use Rattle.ubi_volume.proofs.One.{reads_unique}
+use Rattle.ubi_volume.proofs.OneMeaning.{reads_unique}
 use Rattle.ubi_volume.proofs.VolumeAt.{content_has, content_is}
 
 module _ (s : Sizes) (bs : List (List ℕ)) (vol : ℕ) (r : VolumeRecord) where
-  pub none_kept : AreKept s bs vol r 0 0
+  pub none_kept : AreKeptLebs s bs vol r 0 0
   none_kept = (finite.empty, gathered_none s bs vol r, sym (ap length (sorted_entries [] refl)))
 
   -- one LEB more
-  pub one_kept : (n count : ℕ) (text : List ℕ) → AreKept s bs vol r n count → LebReads s bs vol r n text
-      → length text ≡ usable s r → text ≢ blank (usable s r) → AreKept s bs vol r (n + 1) (count + 1)
+  pub one_kept : (n count : ℕ) (text : List ℕ) → AreKeptLebs s bs vol r n count → LebReads s bs vol r n text
+      → length text ≡ usable s r → text ≢ blank (usable s r) → AreKeptLebs s bs vol r (n + 1) (count + 1)
   one_kept n count text h reads size some =
       let lebs = h.0 in
       let free : finite.find nat_cmp n (finite.entries lebs) ≡ None = sym (finite.get-entries lebs n)
@@ -29,8 +29,8 @@ module _ (s : Sizes) (bs : List (List ℕ)) (vol : ℕ) (r : VolumeRecord) where
         ap (λ k. k + 1) h.2 ∙ sym long,
       )
 
-  pub none_more : (n count : ℕ) → AreKept s bs vol r n count → LebReads s bs vol r n (blank (usable s r))
-      → AreKept s bs vol r (n + 1) count
+  pub none_more : (n count : ℕ) → AreKeptLebs s bs vol r n count → LebReads s bs vol r n (blank (usable s r))
+      → AreKeptLebs s bs vol r (n + 1) count
   none_more n count h reads = (h.0, gathered_blank s bs vol r n h.0 h.1 reads, h.2)
 
 module _ (s : Sizes) (p : Placed) (id : ℕ) (r : VolumeRecord) (recorded : finite.get p.records.of id ≡ Some r)
@@ -48,7 +48,7 @@ module _ (s : Sizes) (p : Placed) (id : ℕ) (r : VolumeRecord) (recorded : fini
       sym (ap amount_of t.1 ∙ ap amount.Bytes t.3)
 
   pub dynamic_amount : finite.get p.contents id ≡ Some place.Dynamic → (count : ℕ)
-      → AreKept s (blocks_of s image) id r r.reserved count → AmountIs s p id image (amount.Lebs count)
+      → AreKeptLebs s (blocks_of s image) id r r.reserved count → AmountIs s p id image (amount.Lebs count)
   dynamic_amount listed count kept h v at =
       let bs = blocks_of s image in
       let l = content_is s p image h id r recorded v at place.Dynamic listed in

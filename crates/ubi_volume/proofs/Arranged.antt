@@ -7,7 +7,7 @@ use Rattle.ubi_volume.specs.declared.content.Content.TheVariants as content
 use Rattle.ubi_volume.specs.declared.errors.MeaningCause.TheVariants as cause
 use Rattle.ubi_volume.proofs.Blanks.{other_text}
 use Rattle.ubi_volume.proofs.Winners.{no_some}
-use Rattle.ubi_volume.proofs.Within.{each_within}
+use Rattle.ubi_volume.proofs.AllowedLebs.{each_within}
 use Rattle.ubi_volume.proofs.WithoutBlank.{LebMap, get_without_blank, is_kept}
 
 abbrev pub Item : Type 0

@@ -1,9 +1,9 @@
 -- What attaching an image gives, by what its parts answered.
-use Rattle.ubi_volume.proofs.Prelude.{List, sym, subst, ◌∙◌, Image, eraseblocks, in_image, Found, IsScan, Records, IsTable, table_unique, Accepts, IsAttached, AreStates, Meant, BlockState}
+use Rattle.ubi_volume.proofs.Prelude.{List, sym, subst, ◌∙◌, Image, eraseblocks, of_blocks, Found, IsScan, Records, IsTable, table_unique, Accepts, IsAttached, AreBlockStates, Meant, BlockState}
 use Rattle.ubi_volume.proofs.Recorded.{records_meant}
 
 pub attached : (image : Image) (found : Found) (t : Records) (m : Meant) (states : List BlockState) → Accepts image m
-    → in_image IsScan image found → in_image IsTable image t → in_image AreStates image t states
+    → of_blocks IsScan image found → of_blocks IsTable image t → of_blocks AreBlockStates image t states
     → IsAttached image (record { meaning = m; scan = found; states = states })
 attached image found t m states accepts scan is are =
     let bs = eraseblocks image in
@@ -13,5 +13,5 @@ attached image found t m states accepts scan is are =
     record {
       accepted = accepts;
       scan = scan;
-      states = subst (λ (r : Records). in_image AreStates image r states) (sym same) are;
+      states = subst (λ (r : Records). of_blocks AreBlockStates image r states) (sym same) are;
     }

@@ -1,5 +1,5 @@
 -- The case and size of what the volumes of a source read.
-use Rattle.ubi_volume.proofs.Prelude.{◌≡◌, ℕ, suc, ◌+◌, ◌-◌, ◌*◌, ◌%◌, ◌<◌, ◌≤◌, inl, inr, false, List, [], ◌∷◌, ◌++◌, length, take, slice_range, refl, ap, sym, ◌∙◌, arith, length-append, Option, Some, None, flat_map, min, option_map, slice_index, div-add-mod, mod-lt, mul-le, cases_order, same_Some, check, Sizes, leb_size, usable, VolumeRecord, VidHeader, NoFault, block, leb, NoMember, Wins, member, Found, IsScan, blocks_of, length-first_chunks, data_of_read, Records, NoMismatch, CaseIs, PieceSizeIs, SizeIsRead, ContentIs, PieceIs, UsedIs, StaticReads, piece, pieces, case_of, Content}
+use Rattle.ubi_volume.proofs.Prelude.{◌≡◌, ℕ, suc, ◌+◌, ◌-◌, ◌*◌, ◌%◌, ◌<◌, ◌≤◌, inl, inr, false, List, [], ◌∷◌, ◌++◌, length, take, slice_range, refl, ap, sym, ◌∙◌, arith, length-append, Option, Some, None, flat_map, min, option_map, slice_index, div-add-mod, mod-lt, mul-le, cases_order, same_Some, crc_of, Sizes, leb_size, usable, VolumeRecord, VidHeader, NoFault, block, leb, NoMember, Wins, member, Found, IsScan, blocks_of, length-first_chunks, data_of_read, Records, NoMismatch, CaseIs, PieceSizeIs, SizeIsRead, ContentIs, PieceIs, UsedIs, StaticReads, piece, pieces, case_of, Content}
 use Rattle.std.specs.FinMap as finite
 use Rattle.ubi_media.specs.declared.vid.VolKind.TheVariants as kind
 use Rattle.ubi_volume.specs.declared.content.Content.TheVariants as content
@@ -26,10 +26,10 @@ module _ (s : Sizes) (bytes : List ℕ) (found : Found) (scan : IsScan s (blocks
     whole = data_of_read s bytes text p h.data_size (rw (length-first_chunks s.peb_size _ bytes) at wins.member.inside)
         read
 
-    pub held_checked : h.used_ebs ≡ used → check text ≡ h.data_crc → PieceIs s (blocks_of s bytes) vol used lnum (Some text)
+    pub held_checked : h.used_ebs ≡ used → crc_of text ≡ h.data_crc → PieceIs s (blocks_of s bytes) vol used lnum (Some text)
     held_checked u right = piece_checked s (blocks_of s bytes) scan.clean vol used lnum p h text wins (sym e) whole u right
 
-    pub held_unchecked : ((h.used_ebs ≡ used) × (check text ≡ h.data_crc) → ⊥)
+    pub held_unchecked : ((h.used_ebs ≡ used) × (crc_of text ≡ h.data_crc) → ⊥)
         → PieceIs s (blocks_of s bytes) vol used lnum None
     held_unchecked other = piece_unchecked s (blocks_of s bytes) scan.clean vol used lnum p h text wins (sym e) whole other
 

@@ -1,12 +1,12 @@
 -- What is extracted from a volume by the places of its LEBs.
-use Rattle.ubi_volume.proofs.Prelude.{◌≡◌, ℕ, zero, suc, ◌+◌, ◌-◌, ◌*◌, ◌<◌, ◌≤◌, inl, inr, false, List, ◌++◌, length, take, refl, ap, sym, ◌∙◌, subst, arith, zero-add, Err, None, Ok, Option, Result, Some, MatchOption, flat_map, slice_index, unwrap_or, FinMap, range_with_len, option_map_or, nat_cmp, result_map_both, flat_map-append, mul-le, IfSome_then, blank, Sizes, rec_fault, usable, VolumeRecord, usable_some, Image, block, image_of, leb, NoMember, Wins, Agreed, Source, blocks_of, StreamError, Wins-unique, Records, table_records, pieces_more, extent_in, extent_len, extent_of, leb_bytes, read_text, share_len, leb_at, lebs_at, lebs_bytes, SlotMeans, AreWhole, LebReads, StaticReads, VolumeReads, piece, Fits, pieces, share, ArePlaces, Placed, case_of, leb_text, lebs_text, volume_len, volume_read, All, IsWroteError, Wrote, Content, Volume, ReadError, Extent, PlaceContent}
+use Rattle.ubi_volume.proofs.Prelude.{◌≡◌, ℕ, zero, suc, ◌+◌, ◌-◌, ◌*◌, ◌<◌, ◌≤◌, inl, inr, false, List, ◌++◌, length, take, refl, ap, sym, ◌∙◌, subst, arith, zero-add, Err, None, Ok, Option, Result, Some, MatchOption, flat_map, slice_index, unwrap_or, FinMap, range_with_len, option_map_or, nat_cmp, result_map_both, flat_map-append, mul-le, IfSome_then, blank, Sizes, rec_fault, usable, VolumeRecord, usable_some, Image, block, image_of, leb, NoMember, Wins, Agreed, Source, blocks_of, StreamError, Wins-unique, Records, table_records, pieces_more, extent_in, extent_len, extent_of, leb_bytes, read_text, share_len, leb_at, lebs_at, lebs_bytes, SlotMeans, HoldContents, LebReads, StaticReads, VolumeReads, piece, Fits, pieces, share, ArePlaces, Placed, case_of, leb_text, lebs_text, volume_len, volume_read, All, IsWroteError, Wrote, Content, Volume, ReadError, Extent, PlaceContent}
 use Rattle.std.specs.FinMap as finite
 use Rattle.ubi_media.specs.declared.vid.VolKind.TheVariants as kind
 use Rattle.ubi_volume.specs.declared.content.Content.TheVariants as content
 use Rattle.ubi_volume.specs.declared.errors.ReadError.TheVariants as error
 use Rattle.ubi_volume.specs.declared.places.PlaceContent.TheVariants as place
 use Rattle.ubi_volume.proofs.Alike.{short_piece}
-use Rattle.ubi_volume.proofs.Either.{are_lebs}
+use Rattle.ubi_volume.proofs.AcceptedOrRefused.{are_lebs}
 use Rattle.ubi_volume.proofs.LebsText.{length-lebs, range_append}
 use Rattle.ubi_volume.proofs.Pieces.{length-share, most_pieces, pieces_few, share_more, share_none, shares_all}
 use Rattle.ubi_volume.proofs.Received.{Splits, error_behind, error_front, wrote_more}
@@ -99,7 +99,7 @@ module _ (s : Sizes) (p : Placed) (image : List ℕ) (places : ArePlaces (image_
     static_reads = subst (VolumeReads s bs id r) is (reads_of s p image places id r recorded v at).1
 
     module _ (n : ℕ) (inside : n < lebs) where
-      pub static_whole : (ps : List ℕ) × AreWhole s bs id r ps × (t ≡ flat_map (piece s bs) ps) × (n < length ps)
+      pub static_whole : (ps : List ℕ) × HoldContents s bs id r ps × (t ≡ flat_map (piece s bs) ps) × (n < length ps)
       static_whole = elim static_reads.2 [
         | inl none ↦
             let few = pieces_few size (usable_some s r recorded_sound) (length t) 0 (omega (arith, ap length none.1)) in

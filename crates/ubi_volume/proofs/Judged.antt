@@ -1,5 +1,5 @@
 -- The first bytes of a file, up to one more than the device has, decide what it means, or why it is refused.
-use Rattle.ubi_volume.proofs.Prelude.{◌≡◌, ℕ, ◌+◌, ◌*◌, ◌<◌, inl, inr, List, length, sym, subst, arith, take_all, Sizes, Refusal, within_or_past, Image, judged, Accepts, Refuses, JudgedAlone, Meant}
+use Rattle.ubi_volume.proofs.Prelude.{◌≡◌, ℕ, ◌+◌, ◌*◌, ◌<◌, inl, inr, List, length, sym, subst, arith, take_all, Sizes, Refusal, within_or_past, Image, seen_of, Accepts, Refuses, JudgedAlone, Meant}
 use Rattle.std.proofs.lemmas.List.{length-take-le}
 use Rattle.ubi_media.specs.declared.refusal.Refusal.TheVariants as refusal
 
@@ -23,7 +23,7 @@ judged_alone s bytes =
     let most = s.pebs * s.peb_size in
     elim (within_or_past (length bytes) most) [
       | inl few ↦
-          let same : judged s bytes ≡ bytes = take_all (most + 1) bytes (omega arith) in (
+          let same : seen_of s bytes ≡ bytes = take_all (most + 1) bytes (omega arith) in (
             λ m. (
               λ h. subst (λ xs. Accepts (image s xs) m) same h,
               λ h. subst (λ xs. Accepts (image s xs) m) (sym same) h,
@@ -34,8 +34,8 @@ judged_alone s bytes =
             ),
           )
       | inr many ↦
-          let len : length (judged s bytes) ≡ most + 1 = length-take-le (most + 1) bytes (omega arith) in
-          let cut : most < length (judged s bytes) = omega arith in (
+          let len : length (seen_of s bytes) ≡ most + 1 = length-take-le (most + 1) bytes (omega arith) in
+          let cut : most < length (seen_of s bytes) = omega arith in (
             λ m. (λ h. absurd (never_accepted s _ m cut h), λ h. absurd (never_accepted s bytes m many h)),
             λ c. (λ h. only_too_many s _ bytes c cut many h, λ h. only_too_many s bytes _ c many cut h),
           )

@@ -1,13 +1,13 @@
 -- An image that is accepted with some page is accepted with each page of which that one is a multiple, with the same
 -- meaning.
-use Rattle.ubi_volume.proofs.Prelude.{◌≡◌, ℕ, ◌⊎◌, refl, inl, inr, List, ap, sym, ◌∙◌, subst, get, ◌∣◌, IfSome, None, Option, Some, slice_get, none-some, ec_reading, Sizes, with_page, vid_reading, rec_fault, RecFault, VolumeRecord, sound_kept, NoFault, Image, IsWhole, eraseblocks, layout, clean_of_page, member_of_page, no_member_of_page, scan_of_page, seq_of_page, some_more, wins_of_page, AreRecords, Records, table_records, resized, table_back, table_kept, Accepts, AcceptsBlocks, IsMismatched, Refuses, RefusesBlocks, IsAttached, StateIs, Whole, AreWhole, LebReads, Means, SlotMeans, StaticReads, VolumeReads, IsMeaning, IsVolume, Meant, records_of, LesserPage, image_with_page, meaning_with_page, BlockState, Content, Volume}
+use Rattle.ubi_volume.proofs.Prelude.{◌≡◌, ℕ, ◌⊎◌, refl, inl, inr, List, ap, sym, ◌∙◌, subst, get, ◌∣◌, IfSome, None, Option, Some, slice_get, none-some, ec_reading, Sizes, with_page, vid_reading, rec_fault, RecFault, VolumeRecord, sound_kept, NoFault, Image, IsWholeImage, eraseblocks, layout, clean_of_page, member_of_page, no_member_of_page, scan_of_page, seq_of_page, some_more, wins_of_page, AreRecords, Records, table_records, resized, table_back, table_kept, Accepts, AcceptsBlocks, IsMismatched, Refuses, RefusesBlocks, IsAttached, BlockStateIs, AttachValue, HoldContents, LebReads, Means, SlotMeans, StaticReads, VolumeReads, IsMeaning, IsVolume, Meant, records_of, LesserPage, image_with_page, meaning_with_page, BlockState, Content, Volume}
 use Rattle.ubi_media.specs.Ec.{breaks as ec_breaks, first_fault as first_ec_fault, judged as judged_ec}
 use Rattle.ubi_media.specs.Vid.{breaks as vid_breaks, first_fault as first_vid_fault, judged as judged_vid}
 use Rattle.ubi_media.specs.declared.record.RecFault.TheVariants as fault
 use Rattle.ubi_media.specs.declared.refusal.Refusal.TheVariants as refusal
 use Rattle.ubi_volume.specs.declared.attached.BlockState.TheVariants as state
 use Rattle.ubi_volume.specs.declared.content.Content.TheVariants as content
-use Rattle.ubi_volume.proofs.One.{Accepts-unique, never_accepted_and_refused}
+use Rattle.ubi_volume.proofs.OneMeaning.{Accepts-unique, never_accepted_and_refused}
 
 -- what volumes read with any page
 module _ (s : Sizes) (page : ℕ) (bs : List (List ℕ)) where
@@ -16,8 +16,8 @@ module _ (s : Sizes) (page : ℕ) (bs : List (List ℕ)) where
   leb_of_page vol r lnum text (inl k) = inl (k.0, wins_of_page s page bs (vol, lnum) k.0 k.1, k.2)
   leb_of_page vol r lnum text (inr k) = inr (no_member_of_page s page bs (vol, lnum) k.0, k.1)
 
-  whole_of_page : (vol : ℕ) (r : VolumeRecord) (ps : List ℕ) → AreWhole s bs vol r ps
-      → AreWhole (with_page s page) bs vol r ps
+  whole_of_page : (vol : ℕ) (r : VolumeRecord) (ps : List ℕ) → HoldContents s bs vol r ps
+      → HoldContents (with_page s page) bs vol r ps
   unfolding ec_reading judged_ec first_ec_fault ec_breaks vid_reading judged_vid first_vid_fault vid_breaks
   whole_of_page vol r ps a = record {
     some = a.some;
@@ -50,8 +50,8 @@ module _ (s : Sizes) (page : ℕ) (bs : List (List ℕ)) where
   slot_of_page id (Some r) None k = k
 
   -- the state of an eraseblock
-  state_of_page : (t : Records) (p : ℕ) (state : BlockState) → StateIs s bs t p state
-      → StateIs (with_page s page) bs (resized t (with_page s page)) p state
+  state_of_page : (t : Records) (p : ℕ) (state : BlockState) → BlockStateIs s bs t p state
+      → BlockStateIs (with_page s page) bs (resized t (with_page s page)) p state
   unfolding ec_reading judged_ec first_ec_fault ec_breaks vid_reading judged_vid first_vid_fault vid_breaks
   state_of_page t p state.Blank h = h
   state_of_page t p state.Free h = h
@@ -172,7 +172,7 @@ accepted_kept image m page divides a = record {
   accepted = blocks_kept image.sizes page divides _ m a.accepted;
 }
 
-attached_kept : (image : Image) (a : Whole) (page : ℕ) → page ∣ image.sizes.page → IsAttached image a
+attached_kept : (image : Image) (a : AttachValue) (page : ℕ) → page ∣ image.sizes.page → IsAttached image a
     → IsAttached (image_with_page image page) (record a { meaning = meaning_with_page a.meaning page })
 attached_kept image a page divides h =
     let s = image.sizes in
@@ -191,7 +191,7 @@ accepted_back : (image : Image) (m : Meant) (page : ℕ) → page ∣ image.size
     → Accepts image (meaning_with_page m image.sizes.page)
     ⊎ ((p slot : ℕ) × Refuses image (refusal.Record p slot fault.AlignmentPage))
 accepted_back image m page divides a =
-    let whole : IsWhole image = record { some = a.whole.some; cut = a.whole.cut; fits = a.whole.fits } in
+    let whole : IsWholeImage image = record { some = a.whole.some; cut = a.whole.cut; fits = a.whole.fits } in
     elim (blocks_back image.sizes page divides (eraseblocks image) m a.accepted) [
       | inl accepted ↦ inl (record { whole = whole; accepted = accepted })
       | inr refused ↦ inr (refused.0, refused.1, inr (whole, refused.2))

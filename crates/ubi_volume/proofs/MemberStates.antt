@@ -1,11 +1,11 @@
 -- The states of members, by what a scan says of them.
-use Rattle.ubi_volume.proofs.Prelude.{◌≡◌, ℕ, inl, inr, Bool, true, false, List, [], ◌∷◌, ◌++◌, length, get_or, ap, sym, ◌∙◌, subst, arith, length-append, IfSome, Option, Some, slice_get, get_or_append_left, slice_get-get_or, slice_get_past, get_or-append_seam, Sizes, below_same_or_above, IsMember, Leb, Wins, Records, StateIs, MemberStateIs, BlockState}
+use Rattle.ubi_volume.proofs.Prelude.{◌≡◌, ℕ, inl, inr, Bool, true, false, List, [], ◌∷◌, ◌++◌, length, get_or, ap, sym, ◌∙◌, subst, arith, length-append, IfSome, Option, Some, slice_get, get_or_append_left, slice_get-get_or, slice_get_past, get_or-append_seam, Sizes, below_same_or_above, IsMember, Leb, Wins, Records, BlockStateIs, MemberStateIs, BlockState}
 use Rattle.ubi_volume.specs.declared.attached.BlockState.TheVariants as state
 
 module _ (s : Sizes) (bs : List (List ℕ)) (t : Records) (p : ℕ) where
   by_leb : (of : Leb) → IsMember s bs of p → (wins : Bool) → (wins ≡ true → Wins s bs of p)
       → (wins ≡ false → Wins s bs of p → ⊥)
-      → (b : BlockState) → MemberStateIs t of wins b → StateIs s bs t p b
+      → (b : BlockState) → MemberStateIs t of wins b → BlockStateIs s bs t p b
   by_leb of m wins w l state.Blank h = absurd h
   by_leb of m wins w l state.Free h = absurd h
   by_leb of m wins w l state.Garbage h = absurd h
@@ -16,11 +16,11 @@ module _ (s : Sizes) (bs : List (List ℕ)) (t : Records) (p : ℕ) where
   by_leb of m wins w l state.Used h = (of, w h.0, h.1, h.2)
   by_leb of m wins w l state.Stale h = (of, m, l h.0, h.1)
 
-  pub state_of_winner : (of : Leb) → Wins s bs of p → (b : BlockState) → MemberStateIs t of true b → StateIs s bs t p b
+  pub state_of_winner : (of : Leb) → Wins s bs of p → (b : BlockState) → MemberStateIs t of true b → BlockStateIs s bs t p b
   state_of_winner of w b h = by_leb of w.member true (λ e. w) (λ e. absurd (cc)) b h
 
   pub state_of_beaten : (of : Leb) → IsMember s bs of p → (Wins s bs of p → ⊥) → (b : BlockState)
-      → MemberStateIs t of false b → StateIs s bs t p b
+      → MemberStateIs t of false b → BlockStateIs s bs t p b
   state_of_beaten of m l b h = by_leb of m false (λ e. absurd (cc)) (λ e. l) b h
 
 -- one more state behind the others

@@ -1,5 +1,5 @@
 -- Winners that are unlike their records, by their headers.
-use Rattle.ubi_volume.proofs.Prelude.{◌≡◌, ℕ, ◌+◌, ◌<◌, inl, inr, Bool, false, List, ap, sym, ◌∙◌, subst, ◌↔◌, IsTrue, Some, None, same_Some, Sizes, VolumeRecord, VidHeader, below_or_last, block, Leb, Wins, leb_of, member, header_of, Records, IsMismatched, IsUnlike, IsWithin, Disagrees}
+use Rattle.ubi_volume.proofs.Prelude.{◌≡◌, ℕ, ◌+◌, ◌<◌, inl, inr, Bool, false, List, ap, sym, ◌∙◌, subst, ◌↔◌, IsTrue, Some, None, same_Some, Sizes, VolumeRecord, VidHeader, below_or_last, block, Leb, Wins, leb_of, member, kept_header, Records, IsMismatched, IsUnlike, IsWithin, Disagrees}
 use Rattle.std.specs.FinMap as finite
 use Rattle.ubi_volume.proofs.Winners.{named_by, no_some}
 
@@ -24,7 +24,7 @@ module _ (s : Sizes) (bs : List (List ℕ)) (t : Records) where
     pub no_record_no_mismatch : finite.get t.of h.vol_id ≡ None → IsMismatched s bs t p → ⊥
     no_record_no_mismatch none m = no_some m.0 (sym none ∙ recorded_as m)
 
-    pub mismatch_by_header : (r : VolumeRecord) → finite.get t.of h.vol_id ≡ Some r → Disagrees s r (header_of h)
+    pub mismatch_by_header : (r : VolumeRecord) → finite.get t.of h.vol_id ≡ Some r → Disagrees s r (kept_header h)
         ↔ IsMismatched s bs t p
     mismatch_by_header r got = (
       λ d. (r, h, record { vol = h.vol_id; lnum = h.lnum; wins = w; recorded = got; within = d.1 }, d.0, e, d.2),
@@ -32,7 +32,7 @@ module _ (s : Sizes) (bs : List (List ℕ)) (t : Records) where
           let same : m.0 ≡ r = same_Some m.0 r (sym (recorded_as m) ∙ got) in
           let header : m.1 ≡ h = same_Some m.1 h (sym m.4 ∙ e) in
           let within : IsWithin m.0 h.lnum = subst (λ (of : Leb). IsWithin m.0 of.1) (named m) m.2.within in
-          subst (λ (r : VolumeRecord). Disagrees s r (header_of h)) same
+          subst (λ (r : VolumeRecord). Disagrees s r (kept_header h)) same
           (m.3, within, subst (λ (k : VidHeader). IsUnlike s m.0 k) header m.5),
     )
 

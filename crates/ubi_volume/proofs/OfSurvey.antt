@@ -1,7 +1,7 @@
 -- The places of a surveyed image, by the meaning that was surveyed.
 use Rattle.ubi_volume.proofs.Prelude.{◌≡◌, ◌∙◌, ℕ, List, map, ap, sym, subst, refl, None, Option, Some, SlotMeans, Records, nat_cmp_total, from_entries, Sizes, VolumeRecord, image_of, blocks_of, NoMismatch, CaseIs, case_in, Agreed, Narrows, Source, scan_narrowed, Meant, ArePlaces, Placed, case_of, Volume, PlaceContent, IsSurvey, IsSurveyOf, Seen}
 use Rattle.std.specs.FinMap as finite
-use Rattle.ubi_volume.proofs.One.{reads_unique}
+use Rattle.ubi_volume.proofs.OneMeaning.{reads_unique}
 use Rattle.ubi_volume.proofs.PlacesOf.{find_case}
 use Rattle.ubi_volume.proofs.VolumeAt.{content_has, has_volume, reads_of, same_records}
 

@@ -6,7 +6,7 @@ use Rattle.ubi_volume.specs.Texts.{PieceIs}
 use Rattle.ubi_volume.specs.declared.content.Content.TheVariants as content
 use Rattle.ubi_volume.specs.declared.places.PlaceContent.TheVariants as place
 use Rattle.ubi_volume.proofs.CaseSizes.{static_case}
-use Rattle.ubi_volume.proofs.Either.{are_lebs}
+use Rattle.ubi_volume.proofs.AcceptedOrRefused.{are_lebs}
 use Rattle.ubi_volume.proofs.Extracted.{piece_is, piece_share}
 use Rattle.ubi_volume.proofs.OfSurvey.{placed_of, places_of, survey_alike, tells_case}
 

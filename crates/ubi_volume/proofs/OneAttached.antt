@@ -1,7 +1,7 @@
 -- Attaching an image gives one value.
-use Rattle.ubi_volume.proofs.Prelude.{◌≡◌, ℕ, ◌<◌, List, ap, arith, refl, subst, sym, ◌∙◌, Sizes, Image, block, ec, eraseblocks, vid, Leb, Wins, layout, Found, blank_sort, corrupt_sort, dropped_sort, each_alike, free_sort, garbage_sort, one_leb, one_scan, sort_at, sort_of_member, Records, AreStates, IsAttached, IsOutside, StateIs, Whole, Meant, records_of, BlockState}
+use Rattle.ubi_volume.proofs.Prelude.{◌≡◌, ℕ, ◌<◌, List, ap, arith, refl, subst, sym, ◌∙◌, Sizes, Image, block, ec, eraseblocks, vid, Leb, Wins, layout, Found, blank_sort, corrupt_sort, dropped_sort, each_alike, free_sort, garbage_sort, one_leb, one_scan, sort_at, sort_of_member, Records, AreBlockStates, IsAttached, IsOutside, BlockStateIs, AttachValue, Meant, records_of, BlockState}
 use Rattle.ubi_volume.specs.declared.attached.BlockState.TheVariants as state
-use Rattle.ubi_volume.proofs.One.{Accepts-unique}
+use Rattle.ubi_volume.proofs.OneMeaning.{Accepts-unique}
 
 -- the sort of a state, by the two headers of its eraseblock
 abbrev sort_of : BlockState → ℕ
@@ -16,7 +16,7 @@ sort_of state.Used = 5
 sort_of state.Stale = 5
 
 module _ (s : Sizes) (bs : List (List ℕ)) (t : Records) where
-  sorted : (p : ℕ) (a : BlockState) → StateIs s bs t p a → sort_at s bs p ≡ sort_of a
+  sorted : (p : ℕ) (a : BlockState) → BlockStateIs s bs t p a → sort_at s bs p ≡ sort_of a
   sorted p state.Blank h = blank_sort (ec s (block bs p)) (vid s (block bs p)) h
   sorted p state.Free h = free_sort (ec s (block bs p)) (vid s (block bs p)) h.0 h.1
   sorted p state.Garbage h = garbage_sort (ec s (block bs p)) (vid s (block bs p)) h.0 h.1
@@ -27,27 +27,27 @@ module _ (s : Sizes) (bs : List (List ℕ)) (t : Records) where
   sorted p state.Used h = sort_of_member s bs h.0 p h.1.member
   sorted p state.Stale h = sort_of_member s bs h.0 p h.1
 
-  orphan_table : (p : ℕ) → StateIs s bs t p state.Orphan → StateIs s bs t p state.Table → ⊥
+  orphan_table : (p : ℕ) → BlockStateIs s bs t p state.Orphan → BlockStateIs s bs t p state.Table → ⊥
   orphan_table p h k =
       let low : layout < 128 = subst (λ (x : Leb). x.0 < 128) (one_leb s bs p h.0 (layout, k.0) h.1 k.1.member) h.2.0 in
       omega (arith, low)
 
-  orphan_used : (p : ℕ) → StateIs s bs t p state.Orphan → StateIs s bs t p state.Used → ⊥
+  orphan_used : (p : ℕ) → BlockStateIs s bs t p state.Orphan → BlockStateIs s bs t p state.Used → ⊥
   orphan_used p h k = k.3 (subst (IsOutside t) (one_leb s bs p h.0 k.0 h.1 k.1.member) h.2)
 
-  orphan_stale : (p : ℕ) → StateIs s bs t p state.Orphan → StateIs s bs t p state.Stale → ⊥
+  orphan_stale : (p : ℕ) → BlockStateIs s bs t p state.Orphan → BlockStateIs s bs t p state.Stale → ⊥
   orphan_stale p h k = k.3 (subst (IsOutside t) (one_leb s bs p h.0 k.0 h.1 k.1) h.2)
 
-  table_used : (p : ℕ) → StateIs s bs t p state.Table → StateIs s bs t p state.Used → ⊥
+  table_used : (p : ℕ) → BlockStateIs s bs t p state.Table → BlockStateIs s bs t p state.Used → ⊥
   table_used p h k = k.2 (ap (λ (x : Leb). x.0) (one_leb s bs p k.0 (layout, h.0) k.1.member h.1.member))
 
-  table_stale : (p : ℕ) → StateIs s bs t p state.Table → StateIs s bs t p state.Stale → ⊥
+  table_stale : (p : ℕ) → BlockStateIs s bs t p state.Table → BlockStateIs s bs t p state.Stale → ⊥
   table_stale p h k = k.2 (subst (λ (x : Leb). Wins s bs x p) (one_leb s bs p (layout, h.0) k.0 h.1.member k.1) h.1)
 
-  used_stale : (p : ℕ) → StateIs s bs t p state.Used → StateIs s bs t p state.Stale → ⊥
+  used_stale : (p : ℕ) → BlockStateIs s bs t p state.Used → BlockStateIs s bs t p state.Stale → ⊥
   used_stale p h k = k.2 (subst (λ (x : Leb). Wins s bs x p) (one_leb s bs p h.0 k.0 h.1.member k.1) h.1)
 
-  same_state : (p : ℕ) (a b : BlockState) → StateIs s bs t p a → StateIs s bs t p b → sort_of a ≡ sort_of b → a ≡ b
+  same_state : (p : ℕ) (a b : BlockState) → BlockStateIs s bs t p a → BlockStateIs s bs t p b → sort_of a ≡ sort_of b → a ≡ b
   same_state p state.Blank state.Blank h k e = refl
   same_state p state.Free state.Free h k e = refl
   same_state p state.Garbage state.Garbage h k e = refl
@@ -71,17 +71,17 @@ module _ (s : Sizes) (bs : List (List ℕ)) (t : Records) where
   same_state p state.Stale state.Used h k e = absurd (used_stale p k h)
   same_state p a b h k e = absurd (omega (arith, e))
 
-  one_state : (p : ℕ) (a b : BlockState) → StateIs s bs t p a → StateIs s bs t p b → a ≡ b
+  one_state : (p : ℕ) (a b : BlockState) → BlockStateIs s bs t p a → BlockStateIs s bs t p b → a ≡ b
   one_state p a b h k = same_state p a b h k (sym (sorted p a h) ∙ sorted p b k)
 
-  same_states : (xs ys : List BlockState) → AreStates s bs t xs → AreStates s bs t ys → xs ≡ ys
-  same_states xs ys h k = each_alike (StateIs s bs t) one_state xs ys (h.0 ∙ sym k.0) h.1 k.1
+  same_states : (xs ys : List BlockState) → AreBlockStates s bs t xs → AreBlockStates s bs t ys → xs ≡ ys
+  same_states xs ys h k = each_alike (BlockStateIs s bs t) one_state xs ys (h.0 ∙ sym k.0) h.1 k.1
 
-pub one_attached : (image : Image) (a b : Whole) → IsAttached image a → IsAttached image b → a ≡ b
+pub one_attached : (image : Image) (a b : AttachValue) → IsAttached image a → IsAttached image b → a ≡ b
 one_attached image a b h k =
     let meant : a.meaning ≡ b.meaning = Accepts-unique image a.meaning b.meaning h.accepted k.accepted in
-    let states : AreStates image.sizes (eraseblocks image) (records_of b.meaning) a.states =
-    subst (λ (m : Meant). AreStates image.sizes (eraseblocks image) (records_of m) a.states) meant h.states in
+    let states : AreBlockStates image.sizes (eraseblocks image) (records_of b.meaning) a.states =
+    subst (λ (m : Meant). AreBlockStates image.sizes (eraseblocks image) (records_of m) a.states) meant h.states in
     ap (λ (m : Meant). record a { meaning = m }) meant
     ∙ ap (λ (f : Found). record a { meaning = b.meaning; scan = f })
     (one_scan image.sizes (eraseblocks image) a.scan b.scan h.scan k.scan)

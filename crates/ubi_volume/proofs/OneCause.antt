@@ -1,7 +1,7 @@
 -- An image is refused for at most one cause.
 use Rattle.ubi_volume.proofs.Prelude.{◌≡◌, ℕ, inl, inr, List, refl, ap, subst, arith, cases_order, Sizes, Refusal, IsScanFault, NoFault, Image, IsSizeFault, eraseblocks, one_scan_fault, Records, fault_unique, never_table_and_fault, table_unique, Refuses, RefusesBlocks, IsVolumeFault}
 use Rattle.ubi_media.specs.declared.refusal.Refusal.TheVariants as refusal
-use Rattle.ubi_volume.proofs.One.{no_size_fault}
+use Rattle.ubi_volume.proofs.OneMeaning.{no_size_fault}
 
 -- of the size
 one_size_fault : (image : Image) (c d : Refusal) → IsSizeFault image c → IsSizeFault image d → c ≡ d

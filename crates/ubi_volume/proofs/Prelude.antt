@@ -43,7 +43,7 @@ pub use Rattle.ubi_media.proofs.LesserPage.{sound_kept}
 pub use Rattle.ubi_media.proofs.Readings.{blank_of, ec_is_of, not_blank_of}
 pub use Rattle.ubi_media.proofs.Records.{usable_some}
 pub use Rattle.ubi_media.proofs.Sizes.{static_full, static_size, static_some}
-pub use Rattle.ubi_media.specs.Check.{check}
+pub use Rattle.ubi_media.specs.Check.{crc_of}
 unfoldable pub use Rattle.ubi_media.specs.Ec.{ec_fields, ec_reading}
 pub use Rattle.ubi_media.specs.Fields.{AreBytes, blank, field, is_blank, padded, same_bytes}
 pub use Rattle.ubi_media.specs.Geometry.{IsGeometry, Sizes, leb_size, slots}
@@ -61,53 +61,53 @@ pub use Rattle.ubi_media.specs.declared.vid.VidRead.{VidRead}
 pub use Rattle.ubi_media.specs.declared.vid.VolKind.{VolKind}
 pub use Rattle.ubi_media.specs.declared.vid.VolKind.TheVariants.{Dynamic, Static}
 pub use Rattle.ubi_scan.proofs.AnyPage.{clean_of_page, member_of_page, no_member_of_page, scan_of_page, seq_of_page, some_more, wins_of_page}
+pub use Rattle.ubi_scan.proofs.BlocksReordered.{IsMoved, clean_to, inside_of, moved_back, no_member_to, same_back, seq_to, swapped, trade, wins_to}
 pub use Rattle.ubi_scan.proofs.Choice.{false_or_true}
 pub use Rattle.ubi_scan.proofs.Chunks.{get_or-first_chunks, length-first_chunks, length-of_chunk}
 pub use Rattle.ubi_scan.proofs.Clean.{seq_from}
 pub use Rattle.ubi_scan.proofs.Decided.{Wins-unique, winner_or_none}
-pub use Rattle.ubi_scan.proofs.Either.{fault_or_none}
 pub use Rattle.ubi_scan.proofs.Entries.{first_entry, sorted_entries}
 pub use Rattle.ubi_scan.proofs.FailedReads.{names_part}
+pub use Rattle.ubi_scan.proofs.FaultOrNone.{fault_or_none}
 pub use Rattle.ubi_scan.proofs.Finite.{entries_tree, find_at, get_tree, insert_tree, place_of}
 pub use Rattle.ubi_scan.proofs.InMemory.{still}
 pub use Rattle.ubi_scan.proofs.Keys.{apart_test, same_test, told}
 pub use Rattle.ubi_scan.proofs.Least.{least_or}
-pub use Rattle.ubi_scan.proofs.Moved.{IsMoved, clean_to, inside_of, moved_back, no_member_to, same_back, seq_to, swapped, trade, wins_to}
-pub use Rattle.ubi_scan.proofs.Narrowed.{narrows_more, scan_narrowed, source_narrowed}
+pub use Rattle.ubi_scan.proofs.NarrowedSource.{narrows_more, scan_narrowed, source_narrowed}
 pub use Rattle.ubi_scan.proofs.OneFault.{one_scan_fault}
 pub use Rattle.ubi_scan.proofs.OneScan.{blank_sort, corrupt_sort, dropped_sort, each_alike, free_sort, garbage_sort, one_leb, one_scan, sort_at, sort_of_member}
 pub use Rattle.ubi_scan.proofs.ReadParts.{data_of_read, length-leb}
 pub use Rattle.ubi_scan.proofs.Revalued.{find_revalued, get_revalued, order_same, revalued_is, sum_revalued, sums_same}
-pub use Rattle.ubi_scan.proofs.Truths.{both_are, true_is}
+pub use Rattle.ubi_scan.proofs.TrueTests.{both_are, true_is}
 pub use Rattle.ubi_scan.specs.Faults.{IsScanFault, NoFault}
-pub use Rattle.ubi_scan.specs.Image.{Image, IsSizeFault, IsWhole, IsWholeSize, block, ec, ec_area, eraseblocks, image_of, in_image, judged, leb, vid, vid_area}
+pub use Rattle.ubi_scan.specs.Image.{Image, IsSizeFault, IsWholeImage, IsWholeSize, block, ec, ec_area, eraseblocks, image_of, leb, of_blocks, seen_of, vid, vid_area}
 pub use Rattle.ubi_scan.specs.Members.{IsMember, Leb, NoMember, Wins, has_members, header, is_right, layout, leb_of, member, member_if, named_in}
 pub use Rattle.ubi_scan.specs.Numbers.{image_seq, seq_if, seq_of}
-pub use Rattle.ubi_scan.specs.Scan.{Found, IsNextWinner, IsScan, header_of, leb_cmp}
+pub use Rattle.ubi_scan.specs.Scan.{Found, IsNextWinner, IsScan, kept_header, leb_cmp}
 pub use Rattle.ubi_scan.specs.Source.{Agreed, IsSource, Narrows, Source, WhereHeld, blocks_in, blocks_of, holds, memory}
 pub use Rattle.ubi_scan.specs.Stream.{IsReadFault, IsScanOf}
 pub use Rattle.ubi_scan.specs.declared.errors.StreamError.{StreamError}
 pub use Rattle.ubi_scan.specs.declared.found.ScanState.{ScanState}
-pub use Rattle.ubi_table.proofs.Either.{table_or_refused}
-pub use Rattle.ubi_table.proofs.Held.{table_records}
 pub use Rattle.ubi_table.proofs.LesserPage.{resized, table_back, table_kept}
-pub use Rattle.ubi_table.proofs.Moved.{table_to}
-pub use Rattle.ubi_table.proofs.Narrowed.{table_narrowed}
+pub use Rattle.ubi_table.proofs.NarrowedTable.{table_narrowed}
 pub use Rattle.ubi_table.proofs.NoRecords.{no_space}
-pub use Rattle.ubi_table.proofs.One.{fault_unique, never_table_and_fault, table_unique}
+pub use Rattle.ubi_table.proofs.OneTable.{fault_unique, never_table_and_fault, table_unique}
 pub use Rattle.ubi_table.proofs.ReadBack.{pieces_more}
+pub use Rattle.ubi_table.proofs.TableOfBytes.{table_records}
+pub use Rattle.ubi_table.proofs.TableOrFault.{table_or_refused}
+pub use Rattle.ubi_table.proofs.TableReordered.{table_to}
 pub use Rattle.ubi_table.specs.Records.{AreRecords, HasSpace, Records, space}
 pub use Rattle.ubi_table.specs.Stream.{IsTableOf}
 pub use Rattle.ubi_table.specs.Table.{IsTable}
 pub use Rattle.ubi_volume.specs.Accepts.{Accepts, AcceptsBlocks, IsMismatched, IsUnlike, IsVolumeFault, IsWithin, NoMismatch, Refuses, RefusesBlocks}
 pub use Rattle.ubi_volume.specs.Amounts.{AmountIs, amount_of}
-pub use Rattle.ubi_volume.specs.Attached.{AreStates, IsAttached, IsOutside, StateIs, Whole}
+pub use Rattle.ubi_volume.specs.Attached.{AreBlockStates, AttachValue, BlockStateIs, IsAttached, IsOutside}
 pub use Rattle.ubi_volume.specs.EqualLebs.{same_lebs}
 pub use Rattle.ubi_volume.specs.EqualMeanings.{same_meaning}
 pub use Rattle.ubi_volume.specs.Extract.{extent_in, extent_len, extent_of, leb_bytes, read_text, share_len}
-pub use Rattle.ubi_volume.specs.Made.{IsFirst, IsItem, Items, NoCause, Stands, item, item_without_blank, lebs_without_blank, rank, without_blank}
+pub use Rattle.ubi_volume.specs.Made.{IsFirstMade, IsItem, Items, NoCause, Stands, cause_rank, item, item_without_blank, lebs_without_blank, without_blank}
 pub use Rattle.ubi_volume.specs.MeaningLaws.{JudgedAlone}
-pub use Rattle.ubi_volume.specs.Means.{AreWhole, IsPiece, LebReads, Means, SlotMeans, StaticReads, VolumeReads, piece}
+pub use Rattle.ubi_volume.specs.Means.{HoldContents, IsPiece, LebReads, Means, SlotMeans, StaticReads, VolumeReads, piece}
 pub use Rattle.ubi_volume.specs.Meant.{Fits, HasDistinctNames, IsMeaning, IsVolume, KeepsNoBlank, Meant, VolumeMap, pieces, records_of, share}
 pub use Rattle.ubi_volume.specs.MeantCoded.{AreVolumes}
 pub use Rattle.ubi_volume.specs.PageLaws.{LesserPage, image_with_page, meaning_with_page}
@@ -125,8 +125,8 @@ pub use Rattle.ubi_volume.specs.declared.errors.ReadError.{ReadError}
 pub use Rattle.ubi_volume.specs.declared.places.Extent.{Extent}
 pub use Rattle.ubi_volume.specs.declared.places.PlaceContent.{PlaceContent}
 pub use Rattle.ubi_volume.specs.inner.Cases.{AreCases, AreNumbered, CaseIs, PieceSizeIs, SizeIsRead, case_in}
-pub use Rattle.ubi_volume.specs.inner.Gathered.{AreContents, AreGathered, AreKept, AreRead, AreTexts, ContentIs, IsContentOf, PieceIs, UsedIs, used_in}
-pub use Rattle.ubi_volume.specs.inner.Headers.{Disagrees, WinnerHeaderIs, header_in}
+pub use Rattle.ubi_volume.specs.inner.Gathered.{AreContents, AreGatheredLebs, AreKeptLebs, AreKeptTexts, AreRead, ContentIs, IsContentOf, PieceIs, UsedIs, used_in}
+pub use Rattle.ubi_volume.specs.inner.Headers.{Disagrees, WinnerHeaderIs, winner_header}
 pub use Rattle.ubi_volume.specs.inner.Making.{IsFirstOf, NoneBelow, leb_fits}
 pub use Rattle.ubi_volume.specs.inner.Pieces.{leb_at, lebs_at, lebs_bytes}
 pub use Rattle.ubi_volume.specs.inner.Surveying.{AreChecked, AreStatesOf, MemberStateIs}

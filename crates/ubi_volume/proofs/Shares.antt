@@ -1,5 +1,5 @@
 -- The shares of a static volume's contents stand at the places of its LEBs.
-use Rattle.ubi_volume.proofs.Prelude.{◌≡◌, ℕ, zero, suc, ◌+◌, ◌*◌, ◌<◌, ◌≤◌, false, List, [], ◌∷◌, ◌++◌, length, take, drop, refl, ap, sym, ◌∙◌, subst, arith, append-nil, Some, flat_map, slice_index, drop-append-add, take-append_seam, take_all, check, Sizes, usable, VolumeRecord, VidHeader, NoFault, block, leb, Wins, member, Wins-unique, Records, NoMismatch, AreWhole, IsPiece, piece, share}
+use Rattle.ubi_volume.proofs.Prelude.{◌≡◌, ℕ, zero, suc, ◌+◌, ◌*◌, ◌<◌, ◌≤◌, false, List, [], ◌∷◌, ◌++◌, length, take, drop, refl, ap, sym, ◌∙◌, subst, arith, append-nil, Some, flat_map, slice_index, drop-append-add, take-append_seam, take_all, crc_of, Sizes, usable, VolumeRecord, VidHeader, NoFault, block, leb, Wins, member, Wins-unique, Records, NoMismatch, HoldContents, IsPiece, piece, share}
 use Rattle.std.specs.FinMap as finite
 use Rattle.std.proofs.lemmas.Bool.{eqb-true}
 use Rattle.ubi_media.specs.declared.vid.VolKind.TheVariants as kind
@@ -32,7 +32,7 @@ share_of_pieces f size (p ∷ ps) (suc l) inside most full =
 module _ (s : Sizes) (bs : List (List ℕ)) (clean : NoFault s bs) (whole : AreLebs s bs) (t : Records)
     (alike : NoMismatch s bs t) (vol : ℕ) (r : VolumeRecord)
     (recorded : finite.get t.of vol ≡ Some r) (unmarked : r.marker ≡ false) (static : r.kind ≡ kind.Static)
-    (ps : List ℕ) (are : AreWhole s bs vol r ps) where
+    (ps : List ℕ) (are : HoldContents s bs vol r ps) where
   -- so the share of a LEB is the piece of its winner
   pub share_piece : (l p : ℕ) → l < length ps → Wins s bs (vol, l) p
       → share (usable s r) (flat_map (piece s bs) ps) l ≡ piece s bs p
@@ -64,10 +64,10 @@ module _ (s : Sizes) (bs : List (List ℕ)) (clean : NoFault s bs) (whole : AreL
   -- and its header gives the check of just that share
   pub header_at : (l p : ℕ) → l < length ps → Wins s bs (vol, l) p
       → (h : VidHeader) × (member s (block bs p) ≡ Some h)
-      × (h.data_crc ≡ check (share (usable s r) (flat_map (piece s bs) ps) l))
+      × (h.data_crc ≡ crc_of (share (usable s r) (flat_map (piece s bs) ps) l))
   header_at l p inside w =
       let same : slice_index ps l ≡ p = Wins-unique s bs (vol, l) (slice_index ps l) p clean (are.win l inside) w in
       let k = subst (IsPiece s bs (length ps)) same (are.pieces l inside) in
-      let right : check (take k.0.data_size (leb s (block bs p))) ≡ k.0.data_crc =
-      eqb-true (check (take k.0.data_size (leb s (block bs p)))) k.0.data_crc k.3 in
-      (k.0, k.1, sym right ∙ ap check (piece_by s bs p k.0 k.1 ∙ sym (share_piece l p inside w)))
+      let right : crc_of (take k.0.data_size (leb s (block bs p))) ≡ k.0.data_crc =
+      eqb-true (crc_of (take k.0.data_size (leb s (block bs p)))) k.0.data_crc k.3 in
+      (k.0, k.1, sym right ∙ ap crc_of (piece_by s bs p k.0 k.1 ∙ sym (share_piece l p inside w)))

@@ -1,5 +1,5 @@
 -- Each volume of eraseblocks that aren't refused reads something.
-use Rattle.ubi_volume.proofs.Prelude.{◌≡◌, ℕ, zero, suc, ◌+◌, ◌<◌, ◌≤◌, ◌⊎◌, inl, inr, false, List, [], ◌++◌, length, take, refl, ap, subst, arith, length-take, IsSome, None, Option, Some, FinMap, nat_cmp, cases_eq, length-replicate, same_Some, check, blank, is_blank, Sizes, leb_size, usable, VolumeRecord, VidHeader, VolKind, within_or_past, NoFault, block, leb, Leb, NoMember, Wins, member, named_in, false_or_true, winner_or_none, least_or, Records, NoMismatch, AreGathered, AreRead, ContentIs, PieceIs, UsedIs, used_in, LebReads, piece, Content}
+use Rattle.ubi_volume.proofs.Prelude.{◌≡◌, ℕ, zero, suc, ◌+◌, ◌<◌, ◌≤◌, ◌⊎◌, inl, inr, false, List, [], ◌++◌, length, take, refl, ap, subst, arith, length-take, IsSome, None, Option, Some, FinMap, nat_cmp, cases_eq, length-replicate, same_Some, crc_of, blank, is_blank, Sizes, leb_size, usable, VolumeRecord, VidHeader, VolKind, within_or_past, NoFault, block, leb, Leb, NoMember, Wins, member, named_in, false_or_true, winner_or_none, least_or, Records, NoMismatch, AreGatheredLebs, AreRead, ContentIs, PieceIs, UsedIs, used_in, LebReads, piece, Content}
 use Rattle.std.specs.FinMap as finite
 use Rattle.ubi_media.specs.declared.vid.VolKind.TheVariants as kind
 use Rattle.ubi_volume.specs.declared.content.Content.TheVariants as content
@@ -28,9 +28,9 @@ module _ (s : Sizes) (bs : List (List ℕ)) (vol : ℕ) (r : VolumeRecord) where
   ]
 
   -- and the LEBs below n
-  one_leb : (n : ℕ) (lebs : FinMap nat_cmp (List ℕ)) → AreGathered s bs vol r n lebs → (text : List ℕ)
+  one_leb : (n : ℕ) (lebs : FinMap nat_cmp (List ℕ)) → AreGatheredLebs s bs vol r n lebs → (text : List ℕ)
       → LebReads s bs vol r n text → length text ≡ usable s r
-      → (more : FinMap nat_cmp (List ℕ)) × AreGathered s bs vol r (n + 1) more
+      → (more : FinMap nat_cmp (List ℕ)) × AreGatheredLebs s bs vol r (n + 1) more
   one_leb n lebs h text reads long = elim (false_or_true (is_blank text)) [
     | inl e ↦ (
       lebs,
@@ -43,14 +43,14 @@ module _ (s : Sizes) (bs : List (List ℕ)) (vol : ℕ) (r : VolumeRecord) where
     )
   ]
 
-  some_lebs : AreLebs s bs → (n : ℕ) → (lebs : FinMap nat_cmp (List ℕ)) × AreGathered s bs vol r n lebs
+  some_lebs : AreLebs s bs → (n : ℕ) → (lebs : FinMap nat_cmp (List ℕ)) × AreGatheredLebs s bs vol r n lebs
   some_lebs whole zero = (finite.empty, gathered_none s bs vol r)
   some_lebs whole (suc n) =
       let old = some_lebs whole n in
       let here = some_leb whole n in
       let more = one_leb n old.0 old.1 here.0 here.1 here.2 in
       let next : n + 1 ≡ suc n = omega arith in
-      (more.0, subst (λ (k : ℕ). AreGathered s bs vol r k more.0) next more.1)
+      (more.0, subst (λ (k : ℕ). AreGatheredLebs s bs vol r k more.0) next more.1)
 
 module _ (s : Sizes) (bs : List (List ℕ)) (vol : ℕ) where
   -- a volume has a winner at a LEB or behind it, or it has none there
@@ -100,7 +100,7 @@ module _ (s : Sizes) (bs : List (List ℕ)) (clean : NoFault s bs) (vol used : �
       let text = take h.data_size (leb s (block bs p)) in
       elim (cases_eq h.used_ebs used) [
         | inr other ↦ (None, piece_unchecked s bs clean vol used lnum p h text w e refl (λ k. other k.0))
-        | inl u ↦ elim (cases_eq (check text) h.data_crc) [
+        | inl u ↦ elim (cases_eq (crc_of text) h.data_crc) [
           | inr other ↦ (None, piece_unchecked s bs clean vol used lnum p h text w e refl (λ k. other k.1))
           | inl right ↦ (Some text, piece_checked s bs clean vol used lnum p h text w e refl u right)
         ]

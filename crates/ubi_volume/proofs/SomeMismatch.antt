@@ -1,5 +1,5 @@
 -- Some eraseblock is unlike the record of its volume, or none is.
-use Rattle.ubi_volume.proofs.Prelude.{◌≡◌, ◌≢◌, ℕ, ◌⊎◌, inl, inr, List, length, refl, sym, ◌∙◌, subst, arith, None, Option, Some, cases_lt, cases_eq, Sizes, data_pad, VolumeRecord, Refusal, VidHeader, VolKind, NoFault, block, Leb, Wins, leb_of, member, false_or_true, Wins-unique, winner_or_none, least_or, header_of, Records, IsMismatched, IsUnlike, IsVolumeFault, IsWithin, NoMismatch, Disagrees}
+use Rattle.ubi_volume.proofs.Prelude.{◌≡◌, ◌≢◌, ℕ, ◌⊎◌, inl, inr, List, length, refl, sym, ◌∙◌, subst, arith, None, Option, Some, cases_lt, cases_eq, Sizes, data_pad, VolumeRecord, Refusal, VidHeader, VolKind, NoFault, block, Leb, Wins, leb_of, member, false_or_true, Wins-unique, winner_or_none, least_or, kept_header, Records, IsMismatched, IsUnlike, IsVolumeFault, IsWithin, NoMismatch, Disagrees}
 use Rattle.std.specs.FinMap as finite
 use Rattle.ubi_media.specs.declared.refusal.Refusal.TheVariants as refusal
 use Rattle.ubi_media.specs.declared.vid.VolKind.TheVariants as kind
@@ -31,7 +31,7 @@ unlike_or_not s r h = elim (kind_or_other h.kind r.kind) [
   ]
 ]
 
-disagrees_or_not : (s : Sizes) (r : VolumeRecord) (h : VidHeader) → Disagrees s r (header_of h) ⊎ (Disagrees s r (header_of h) → ⊥)
+disagrees_or_not : (s : Sizes) (r : VolumeRecord) (h : VidHeader) → Disagrees s r (kept_header h) ⊎ (Disagrees s r (kept_header h) → ⊥)
 disagrees_or_not s r h = elim (false_or_true r.marker) [
   | inl marked ↦ inr (λ d. (let e = d.0 in cc))
   | inr unmarked ↦ elim (within_or_not r h.lnum) [

@@ -1,7 +1,7 @@
 -- What surveying a source gives, by what its parts answered.
 use Rattle.ubi_volume.proofs.Prelude.{ℕ, ◌^◌, ◌<◌, List, sym, subst, Sizes, Found, Image, IsWholeSize, image_of, Agreed, Source, blocks_of, Records, Accepts, AreChecked, AreStatesOf, IsSurvey, IsSurveyOf, BlockState}
 use Rattle.ubi_volume.proofs.AttachedOf.{attached}
-use Rattle.ubi_volume.proofs.Either.{are_lebs, some_meaning}
+use Rattle.ubi_volume.proofs.AcceptedOrRefused.{are_lebs, some_meaning}
 use Rattle.ubi_volume.proofs.Recorded.{records_meant}
 
 module _ (s : Sizes) (k : Source) (agrees : Agreed) (found : Found) (t : Records) (states : List BlockState)

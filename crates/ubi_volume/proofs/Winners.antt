@@ -1,5 +1,5 @@
 -- What a scan's answers say about members and winners.
-use Rattle.ubi_volume.proofs.Prelude.{◌≡◌, ℕ, ◌≤◌, Bool, true, false, not, inl, inr, List, refl, ap, sym, ◌∙◌, subst, IfSome, IsSome, MatchOption, Option, Some, None, is_some, option_and_then, option_map, slice_get, then_some, same_Some, Sizes, EcRead, VidHeader, VidRead, block, ec, vid, IsMember, Leb, NoMember, Wins, has_members, header, leb_of, member, member_if, Found, IsNextWinner, IsScan, ScanState, WinnerHeaderIs, header_in}
+use Rattle.ubi_volume.proofs.Prelude.{◌≡◌, ℕ, ◌≤◌, Bool, true, false, not, inl, inr, List, refl, ap, sym, ◌∙◌, subst, IfSome, IsSome, MatchOption, Option, Some, None, is_some, option_and_then, option_map, slice_get, then_some, same_Some, Sizes, EcRead, VidHeader, VidRead, block, ec, vid, IsMember, Leb, NoMember, Wins, has_members, header, leb_of, member, member_if, Found, IsNextWinner, IsScan, ScanState, WinnerHeaderIs, winner_header}
 use Rattle.std.specs.FinMap as finite
 use Rattle.ubi_media.specs.declared.ec.EcRead.TheVariants as ec_read
 use Rattle.ubi_media.specs.declared.vid.VidRead.TheVariants as vid_read
@@ -81,7 +81,7 @@ module _ (s : Sizes) (bs : List (List ℕ)) (p : ℕ) where
   by_vid v is = ap (member_if (ec s (block bs p))) is
 
   -- what is kept of the header of an eraseblock in a state, where it wins
-  pub header_by_state : (x : ScanState) → scan_states.StateIs s bs p x → WinnerHeaderIs s bs p (header_in x)
+  pub header_by_state : (x : ScanState) → scan_states.StateIs s bs p x → WinnerHeaderIs s bs p (winner_header x)
   header_by_state state.Blank h = no_member (ap (λ e. member_if e (vid s (block bs p))) h)
   header_by_state state.Free h = no_member (by_vid vid_read.Blank h.1 ∙ none_blank (ec s (block bs p)))
   header_by_state state.Garbage h = no_member (by_vid vid_read.Corrupt h.1 ∙ none_corrupt (ec s (block bs p)))

@@ -11,7 +11,7 @@ use Rattle.ubi_media.specs.declared.refusal.Refusal.TheVariants as refusal
 use Rattle.ubi_media.specs.declared.vid.VidHeader.{VidHeader}
 use Rattle.ubi_media.specs.declared.vid.VolKind.TheVariants as kind
 use Rattle.ubi_scan.specs.Faults.{NoFault, IsScanFault}
-use Rattle.ubi_scan.specs.Image.{block, Image, IsWhole, IsSizeFault, in_image}
+use Rattle.ubi_scan.specs.Image.{block, Image, IsWholeImage, IsSizeFault, of_blocks}
 use Rattle.ubi_scan.specs.Members.{member, Wins}
 use Rattle.ubi_table.specs.Records.{Records}
 use Rattle.ubi_table.specs.Table.{IsTable, IsTableFault}
@@ -23,7 +23,7 @@ abbrev pub IsWithin : VolumeRecord → ℕ → Type 0
 IsWithin r lnum = r.kind ≡ kind.Dynamic → lnum < r.reserved
 
 -- p is a counted winner, of a volume with this record
-pub record IsCounted (s : Sizes) (bs : List (List ℕ)) (t : Records) (r : VolumeRecord) (p : ℕ) : Type 0 where
+pub record IsWinnerOf (s : Sizes) (bs : List (List ℕ)) (t : Records) (r : VolumeRecord) (p : ℕ) : Type 0 where
   pub vol : ℕ
   pub lnum : ℕ
   pub wins : Wins s bs (vol, lnum) p
@@ -37,7 +37,7 @@ IsUnlike s r h = (h.kind ≢ r.kind) ⊎ (h.data_pad ≢ data_pad s r)
 -- p is a counted winner of an unmarked volume, and is unlike its record
 abbrev pub IsMismatched : Sizes → List (List ℕ) → Records → ℕ → Type 0
 IsMismatched s bs t p =
-    (r : VolumeRecord) × (h : VidHeader) × IsCounted s bs t r p × (r.marker ≡ false)
+    (r : VolumeRecord) × (h : VidHeader) × IsWinnerOf s bs t r p × (r.marker ≡ false)
     × (member s (block bs p) ≡ Some h) × IsUnlike s r h
 
 -- no eraseblock is mismatched
@@ -66,12 +66,12 @@ RefusesBlocks s bs c =
 
 -- an image is accepted with the meaning m
 pub record Accepts (image : Image) (m : Meant) : Type 0 where
-  pub whole : IsWhole image
-  pub accepted : in_image AcceptsBlocks image m
+  pub whole : IsWholeImage image
+  pub accepted : of_blocks AcceptsBlocks image m
 
 -- an image is refused for c: for its length, or else for its eraseblocks
 abbrev pub Refuses : Image → Refusal → Type 0
-Refuses image c = IsSizeFault image c ⊎ (IsWhole image × in_image RefusesBlocks image c)
+Refuses image c = IsSizeFault image c ⊎ (IsWholeImage image × of_blocks RefusesBlocks image c)
 
 -- an error: memory ran out, or a cause for which the image is refused
 abbrev pub IsAttachError : Image → AttachError → Type 0

@@ -34,13 +34,13 @@ Stands s items (cause.ContentRange i) =
     (e : ℕ × Volume) × IsItem items i e × (Fits s e.1.entry e.1.content → ⊥)
 
 -- the place of a cause among the causes
-abbrev pub rank : MeaningCause → ℕ
-rank (cause.IdRange _) = 1
-rank (cause.SameId _) = 2
-rank (cause.Record _ _) = 3
-rank (cause.SameName _ _) = 4
-rank cause.NoSpace = 5
-rank (cause.ContentRange _) = 6
+abbrev pub cause_rank : MeaningCause → ℕ
+cause_rank (cause.IdRange _) = 1
+cause_rank (cause.SameId _) = 2
+cause_rank (cause.Record _ _) = 3
+cause_rank (cause.SameName _ _) = 4
+cause_rank cause.NoSpace = 5
+cause_rank (cause.ContentRange _) = 6
 
 -- the item of a cause
 abbrev pub item : MeaningCause → ℕ
@@ -53,10 +53,10 @@ item (cause.ContentRange i) = i
 
 -- c is tried before d
 abbrev pub IsBefore : MeaningCause → MeaningCause → Type 0
-IsBefore c d = (rank c < rank d) ⊎ ((rank c ≡ rank d) × (item c < item d))
+IsBefore c d = (cause_rank c < cause_rank d) ⊎ ((cause_rank c ≡ cause_rank d) × (item c < item d))
 
 -- the first cause that applies
-pub record IsFirst (s : Sizes) (items : Items) (c : MeaningCause) : Type 0 where
+pub record IsFirstMade (s : Sizes) (items : Items) (c : MeaningCause) : Type 0 where
   pub stands : Stands s items c
   pub first : (d : MeaningCause) → IsBefore d c → Stands s items d → ⊥
 

@@ -7,7 +7,7 @@ use Rattle.ubi_media.specs.declared.refusal.Refusal.{Refusal}
 use Rattle.ubi_media.specs.declared.refusal.Refusal.TheVariants as refusal
 use Rattle.ubi_scan.specs.Image.{Image}
 use Rattle.ubi_volume.specs.Accepts.{Accepts, Refuses}
-use Rattle.ubi_volume.specs.Attached.{IsAttached, Whole}
+use Rattle.ubi_volume.specs.Attached.{IsAttached, AttachValue}
 use Rattle.ubi_volume.specs.Meant.{Meant}
 
 -- the same bytes under sizes with another page
@@ -26,7 +26,7 @@ meaning_with_page m page = record m { sizes = with_page m.sizes page }
 pub record LesserPage : Type 0 where
   pub accepted : (image : Image) (m : Meant) (page : ℕ) → page ∣ image.sizes.page → Accepts image m
       → Accepts (image_with_page image page) (meaning_with_page m page)
-  pub attached : (image : Image) (a : Whole) (page : ℕ) → page ∣ image.sizes.page → IsAttached image a
+  pub attached : (image : Image) (a : AttachValue) (page : ℕ) → page ∣ image.sizes.page → IsAttached image a
       → IsAttached (image_with_page image page) (record a { meaning = meaning_with_page a.meaning page })
   pub refused : (image : Image) (m : Meant) (c : Refusal) (page : ℕ) → page ∣ image.sizes.page
       → Refuses (image_with_page image page) c → Accepts image m → ⊥

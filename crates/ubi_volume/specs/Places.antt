@@ -7,7 +7,7 @@ use Rattle.ubi_media.specs.Geometry.{Sizes}
 use Rattle.ubi_media.specs.Record.{usable}
 use Rattle.ubi_media.specs.declared.record.VolumeRecord.{VolumeRecord}
 use Rattle.ubi_media.specs.declared.vid.VolKind.TheVariants as kind
-use Rattle.ubi_scan.specs.Image.{Image, IsLengthFault, IsWholeSize, image_of, in_image}
+use Rattle.ubi_scan.specs.Image.{Image, IsLengthFault, IsWholeSize, image_of, of_blocks}
 use Rattle.ubi_scan.specs.Members.{Leb}
 use Rattle.ubi_scan.specs.Scan.{AreWinners, leb_cmp}
 use Rattle.ubi_scan.specs.Source.{Agreed, Source, WhereHeld, blocks_in, blocks_of}
@@ -74,7 +74,7 @@ pub record ArePlaces (image : Image) (p : Placed) : Type 0 where
   pub accepted : Accepts image meaning
   pub records : p.records ≡ records_of meaning
   pub image_seq : p.image_seq ≡ meaning.image_seq
-  pub winners : in_image AreWinners image p.winners
+  pub winners : of_blocks AreWinners image p.winners
   pub contents : (id : ℕ) (v : Volume) → get meaning.volumes id ≡ Some v → get p.contents id ≡ Some (case_of image.sizes v.entry v.content)
 
 -- what attaching a source gives

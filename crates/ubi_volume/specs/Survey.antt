@@ -10,7 +10,7 @@ use Rattle.ubi_scan.specs.Source.{Agreed, Source, WhereHeld, blocks_in}
 use Rattle.ubi_scan.specs.Stream.{IsScanOf}
 use Rattle.ubi_table.specs.Coded.{records_code}
 use Rattle.ubi_table.specs.Records.{Records}
-use Rattle.ubi_volume.specs.Attached.{IsAttached, Whole}
+use Rattle.ubi_volume.specs.Attached.{IsAttached, AttachValue}
 use Rattle.ubi_volume.specs.Meant.{Meant, records_of}
 use Rattle.ubi_volume.specs.Places.{case_of}
 use Rattle.ubi_volume.specs.declared.attached.BlockState.{BlockState}
@@ -47,7 +47,7 @@ pub record IsSurveyOf (s : Sizes) (k : Source) (agrees : Agreed) (v : Seen) : Ty
   pub held : WhereHeld agrees (λ bytes. IsSurvey (image_of s bytes) v)
 
 -- what attaching a source gives is right for the image, whatever the source may hold
-abbrev pub IsAttachedOf : Sizes → Agreed → Whole → Type 0
+abbrev pub IsAttachedOf : Sizes → Agreed → AttachValue → Type 0
 IsAttachedOf s agrees a = WhereHeld agrees (λ bytes. IsAttached (image_of s bytes) a)
 
 -- the case and size of what a volume of the image reads, by the meaning that was surveyed

@@ -1,7 +1,7 @@
 -- The contents of a static volume, piece by piece.
 use Rattle.std.specs.Prelude.{◌≡◌, ◌≢◌, ℕ, ◌≤◌, ◌⊎◌, List, None, Option, MatchOption, Some}
 use Rattle.std.specs.Option.{option_map_or}
-use Rattle.ubi_media.specs.Check.{check}
+use Rattle.ubi_media.specs.Check.{crc_of}
 use Rattle.ubi_media.specs.Geometry.{Sizes}
 use Rattle.ubi_media.specs.declared.record.VolumeRecord.{VolumeRecord}
 use Rattle.ubi_scan.specs.Image.{block}
@@ -29,7 +29,7 @@ PieceIs s bs vol used lnum held = MatchOption held
 abbrev pub RawIs : Sizes → List (List ℕ) → ℕ → ℕ → ℕ → Option (List ℕ × ℕ) → Type 0
 RawIs s bs vol used lnum None = PieceIs s bs vol used lnum None
 RawIs s bs vol used lnum (Some (text, crc)) =
-    (check text ≡ crc → PieceIs s bs vol used lnum (Some text)) × (check text ≢ crc → PieceIs s bs vol used lnum None)
+    (crc_of text ≡ crc → PieceIs s bs vol used lnum (Some text)) × (crc_of text ≢ crc → PieceIs s bs vol used lnum None)
 
 -- how many LEBs hold a static volume's contents, which are whole if all their pieces are there; or none, if they aren't whole
 abbrev pub TextLebs : Sizes → List (List ℕ) → ℕ → VolumeRecord → Option ℕ → Type 0

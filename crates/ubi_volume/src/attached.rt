@@ -58,10 +58,10 @@ pub struct Attached {
 }
 
 impl Model for Attached {
-    ghost use Rattle.ubi_volume.specs.Attached.{Whole};
+    ghost use Rattle.ubi_volume.specs.Attached.{AttachValue};
     ghost use Rattle.ubi_volume.specs.Coded.{whole_code};
 
-    ghost Value = { Whole };
+    ghost Value = { AttachValue };
 
     ghost coded = { whole_code };
 

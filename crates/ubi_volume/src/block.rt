@@ -11,7 +11,7 @@ ghost use Rattle.ubi_scan.specs.Stream.{IsReadFault, NamesBlock, after};
 ghost use Rattle.ubi_volume.specs.Amounts.{AmountIs};
 ghost use Rattle.ubi_volume.specs.Extract.{leb_bytes};
 ghost use Rattle.ubi_volume.specs.Places.{ArePlaces, ArePlacesOf};
-ghost use Rattle.ubi_volume.specs.inner.Gathered.{AreKept};
+ghost use Rattle.ubi_volume.specs.inner.Gathered.{AreKeptLebs};
 
 use crate::places::{PlaceContent, Places};
 use ubi_media::{Geometry, VolumeRecord, is_blank};
@@ -172,7 +172,7 @@ fn count_kept<S: BlockSource>(
     requires room { length buffer.old ≡ geometry.now.peb_size }
     ensures known { S.known source.new ≡ after (S.known source.old) result }
     ensures narrows { Narrows (S.agrees source.old) (S.agrees source.new) }
-    ensures count { IfOk result (λ count. WhereHeld (S.agrees source.new) (λ bytes. AreKept geometry.now (blocks_of geometry.now bytes) id entry.now entry.now.reserved count)) }
+    ensures count { IfOk result (λ count. WhereHeld (S.agrees source.new) (λ bytes. AreKeptLebs geometry.now (blocks_of geometry.now bytes) id entry.now entry.now.reserved count)) }
     ensures failed { IfErr result (IsReadFault (blocks_in geometry.now (S.known source.old))) }
     ensures named { IfErr result (NamesBlock geometry.now (S.failed_at source.new)) }
 {

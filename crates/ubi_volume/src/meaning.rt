@@ -7,7 +7,7 @@ ghost use Rattle.ubi_media.specs.Fields.{same_bytes};
 ghost use Rattle.ubi_media.specs.Geometry.{IsGeometry};
 ghost use Rattle.ubi_media.specs.Record.{rec_fault};
 ghost use Rattle.ubi_volume.specs.EqualMeanings.{same_meaning, same_meaning_per};
-ghost use Rattle.ubi_volume.specs.Made.{IsFirst, NoCause, meaning_of, item_without_blank};
+ghost use Rattle.ubi_volume.specs.Made.{IsFirstMade, NoCause, meaning_of, item_without_blank};
 ghost use Rattle.ubi_volume.specs.Meant.{IsMeaning, VolumeMap, Fits};
 ghost use Rattle.ubi_volume.specs.MeantCoded.{AreVolumes};
 ghost use Rattle.ubi_volume.specs.inner.Making.{IsFirstOf};
@@ -73,7 +73,7 @@ impl Meaning {
         volumes: Vec<(u32, Volume)>,
     ) -> Result<Meaning, MeaningError>
         ensures made { IfOk result (λ m. NoCause geometry.now volumes.items × (m ≡ meaning_of geometry.now image_seq volumes.items)) }
-        ensures cause { IfErr result (λ e. IsFirst geometry.now volumes.items e.cause) }
+        ensures cause { IfErr result (λ e. IsFirstMade geometry.now volumes.items e.cause) }
         ensures returned { IfErr result (λ e. e.volumes.items ≡ volumes.items) }
         ensures meaning { IfOk result IsMeaning }
     {
@@ -253,7 +253,7 @@ fn content_range(geometry: &Geometry, volumes: &[(u32, Volume)]) -> Option<Meani
 
 /// The first cause for which volumes have no meaning together. `None` if they have one.
 fn first_cause(geometry: &Geometry, volumes: &[(u32, Volume)]) -> Option<MeaningCause>
-    ensures { MatchOption result (NoCause geometry.now volumes.now) (IsFirst geometry.now volumes.now) }
+    ensures { MatchOption result (NoCause geometry.now volumes.now) (IsFirstMade geometry.now volumes.now) }
 {
     if let Some(cause) = id_range(geometry, volumes) {
         return Some(cause);

@@ -10,10 +10,10 @@ ghost use Rattle.ubi_scan.specs.Scan.{IsScan};
 ghost use Rattle.ubi_scan.specs.Source.{Narrows};
 ghost use Rattle.ubi_scan.specs.Stream.{NamesBlock, after};
 ghost use Rattle.ubi_volume.specs.Accepts.{IsAttachError, IsMismatched, IsVolumeFault, NoMismatch, IsWithin};
-ghost use Rattle.ubi_volume.specs.Attached.{AreStates, IsOutside, StateIs};
+ghost use Rattle.ubi_volume.specs.Attached.{AreBlockStates, IsOutside, BlockStateIs};
 ghost use Rattle.ubi_volume.specs.Places.{ArePlacesError};
 ghost use Rattle.ubi_volume.specs.Survey.{IsSurvey, IsSurveyOf};
-ghost use Rattle.ubi_volume.specs.inner.Headers.{WinnerHeaderIs, header_in, Disagrees, IsOther};
+ghost use Rattle.ubi_volume.specs.inner.Headers.{WinnerHeaderIs, winner_header, Disagrees, IsOther};
 ghost use Rattle.ubi_volume.specs.inner.Surveying.{MemberStateIs, AreChecked};
 
 use crate::attached::BlockState;
@@ -188,7 +188,7 @@ fn member_state(table: &Table, leb: Leb, wins: bool) -> BlockState
 
 /// The state of an eraseblock, by what a scan says of it.
 fn state_of(table: &Table, state: ScanState) -> BlockState
-    ensures { (s : Sizes) (bs : List (List ℕ)) (p : ℕ) → scanned.StateIs s bs p state → StateIs s bs table.now p result }
+    ensures { (s : Sizes) (bs : List (List ℕ)) (p : ℕ) → scanned.StateIs s bs p state → BlockStateIs s bs table.now p result }
 {
     match state {
         ScanState::Blank => BlockState::Blank,
@@ -214,7 +214,7 @@ pub fn states_of(
 ) -> Result<Vec<BlockState>, AllocError>
     requires { count ≡ length scan.now.states }
     ensures count { IfOk result (λ states. length states.items ≡ count) }
-    ensures states { IfOk result (λ states. (s : Sizes) (bs : List (List ℕ)) → IsScan s bs scan.now → AreStates s bs table.now states.items) }
+    ensures states { IfOk result (λ states. (s : Sizes) (bs : List (List ℕ)) → IsScan s bs scan.now → AreBlockStates s bs table.now states.items) }
 {
     let mut states = Vec::new(alloc);
     for p in 0..count {
@@ -226,7 +226,7 @@ pub fn states_of(
 
 /// What a scan keeps of the header of a winner.
 fn header_in(state: ScanState) -> Option<MemberHeader>
-    ensures { result ≡ header_in state }
+    ensures { result ≡ winner_header state }
 {
     match state {
         ScanState::Winner(header) => Some(header),

@@ -17,8 +17,8 @@
 //! ```
 #![tactic(auto)]
 
-mod cutting;
+mod at_byte;
 mod decimal;
 
-pub use cutting::cut;
+pub use at_byte::cut;
 pub use decimal::{decimal_of, decimal_within, number_of, number_within};

@@ -2,11 +2,11 @@
 use Rattle.std.specs.Prelude.{◌≡◌, ℕ, List, Result, Ok, Err, length}
 use Rattle.std.specs.declared.alloc.AllocError.{AllocError}
 use Rattle.ubi_files.specs.declared.outcome.Outcome.{Outcome}
-use Rattle.ubi_calls.specs.Calls.{put}
+use Rattle.ubi_calls.specs.Calls.{put_into}
 
 -- the buffer has the first of the bytes, and the length and the status are theirs
 abbrev pub Leaves : List ℕ → ℕ → List ℕ → List ℕ → ℕ → ℕ → Type 0
-Leaves bytes status old new len result = (new ≡ put bytes old) × (len ≡ length bytes) × (result ≡ status)
+Leaves bytes status old new len result = (new ≡ put_into bytes old) × (len ≡ length bytes) × (result ≡ status)
 
 -- the buffer is as it was, and the status says that memory ran out
 abbrev pub LeavesNothing : List ℕ → List ℕ → ℕ → ℕ → Type 0

@@ -12,29 +12,29 @@ use Rattle.ubi_scan.specs.Source.{Agreed, Source}
 use Rattle.ubi_scan.specs.declared.errors.StreamError.{StreamError}
 use Rattle.ubi_scan.specs.declared.errors.StreamError.TheVariants as stream
 use Rattle.ubi_table.specs.Records.{Records}
-use Rattle.ubi_volume.specs.Attached.{Whole}
+use Rattle.ubi_volume.specs.Attached.{AttachValue}
 use Rattle.ubi_volume.specs.Survey.{Seen}
 use Rattle.ubi_change.specs.Plan.{blank_header, copy_header, needs}
 use Rattle.ubi_change.specs.Refused.{first_of, is_bad_length}
 use Rattle.ubi_change.specs.Avoided.{Avoided, states_avoiding}
 use Rattle.ubi_change.specs.Takeable.{takeable}
-use Rattle.ubi_change.specs.Weak.{weak_place}
+use Rattle.ubi_change.specs.Weak.{weak_pages}
 use Rattle.ubi_change.specs.inner.Sites.{FitsIn, HasCounter, IsSiteAt, copy_on, mount_on, ready_on}
 use Rattle.ubi_change.specs.inner.Taking.{IsGroundOf}
-use Rattle.ubi_change.specs.declared.plan_error.PlanError.{PlanError}
-use Rattle.ubi_change.specs.declared.plan_error.PlanError.TheVariants as plan
-use Rattle.ubi_change.specs.declared.planning.Prepared.{Prepared}
-use Rattle.ubi_change.specs.declared.site.Site.{Site}
+use Rattle.ubi_change.specs.declared.errors.PlanError.{PlanError}
+use Rattle.ubi_change.specs.declared.errors.PlanError.TheVariants as plan
+use Rattle.ubi_change.specs.declared.change.Prepared.{Prepared}
+use Rattle.ubi_change.specs.declared.sites.Site.{Site}
 use Rattle.ubi_change.specs.declared.sites.Sites.{Sites as OnSites}
 use Rattle.ubi_change.specs.declared.sites.Sites.TheVariants as on
-use Rattle.ubi_change.specs.declared.target.Target.{Target}
-use Rattle.ubi_change.specs.declared.refusal.ChangeRefusal.{ChangeRefusal}
-use Rattle.ubi_change.specs.declared.refusal.ChangeRefusal.TheVariants as refusal
+use Rattle.ubi_change.specs.declared.plan_steps.Target.{Target}
+use Rattle.ubi_change.specs.declared.errors.ChangeRefusal.{ChangeRefusal}
+use Rattle.ubi_change.specs.declared.errors.ChangeRefusal.TheVariants as refusal
 use Rattle.ubi_change.specs.declared.step.Step.{Step}
-use Rattle.ubi_change.specs.declared.taking.FirstTwo.{FirstTwo}
+use Rattle.ubi_change.specs.declared.takeable.FirstTwo.{FirstTwo}
 
 -- what attaching shows of an image that is surveyed, except the volumes that it means: the steps don't depend on them
-abbrev pub shown : Seen → Whole
+abbrev pub shown : Seen → AttachValue
 shown v = record { meaning = record { sizes = v.records.sizes; image_seq = v.scan.image_seq; volumes = empty }; scan = v.scan; states = v.states }
 
 -- the causes that don't depend on the image, each if it applies
@@ -44,11 +44,11 @@ own_causes s r lnum new =
     ∷ then_some r.marker refusal.Updating
     ∷ then_some (not (nat_lt lnum r.reserved)) refusal.OutOfRange
     ∷ then_some (is_bad_length s (usable s r) (length new)) refusal.BadLength
-    ∷ option_map refusal.WeakCheck (weak_place s new)
+    ∷ option_map refusal.WeakCheck (weak_pages s new)
     ∷ []
 
 -- the causes that depend on which eraseblocks can be taken
-abbrev pub image_causes : Sizes → List (List ℕ) → Whole → ℕ → ℕ → List (Option ChangeRefusal)
+abbrev pub image_causes : Sizes → List (List ℕ) → AttachValue → ℕ → ℕ → List (Option ChangeRefusal)
 image_causes s bs a id lnum =
     then_some (nat_lt 0xFFFFFFFFFFFFFFFF (a.scan.top_sqnum + needs s bs a id lnum)) refusal.Exhausted
     ∷ then_some (nat_lt (length (takeable s bs a.states)) (needs s bs a id lnum)) refusal.NoFree
@@ -82,9 +82,9 @@ IsTargetRefusal s t id lnum new c =
     ⊎ ((r : VolumeRecord) × (get t.of id ≡ Some r) × (first_of (own_causes s r lnum new) ≡ Some c))
 
 -- how many eraseblocks and sequence numbers a change needs
-abbrev pub needed : Option Site → ℕ
-needed (Some old) = 1
-needed None = 2
+abbrev pub change_needs : Option Site → ℕ
+change_needs (Some old) = 1
+change_needs None = 2
 
 -- the eraseblocks that a plan works on: the winner, if the LEB has one, and those that are taken
 abbrev pub AreSites : Found → Option Site → FirstTwo → OnSites → Type 0
@@ -99,9 +99,9 @@ IsTooFew winner taken = (taken.first ≡ None) ⊎ ((winner ≡ None) × (taken.
 
 -- why there are no such eraseblocks
 abbrev pub IsSitesRefusal : Found → Option Site → FirstTwo → ChangeRefusal → Type 0
-IsSitesRefusal scan winner taken refusal.Exhausted = 0xFFFFFFFFFFFFFFFF < scan.top_sqnum + needed winner
+IsSitesRefusal scan winner taken refusal.Exhausted = 0xFFFFFFFFFFFFFFFF < scan.top_sqnum + change_needs winner
 IsSitesRefusal scan winner taken refusal.NoFree =
-    (scan.top_sqnum + needed winner ≤ 0xFFFFFFFFFFFFFFFF) × IsTooFew winner taken
+    (scan.top_sqnum + change_needs winner ≤ 0xFFFFFFFFFFFFFFFF) × IsTooFew winner taken
 IsSitesRefusal scan winner taken _ = ⊥
 
 -- what is needed to write the steps: erase counters of 31 bits, and sequence numbers of 64
@@ -153,7 +153,7 @@ IsNoWrite (stream.Write _) = ⊥
 IsNoWrite _ = Unit {0}
 
 -- what such an error says about a plan
-abbrev pub from_stream : StreamError → PlanError ChangeRefusal
-from_stream (stream.Refused c) = plan.Refused (refusal.Attach c)
-from_stream (stream.Read p written) = plan.Read p
-from_stream _ = plan.Refused refusal.Memory
+abbrev pub change_error : StreamError → PlanError ChangeRefusal
+change_error (stream.Refused c) = plan.Refused (refusal.Attach c)
+change_error (stream.Read p written) = plan.Read p
+change_error _ = plan.Refused refusal.Memory

@@ -16,18 +16,18 @@ use Rattle.ubi_volume.specs.Survey.{Seen}
 use Rattle.ubi_change.specs.RenamePlan.{layout_header, table_pages}
 use Rattle.ubi_change.specs.RenameRefused.{BothGood}
 use Rattle.ubi_change.specs.Avoided.{Avoided, states_avoiding}
-use Rattle.ubi_change.specs.Weak.{weak_place}
+use Rattle.ubi_change.specs.Weak.{weak_pages}
 use Rattle.ubi_change.specs.inner.Sites.{FitsIn, HasCounter, copy_on, site_at}
 use Rattle.ubi_change.specs.inner.Taking.{IsGroundOf}
-use Rattle.ubi_change.specs.declared.holders.Holders.{Holders}
-use Rattle.ubi_change.specs.declared.plan_error.PlanError.{PlanError}
-use Rattle.ubi_change.specs.declared.plan_error.PlanError.TheVariants as plan
-use Rattle.ubi_change.specs.declared.renaming.Renamable.{Renamable}
-use Rattle.ubi_change.specs.declared.rename_refusal.RenameRefusal.{RenameRefusal}
-use Rattle.ubi_change.specs.declared.rename_refusal.RenameRefusal.TheVariants as refusal
-use Rattle.ubi_change.specs.declared.spares.Spares.{Spares}
+use Rattle.ubi_change.specs.declared.copies.Holders.{Holders}
+use Rattle.ubi_change.specs.declared.errors.PlanError.{PlanError}
+use Rattle.ubi_change.specs.declared.errors.PlanError.TheVariants as plan
+use Rattle.ubi_change.specs.declared.rename.Renamable.{Renamable}
+use Rattle.ubi_change.specs.declared.errors.RenameRefusal.{RenameRefusal}
+use Rattle.ubi_change.specs.declared.errors.RenameRefusal.TheVariants as refusal
+use Rattle.ubi_change.specs.declared.sites.Spares.{Spares}
 use Rattle.ubi_change.specs.declared.step.Step.{Step}
-use Rattle.ubi_change.specs.declared.taking.FirstTwo.{FirstTwo}
+use Rattle.ubi_change.specs.declared.takeable.FirstTwo.{FirstTwo}
 
 -- the first entry of another volume that has a name
 abbrev pub other_named : ℕ → List ℕ → List (ℕ × VolumeRecord) → Option (ℕ × VolumeRecord)
@@ -115,7 +115,7 @@ pub record AreCopiesOf (s : Sizes) (r : Renamable) (id : ℕ) (name : List ℕ) 
   pub may : IsNamable r.ground.surveyed.records id name
   pub old : Holders
   pub holders : r.holders ≡ Some old
-  pub strong : weak_place s (pages_for s r id name) ≡ None
+  pub strong : weak_pages s (pages_for s r id name) ≡ None
   pub two : Spares
   pub spares : AreSpares r.ground.surveyed.scan r.ground.taken two
   pub bytes : AreBytes (pages_for s r id name)
@@ -128,12 +128,12 @@ IsUnrenamed s r id name c =
     ⊎ (IsNamable r.ground.surveyed.records id name
     × (((r.holders ≡ None) × (c ≡ refusal.NeedsRepair))
     ⊎ ((old : Holders) × (r.holders ≡ Some old)
-    × (((k : ℕ) × (weak_place s (pages_for s r id name) ≡ Some k) × (c ≡ refusal.WeakCheck k))
-    ⊎ ((weak_place s (pages_for s r id name) ≡ None)
+    × (((k : ℕ) × (weak_pages s (pages_for s r id name) ≡ Some k) × (c ≡ refusal.WeakCheck k))
+    ⊎ ((weak_pages s (pages_for s r id name) ≡ None)
     × (IsSparesRefusal r.ground.surveyed.scan r.ground.taken c ⊎ (c ≡ refusal.Memory)))))))
 
 -- what an error of a call that writes nothing says about a plan
-abbrev pub from_stream : StreamError → PlanError RenameRefusal
-from_stream (stream.Refused c) = plan.Refused (refusal.Attach c)
-from_stream (stream.Read p written) = plan.Read p
-from_stream _ = plan.Refused refusal.Memory
+abbrev pub rename_error : StreamError → PlanError RenameRefusal
+rename_error (stream.Refused c) = plan.Refused (refusal.Attach c)
+rename_error (stream.Read p written) = plan.Read p
+rename_error _ = plan.Refused refusal.Memory

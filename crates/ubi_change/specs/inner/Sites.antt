@@ -12,7 +12,7 @@ use Rattle.ubi_scan.specs.Source.{Agreed, Source, WhereHeld, blocks_in, blocks_o
 use Rattle.ubi_volume.specs.declared.attached.BlockState.{BlockState}
 use Rattle.ubi_change.specs.Plan.{next_ec, program_header, program_text, renew}
 use Rattle.ubi_change.specs.Takeable.{ec_at, is_clean, is_free, is_worn}
-use Rattle.ubi_change.specs.declared.site.Site.{Site}
+use Rattle.ubi_change.specs.declared.sites.Site.{Site}
 use Rattle.ubi_change.specs.declared.step.Step.{Step}
 
 -- what has to be known of p

@@ -11,9 +11,9 @@ use Rattle.ubi_change.specs.inner.Sites.{FitsIn, site_at}
 use Rattle.ubi_change.specs.declared.ground.Ground.{Ground}
 use Rattle.ubi_change.specs.Steps.{target}
 use Rattle.ubi_change.specs.declared.step.Step.{Step}
-use Rattle.ubi_change.specs.declared.site.Site.{Site}
-use Rattle.ubi_change.specs.declared.taking.FirstTwo.{FirstTwo}
-use Rattle.ubi_change.specs.declared.taking.Parted.{Parted}
+use Rattle.ubi_change.specs.declared.sites.Site.{Site}
+use Rattle.ubi_change.specs.declared.takeable.FirstTwo.{FirstTwo}
+use Rattle.ubi_change.specs.declared.takeable.Parted.{Parted}
 
 -- the first two of some eraseblocks
 abbrev pub first_two : List Site → FirstTwo

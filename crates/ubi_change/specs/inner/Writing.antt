@@ -4,7 +4,7 @@ use Rattle.std.specs.List.{concat}
 use Rattle.ubi_media.specs.Geometry.{Sizes}
 use Rattle.ubi_scan.specs.Image.{block}
 use Rattle.ubi_scan.specs.Source.{blocks_of}
-use Rattle.ubi_change.specs.Steps.{after, block_after, target}
+use Rattle.ubi_change.specs.Steps.{blocks_after, block_after, target}
 use Rattle.ubi_change.specs.declared.step.Step.{Step}
 
 -- the eraseblock p after a step, which may be on another
@@ -22,4 +22,4 @@ block_text s p steps image text = text ≡ block_cut s p steps (block (blocks_of
 -- the first p eraseblocks of an image, which has n of them, after the steps
 abbrev pub front_text : Sizes → ℕ → ℕ → List Step → List ℕ → List ℕ → Type 0
 front_text s n p steps image text =
-    (length (blocks_of s image) ≡ n) × (text ≡ concat (take p (after s (blocks_of s image) steps (length steps))))
+    (length (blocks_of s image) ≡ n) × (text ≡ concat (take p (blocks_after s (blocks_of s image) steps (length steps))))

@@ -42,6 +42,6 @@ pub data IsUnreadSide (work : Result Outcome SidesError) (left right : List ℕ)
       → IsUnreadSide work left right o
 
 -- why a refusal to read isn't printed: memory ran out, or it isn't a refusal
-abbrev pub IsUntold : ReadError → ToolError → Type 0
-IsUntold e tool.Memory = Unit {0}
-IsUntold e fault = read_refusal e ≡ Err fault
+abbrev pub IsHidden : ReadError → ToolError → Type 0
+IsHidden e tool.Memory = Unit {0}
+IsHidden e fault = read_refusal e ≡ Err fault

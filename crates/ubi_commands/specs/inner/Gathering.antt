@@ -4,8 +4,8 @@ use Rattle.ubi_media.specs.Geometry.{Sizes}
 use Rattle.ubi_media.specs.declared.record.VolumeRecord.{VolumeRecord}
 use Rattle.ubi_config.specs.Records.{record_in}
 use Rattle.ubi_config.specs.declared.section.Section.{Section}
-use Rattle.ubi_compose.specs.declared.recipe.Part.{Part}
-use Rattle.ubi_commands.specs.Build.{AreGathered, IsUnreadLine, Sized, image_path, len_of, part_at}
+use Rattle.ubi_compose.specs.declared.built_image.Part.{Part}
+use Rattle.ubi_commands.specs.Build.{AreGathered, IsUnreadLine, Sized, image_path, len_of, section_part}
 use Rattle.ubi_files.specs.Disk.{Files}
 use Rattle.ubi_files.specs.declared.outcome.Outcome.{Outcome}
 use Rattle.std.specs.Prelude.{Contains}
@@ -14,19 +14,19 @@ use Rattle.ubi_commands.specs.Build.{image_paths}
 
 -- the image file of a section was found, if it names one: what it holds, if that is known, and its size in bytes; and the line
 -- that is answered if it can't be read, or else that of the config
-abbrev pub IsFound : Files → List ℕ → Section → Outcome → Option (Option (List ℕ) × ℕ) → Type 0
-IsFound d config x unread file = MatchOption x.image ((file ≡ None) × IsUnreadLine config unread)
+abbrev pub IsFoundFile : Files → List ℕ → Section → Outcome → Option (Option (List ℕ) × ℕ) → Type 0
+IsFoundFile d config x unread file = MatchOption x.image ((file ≡ None) × IsUnreadLine config unread)
     (λ image. (held : Option (List ℕ)) × (n : ℕ) × (file ≡ Some (held, n)) × (held ≡ d.holds (image_path config image))
     × IfSome held (λ all. length all ≡ n) × IsUnreadLine (image_path config image) unread)
 
 -- the part is the volume of a section, whose bytes begin at a place
-abbrev pub IsPartOf : Sizes → ℕ → Sized → Part → Type 0
-IsPartOf s start e p = (r : VolumeRecord) × (record_in s e.0 e.1 ≡ Ok r) × (p ≡ part_at start e r)
+abbrev pub IsSectionPart : Sizes → ℕ → Sized → Part → Type 0
+IsSectionPart s start e p = (r : VolumeRecord) × (record_in s e.0 e.1 ≡ Ok r) × (p ≡ section_part start e r)
 
 -- an element, if there is one, as a list
-abbrev pub listed : {X : Type 0} → Option X → List X
-listed None = []
-listed (Some x) = x ∷ []
+abbrev pub as_list : {X : Type 0} → Option X → List X
+as_list None = []
+as_list (Some x) = x ∷ []
 
 -- what sections give so far, whose files have this many bytes together
 pub record AreSoFar (d : Files) (s : Sizes) (config : List ℕ) (sections : List Section) (parts : List Part)

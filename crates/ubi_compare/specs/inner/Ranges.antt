@@ -8,17 +8,17 @@ use Rattle.ubi_compare.specs.declared.difference.Difference.TheVariants as diffe
 use Rattle.ubi_compare.specs.declared.ranges.Ranges.{Ranges}
 
 -- ranges as differences
-abbrev pub told_of : ℕ → List (ℕ × ℕ) → List Difference
-told_of id = map (λ (e : ℕ × ℕ). difference.Lebs id e.0 e.1)
+abbrev pub ranges_told : ℕ → List (ℕ × ℕ) → List Difference
+ranges_told id = map (λ (e : ℕ × ℕ). difference.Lebs id e.0 e.1)
 
 -- the differences once more LEBs were found
 abbrev pub told_with : Ranges → List ℕ → List Difference
-told_with r rest = r.told.items ++ told_of r.id (ranges_after r.begun rest)
+told_with r rest = r.told.items ++ ranges_told r.id (ranges_after r.begun rest)
 
 -- these of the first n LEBs were found
 abbrev pub HaveFound : Sizes → ℕ → Volume → Volume → Ranges → ℕ → Type 0
 HaveFound s id v w ranges n =
-    (rest : List ℕ) → told_of id (ranges_after None (lebs_apart s v w n ++ rest)) ≡ told_with ranges rest
+    (rest : List ℕ) → ranges_told id (ranges_after None (lebs_apart s v w n ++ rest)) ≡ told_with ranges rest
 
 -- these of the first n LEBs were found; in brief only whether there is one
 abbrev pub HaveTold : Bool → Sizes → ℕ → Volume → Volume → Ranges → ℕ → Type 0

@@ -58,14 +58,14 @@ AreToldApart brief s id lebs n p q x y ranges =
     (λ a b. OfVolumes id a b (λ v w. IsText s lebs.left v → IsText s lebs.right w → HaveTold brief s id v w ranges n))
 
 -- the first n pieces of both contents were read
-pub record AreTexts (brief : Bool) (s : Sizes) (id : ℕ) (lebs : LebsOfBoth) (n : ℕ) (p q : Seen) (x y : List ℕ)
+pub record AreReadTexts (brief : Bool) (s : Sizes) (id : ℕ) (lebs : LebsOfBoth) (n : ℕ) (p q : Seen) (x y : List ℕ)
     (t : Texts) : Type 0 where
   pub left : SizeIsRead s (blocks_of s x) id lebs.left n t.left
   pub right : SizeIsRead s (blocks_of s y) id lebs.right n t.right
   pub found : AreToldApart brief s id lebs n p q x y t.ranges
 
 -- all pieces of both contents were read, and compared where both have one
-pub record AreWhole (brief : Bool) (s : Sizes) (id : ℕ) (lebs : LebsOfBoth) (p q : Seen) (x y : List ℕ)
+pub record AreWholeTexts (brief : Bool) (s : Sizes) (id : ℕ) (lebs : LebsOfBoth) (p q : Seen) (x y : List ℕ)
     (t : Texts) : Type 0 where
   pub left : SizeIsRead s (blocks_of s x) id lebs.left lebs.left t.left
   pub right : SizeIsRead s (blocks_of s y) id lebs.right lebs.right t.right

@@ -15,14 +15,14 @@ use Rattle.ubi_volume.specs.declared.content.Content.TheVariants as content
 use Rattle.ubi_volume.specs.declared.content.Volume.{Volume}
 use Rattle.ubi_compose.specs.Built.{Parts, Reaches, pieces_of}
 use Rattle.ubi_compose.specs.Normal.{piece_header}
-use Rattle.ubi_compose.specs.declared.piece.Origin.TheVariants as origin
-use Rattle.ubi_compose.specs.declared.piece.Piece.{Piece}
-use Rattle.ubi_compose.specs.declared.recipe.Part.{Part}
+use Rattle.ubi_compose.specs.declared.pieces.Origin.TheVariants as origin
+use Rattle.ubi_compose.specs.declared.pieces.Piece.{Piece}
+use Rattle.ubi_compose.specs.declared.built_image.Part.{Part}
 use Rattle.ubi_compose.specs.inner.Pieces.{Pieces}
 
 -- a part has more bytes than its volume holds; nothing is said if its record breaks a rule
-abbrev pub is_long : Sizes → Part → Bool
-is_long s p = is_none (rec_fault s p.entry) && nat_lt (p.entry.reserved * usable s p.entry) p.len
+abbrev pub is_long_part : Sizes → Part → Bool
+is_long_part s p = is_none (rec_fault s p.entry) && nat_lt (p.entry.reserved * usable s p.entry) p.len
 
 -- a content with no bytes
 abbrev pub empty_of : VolKind → Content
@@ -31,7 +31,7 @@ empty_of kind.Dynamic = content.Dynamic finite.empty
 
 -- a content without bytes that a volume can have exactly if it can have those of the part
 abbrev pub stand_in : Sizes → Part → Content
-stand_in s p = if is_long s p && not p.entry.marker then content.Updating else empty_of p.entry.kind
+stand_in s p = if is_long_part s p && not p.entry.marker then content.Updating else empty_of p.entry.kind
 
 -- the volume of a part with such a content
 abbrev pub stand_in_item : Sizes → Part → ℕ × Volume

@@ -84,9 +84,9 @@ error_at n (line_error.Cause c) = error.Refused n c
 error_at n line_error.Memory = error.Memory
 
 -- why a line isn't taken
-abbrev pub IsRefused : {X : Type 0} → Result X SpecCause → LineError → Type 0
-IsRefused r (line_error.Cause c) = r ≡ Err c
-IsRefused r line_error.Memory = Unit {0}
+abbrev pub IsRefusedLine : {X : Type 0} → Result X SpecCause → LineError → Type 0
+IsRefusedLine r (line_error.Cause c) = r ≡ Err c
+IsRefusedLine r line_error.Memory = Unit {0}
 
 -- the place of the volume with a number
 abbrev pub place_of : ℕ → Items → Option ℕ

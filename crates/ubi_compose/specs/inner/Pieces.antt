@@ -2,7 +2,7 @@
 use Rattle.std.specs.Prelude.{◌≡◌, ℕ, ◌+◌, ◌*◌, ◌/◌, ◌^◌, ◌<◌, ◌≤◌, Bool, false, List, [], ◌++◌, if◌then◌else◌, take, drop, flat_map, slice_range, MatchOption, None, Option, Some, Result, Ok, Err}
 use Rattle.std.specs.List.{range_with_len}
 use Rattle.std.specs.Option.{option_map_or}
-use Rattle.ubi_media.specs.Check.{check}
+use Rattle.ubi_media.specs.Check.{crc_of}
 use Rattle.ubi_media.specs.Fields.{is_blank}
 use Rattle.ubi_media.specs.Geometry.{Sizes, leb_size, slots}
 use Rattle.ubi_media.specs.Vid.{plain}
@@ -20,10 +20,10 @@ use Rattle.ubi_compose.specs.Composed.{spare}
 use Rattle.ubi_compose.specs.Normal.{laid_bytes, new_ec}
 use Rattle.ubi_compose.specs.declared.errors.PutError.{PutError}
 use Rattle.ubi_compose.specs.declared.errors.PutError.TheVariants as put
-use Rattle.ubi_compose.specs.declared.piece.Device.{Device}
-use Rattle.ubi_compose.specs.declared.piece.Origin.{Origin}
-use Rattle.ubi_compose.specs.declared.piece.Origin.TheVariants as origin
-use Rattle.ubi_compose.specs.declared.piece.Piece.{Piece}
+use Rattle.ubi_compose.specs.declared.pieces.Device.{Device}
+use Rattle.ubi_compose.specs.declared.pieces.Origin.{Origin}
+use Rattle.ubi_compose.specs.declared.pieces.Origin.TheVariants as origin
+use Rattle.ubi_compose.specs.declared.pieces.Piece.{Piece}
 
 -- the CRC that the volume-identifier header of an eraseblock gives, 0 if it isn't Valid
 abbrev pub given_check : VidRead → ℕ
@@ -40,7 +40,7 @@ piece_text s (origin.Bytes start) len bytes = slice_range bytes start (start + l
 abbrev pub piece_check : Sizes → Origin → ℕ → List ℕ → ℕ
 piece_check s origin.Nowhere len bytes = 0
 piece_check s (origin.Block p) len bytes = given_check (vid s (block (blocks_of s bytes) p))
-piece_check s (origin.Bytes start) len bytes = check (piece_text s (origin.Bytes start) len bytes)
+piece_check s (origin.Bytes start) len bytes = crc_of (piece_text s (origin.Bytes start) len bytes)
 
 -- the header of a piece, with its CRC
 abbrev pub checked_header : VolKind → Sizes → VidHeader → Origin → ℕ → List ℕ → VidHeader

@@ -85,9 +85,9 @@ abbrev pub says_size : List Group → Group → Bool
 says_size gs g = nat_le 2 g.count && nat_le 1 g.size && nat_le g.size greatest_size && speaks_among gs g.key
 
 -- whether a group speaks for more bytes than another, if there is one
-abbrev pub beats : Group → Option Group → Bool
-beats g (Some f) = nat_lt (spoken f) (spoken g)
-beats g None = true
+abbrev pub speaks_for_more : Group → Option Group → Bool
+speaks_for_more g (Some f) = nat_lt (spoken f) (spoken g)
+speaks_for_more g None = true
 
 -- the group j says a size, and speaks for the most bytes of those of the first n groups that do; if several do, it is the first
 pub record IsBestOf (gs : List Group) (n : ℕ) (g : Group) : Type 0 where

@@ -22,14 +22,14 @@ pub record ContentIs (s : Sizes) (bs : List (List ℕ)) (vol : ℕ) (r : VolumeR
   pub kept : KeepsNoBlank s r c
 
 -- LEBs below n, as they are kept: each has so many bytes, and isn't 0xFF throughout
-pub record AreTexts (size n : ℕ) (lebs : FinMap nat_cmp (List ℕ)) : Type 0 where
+pub record AreKeptTexts (size n : ℕ) (lebs : FinMap nat_cmp (List ℕ)) : Type 0 where
   pub fits : (lnum : ℕ) → IfSome (get lebs lnum) (λ text. (lnum < n) × (length text ≡ size))
   pub kept : (lnum : ℕ) → IfSome (get lebs lnum) (λ text. text ≢ blank size)
 
 -- each LEB below n reads what is kept of it
-pub record AreGathered (s : Sizes) (bs : List (List ℕ)) (vol : ℕ) (r : VolumeRecord) (n : ℕ)
+pub record AreGatheredLebs (s : Sizes) (bs : List (List ℕ)) (vol : ℕ) (r : VolumeRecord) (n : ℕ)
     (lebs : FinMap nat_cmp (List ℕ)) : Type 0 where
-  pub texts : AreTexts (usable s r) n lebs
+  pub texts : AreKeptTexts (usable s r) n lebs
   pub reads : (lnum : ℕ) → lnum < n → LebReads s bs vol r lnum (leb_text (usable s r) (get lebs lnum))
 
 -- the contents in the first n pieces
@@ -53,6 +53,6 @@ pub record AreContents (Has : ℕ → VolumeRecord → Content → Type 0) (entr
   pub contents : All (λ v. Has v.0 v.1.entry v.1.content) volumes
 
 -- how many of the first n LEBs have contents that are kept
-abbrev pub AreKept : Sizes → List (List ℕ) → ℕ → VolumeRecord → ℕ → ℕ → Type 0
-AreKept s bs vol r n count =
-    (lebs : FinMap nat_cmp (List ℕ)) × AreGathered s bs vol r n lebs × (count ≡ length (entries lebs))
+abbrev pub AreKeptLebs : Sizes → List (List ℕ) → ℕ → VolumeRecord → ℕ → ℕ → Type 0
+AreKeptLebs s bs vol r n count =
+    (lebs : FinMap nat_cmp (List ℕ)) × AreGatheredLebs s bs vol r n lebs × (count ≡ length (entries lebs))

@@ -19,9 +19,9 @@ abbrev pub Disagrees : Sizes → VolumeRecord → MemberHeader → Type 0
 Disagrees s r h = (r.marker ≡ false) × IsWithin r h.leb.1 × IsOther s r h
 
 -- what a scan keeps of the header of a winner
-abbrev pub header_in : ScanState → Option MemberHeader
-header_in (state.Winner h) = Some h
-header_in _ = None
+abbrev pub winner_header : ScanState → Option MemberHeader
+winner_header (state.Winner h) = Some h
+winner_header _ = None
 
 -- the header of p, if p wins its LEB
 abbrev pub WinnerHeaderIs : Sizes → List (List ℕ) → ℕ → Option MemberHeader → Type 0

@@ -8,7 +8,7 @@ use Rattle.ubi_scan.specs.Stream.{IsScanOf}
 use Rattle.ubi_table.specs.Records.{Records}
 use Rattle.ubi_table.specs.Stream.{IsTableOf}
 use Rattle.ubi_volume.specs.Accepts.{NoMismatch}
-use Rattle.ubi_volume.specs.Attached.{IsOutside, AreStates}
+use Rattle.ubi_volume.specs.Attached.{IsOutside, AreBlockStates}
 use Rattle.ubi_volume.specs.declared.attached.BlockState.{BlockState}
 use Rattle.ubi_volume.specs.declared.attached.BlockState.TheVariants as state
 
@@ -34,4 +34,4 @@ MemberStateIs t of wins _ = ⊥
 -- each eraseblock of a source has a state, which is its own in whatever the source may hold
 pub record AreStatesOf (s : Sizes) (k : Source) (agrees : Agreed) (t : Records) (states : List BlockState) : Type 0 where
   pub count : length states ≡ blocks_in s k
-  pub held : WhereHeld agrees (λ bytes. AreStates s (blocks_of s bytes) t states)
+  pub held : WhereHeld agrees (λ bytes. AreBlockStates s (blocks_of s bytes) t states)

@@ -1,6 +1,6 @@
 use Rattle.ubi_calls.proofs.Prelude.{whole_file, Detects, printed}
 use Rattle.ubi_commands.specs.declared.format.Format.TheVariants as format
-use Rattle.ubi_calls.proofs.Told.{fills, prints}
+use Rattle.ubi_calls.proofs.ToldOutcomes.{fills, prints}
 use Rattle.ubi_calls.proofs.lines.geometry.Goals as goal
 
 pub returns : goal.returns

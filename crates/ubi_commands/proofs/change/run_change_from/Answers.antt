@@ -1,4 +1,4 @@
-use Rattle.ubi_commands.proofs.Prelude.{List, sym, subst, IfOk, Keeps-refl, Source, blocks_in, All, Wrote, AllWithin, IsChangeError, IsPlanned, Step, not_blank_from, unplanned_from, cut_text, steps_done}
+use Rattle.ubi_commands.proofs.Prelude.{List, sym, subst, IfOk, Keeps-refl, Source, blocks_in, All, Wrote, AllWithin, IsChangeError, PlanFactsOfSource, Step, not_blank_from, unplanned_from, cut_text, steps_done}
 use Rattle.ubi_commands.proofs.Edited.{change_cut, change_done, change_narrowed}
 use Rattle.ubi_commands.proofs.change.run_change_from.Goals as goal
 
@@ -18,8 +18,8 @@ returns-in-Ok-clause-ok g c =
     let known = g.S.BlockSource.known c.args.source.now in
     let agrees = g.S.BlockSource.agrees c.carry_out.new.source in
     let steps = c.as_slice.result.now in
-    let plan : IsPlanned s known (g.S.BlockSource.agrees c.plan_change_from.new.source) av new.id new.lnum new.bytes.now steps =
-    subst (λ (steps : List Step). IsPlanned s known (g.S.BlockSource.agrees c.plan_change_from.new.source) av new.id new.lnum new.bytes.now steps)
+    let plan : PlanFactsOfSource s known (g.S.BlockSource.agrees c.plan_change_from.new.source) av new.id new.lnum new.bytes.now steps =
+    subst (λ (steps : List Step). PlanFactsOfSource s known (g.S.BlockSource.agrees c.plan_change_from.new.source) av new.id new.lnum new.bytes.now steps)
     (sym c.as_slice.ensures.value) c.in-Ok.ensures.plan in
     change_done av new.id new.lnum new.bytes.now c.args.stop s known agrees steps
     (change_narrowed av new.id new.lnum new.bytes.now c.args.stop s known _ agrees steps c.carry_out.ensures.narrows plan)
@@ -38,8 +38,8 @@ returns-in-Ok-clause-err g c =
     let known = g.S.BlockSource.known c.args.source.now in
     let agrees = g.S.BlockSource.agrees c.carry_out.new.source in
     let steps = c.as_slice.result.now in
-    let plan : IsPlanned s known (g.S.BlockSource.agrees c.plan_change_from.new.source) av new.id new.lnum new.bytes.now steps =
-    subst (λ (steps : List Step). IsPlanned s known (g.S.BlockSource.agrees c.plan_change_from.new.source) av new.id new.lnum new.bytes.now steps)
+    let plan : PlanFactsOfSource s known (g.S.BlockSource.agrees c.plan_change_from.new.source) av new.id new.lnum new.bytes.now steps =
+    subst (λ (steps : List Step). PlanFactsOfSource s known (g.S.BlockSource.agrees c.plan_change_from.new.source) av new.id new.lnum new.bytes.now steps)
     (sym c.as_slice.ensures.value) c.in-Ok.ensures.plan in
     change_cut av new.id new.lnum new.bytes.now c.args.stop s known agrees steps
     (change_narrowed av new.id new.lnum new.bytes.now c.args.stop s known _ agrees steps c.carry_out.ensures.narrows plan)

@@ -1,4 +1,4 @@
-use Rattle.ubi_commands.proofs.Prelude.{ℕ, ◌<◌, ◌∙◌, List, ap, arith, length, refl, subst, sym, IfSome, Option, Records, places_narrowed, IsWritten, OutsideStay, Listed, no_folder, AreFilesOf}
+use Rattle.ubi_commands.proofs.Prelude.{ℕ, ◌<◌, ◌∙◌, List, ap, arith, length, refl, subst, sym, IfSome, Option, Records, places_narrowed, IsNewFile, OutsideStay, Listed, no_folder, AreFilesOf}
 use Rattle.std.specs.FinMap as finite
 use Rattle.ubi_commands.specs.Unpack.{told}
 use Rattle.ubi_commands.proofs.Unpacked.{all_done, config_failed, files_count, outside_config, some_line, stopped_at}
@@ -39,7 +39,7 @@ returns-in-Ok-clause-image g c = λ bytes holds.
     all_done _ c.args.places.now p _ c.requires.places.within c.args.dir.now c.in_ok-folder.folder.path.now _ old c.in_ok-outcome.outcome
     c.in_ok-folder.ensures.path new s c.as_str.result.now c.requires.places.sizes (c.as_str.ensures.value ∙ config.path)
     (rw c.in-None.is at (c.in_ok-unpack_volumes.ensures.ends bytes holds p))
-    (subst (λ (t : List ℕ). IsWritten t c.as_str.result.now old new) text c.in-Ok.ensures.written) c.in_ok-outcome.ensures
+    (subst (λ (t : List ℕ). IsNewFile t c.as_str.result.now old new) text c.in-Ok.ensures.written) c.in_ok-outcome.ensures
 
 pub returns-in-Ok-clause-outside : goal.returns-in-Ok-clause-outside
 returns-in-Ok-clause-outside g c =

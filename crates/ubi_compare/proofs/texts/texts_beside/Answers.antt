@@ -1,4 +1,4 @@
-use Rattle.ubi_compare.proofs.Prelude.{◌≡◌, ◌∙◌, ℕ, refl, sym, subst, arith, Source, survey_narrowed, IsSurveyOf, Ranges, AreTexts}
+use Rattle.ubi_compare.proofs.Prelude.{◌≡◌, ◌∙◌, ℕ, refl, sym, subst, arith, Source, survey_narrowed, IsSurveyOf, Ranges, AreReadTexts}
 use Rattle.ubi_compare.proofs.TextsRead.{Follows, follows_apart, follows_same, more_texts, no_texts}
 use Rattle.ubi_compare.proofs.texts.texts_beside.Goals.{then-not-pieces+in_ok-add_asked, else-not-pieces}
 use Rattle.ubi_compare.proofs.texts.texts_beside.Goals as goal
@@ -68,6 +68,6 @@ pub returns-clause-read : goal.returns-clause-read
 returns-clause-read g c = λ x xs y ys.
     let last : c.loop-lnum.lnum ≡ c.args.count =
     (let end = c.loop-lnum.auto.lnum-end in let test = c.loop-lnum-test.false in omega (arith, end, test)) in
-    subst (λ (n : ℕ). AreTexts c.args.is_brief c.args.geometry.now c.args.id c.args.lebs n c.args.here.survey.now
+    subst (λ (n : ℕ). AreReadTexts c.args.is_brief c.args.geometry.now c.args.id c.args.lebs n c.args.here.survey.now
     c.args.there.survey.now x y (record { left = c.loop-lnum.bytes; right = c.loop-lnum.others; ranges = c.loop-lnum.ranges }))
     last (c.loop-lnum.invariant.read x xs y ys)

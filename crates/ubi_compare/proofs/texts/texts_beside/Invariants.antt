@@ -1,4 +1,4 @@
-use Rattle.ubi_compare.proofs.Prelude.{◌≡◌, ◌*◌, ◌≤◌, Narrows, WhereBothHeld, AreTexts}
+use Rattle.ubi_compare.proofs.Prelude.{◌≡◌, ◌*◌, ◌≤◌, Narrows, WhereBothHeld, AreReadTexts}
 use Rattle.ubi_compare.proofs.texts.texts_beside.Given as goal
 
 abbrev pub invariant-loop-lnum : goal.invariant-loop-lnum
@@ -10,6 +10,6 @@ invariant-loop-lnum g l = record {
   small : l.bytes ≤ l.lnum * 0xFFFFFFFF;
   few : l.others ≤ l.lnum * 0xFFFFFFFF;
   read : WhereBothHeld (g.L.BlockSource.agrees l.left) (g.R.BlockSource.agrees l.right)
-      (λ x y. AreTexts l.is_brief l.geometry l.id l.lebs l.lnum l.here.survey.now l.there.survey.now x y
+      (λ x y. AreReadTexts l.is_brief l.geometry l.id l.lebs l.lnum l.here.survey.now l.there.survey.now x y
       (record { left = l.bytes; right = l.others; ranges = l.ranges }));
 }

@@ -1,4 +1,4 @@
-use Rattle.ubi_compose.proofs.Form.{normal_form}
+use Rattle.ubi_compose.proofs.NormalForm.{normal_form}
 use Rattle.ubi_compose.proofs.laws.normal_form.Goals as goal
 
 pub returns : goal.returns

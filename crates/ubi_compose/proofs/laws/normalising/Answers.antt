@@ -1,4 +1,4 @@
-use Rattle.ubi_compose.proofs.Form.{normalising}
+use Rattle.ubi_compose.proofs.NormalForm.{normalising}
 use Rattle.ubi_compose.proofs.laws.normalising.Goals as goal
 
 pub returns : goal.returns

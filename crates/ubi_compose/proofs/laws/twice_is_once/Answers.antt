@@ -1,4 +1,4 @@
-use Rattle.ubi_compose.proofs.Form.{twice_is_once}
+use Rattle.ubi_compose.proofs.NormalForm.{twice_is_once}
 use Rattle.ubi_compose.proofs.laws.twice_is_once.Goals as goal
 
 pub returns : goal.returns

@@ -1,4 +1,4 @@
-use Rattle.ubi_detect.proofs.Prelude.{◌≡◌, ◌∙◌, ◌+◌, ◌-◌, ◌*◌, ◌/◌, ap, sym, subst, length, ℕ, arith, end_of_last, run, is_blank}
+use Rattle.ubi_detect.proofs.Prelude.{◌≡◌, ◌∙◌, ◌+◌, ◌-◌, ◌*◌, ◌/◌, ap, sym, subst, length, ℕ, arith, end_of_last, run, is_blank_at}
 use Rattle.std.specs.Prelude.{Bool}
 use Rattle.ubi_detect.proofs.Runs.{run_all, run_is}
 use Rattle.ubi_detect.proofs.place.blanks_behind.Goals as goal
@@ -6,7 +6,7 @@ use Rattle.ubi_detect.proofs.place.blanks_behind.Goals as goal
 pub returns-then-not-branch-clause-blanks : goal.returns-then-not-branch-clause-blanks
 returns-then-not-branch-clause-blanks g c = λ bytes holds.
     let f = c.args.group.now in
-    let t : ℕ → Bool = λ j. is_blank bytes (end_of_last f + j * f.size) in
+    let t : ℕ → Bool = λ j. is_blank_at bytes (end_of_last f + j * f.size) in
     let sized : length bytes ≡ (g.S.BlockSource.known c.args.source.now).size =
     (g.met.S.BlockSource.sized c.args.source.now).sized bytes
     (c.loop-j.invariant.narrows bytes (c.in_ok-all_are.ensures.narrows bytes holds)) in
@@ -19,7 +19,7 @@ returns-then-not-branch-clause-blanks g c = λ bytes holds.
 pub returns-clause-blanks : goal.returns-clause-blanks
 returns-clause-blanks g c = λ bytes holds.
     let f = c.args.group.now in
-    let t : ℕ → Bool = λ j. is_blank bytes (end_of_last f + j * f.size) in
+    let t : ℕ → Bool = λ j. is_blank_at bytes (end_of_last f + j * f.size) in
     let sized : length bytes ≡ (g.S.BlockSource.known c.args.source.now).size =
     (g.met.S.BlockSource.sized c.args.source.now).sized bytes (c.loop-j.invariant.narrows bytes holds) in
     let many : (c.len.result - end_of_last f) / f.size ≡ (length bytes - end_of_last f) / f.size =

@@ -1,4 +1,4 @@
-use Rattle.ubi_detect.proofs.Prelude.{◌≡◌, ◌∙◌, ◌+◌, ◌*◌, ◌-◌, ap, sym, not, eq-eqb, ne_eqb, slots, record_size, vid_magic, layout, is_blank, number_at, put}
+use Rattle.ubi_detect.proofs.Prelude.{◌≡◌, ◌∙◌, ◌+◌, ◌*◌, ◌-◌, ap, sym, not, eq-eqb, ne_eqb, slots, record_size, vid_magic, layout, is_blank_at, number_at, put}
 use Rattle.ubi_detect.proofs.InTurn.{first_fails, second_fails, third_decides}
 use Rattle.ubi_detect.proofs.sure.holds_table.Goals as goal
 
@@ -32,4 +32,4 @@ returns-clause-is g c = λ bytes holds.
     ∙ ap (λ x. put w (w.geometry.data_offset + 172 * (x - 1))) c.slots.ensures.value in
     third_decides _ _ _ _ (eq-eqb _ vid_magic (sym one ∙ c.if-branch-ne-VID_MAGIC.false))
     (eq-eqb _ layout (sym two ∙ c.if-branch-ne-LAYOUT_VOLUME.false))
-    (ap not (c.in_ok-all_are.ensures.are bytes holds ∙ ap (λ x. is_blank bytes (c.args.at + x)) last))
+    (ap not (c.in_ok-all_are.ensures.are bytes holds ∙ ap (λ x. is_blank_at bytes (c.args.at + x)) last))

@@ -1,6 +1,6 @@
 use Rattle.ubi_media.proofs.Prelude.{◌≡◌, ◌∙◌, ap, sym, true, false, same_bytes, empty_record, judged}
 use Rattle.ubi_media.proofs.Records.{reads_bad, reads_empty, reads_judged, rec_is_of}
-use Rattle.ubi_media.proofs.Sound.{valid_sound}
+use Rattle.ubi_media.proofs.SoundRecords.{valid_sound}
 use Rattle.ubi_media.proofs.record.read_rec.Goals as goal
 
 pub returns-then-not-is_sealed-clause-value : goal.returns-then-not-is_sealed-clause-value

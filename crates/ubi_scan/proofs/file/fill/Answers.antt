@@ -1,5 +1,5 @@
 use Rattle.ubi_scan.proofs.Prelude.{rules}
-use Rattle.ubi_scan.proofs.Stands.{stand_on}
+use Rattle.ubi_scan.proofs.BytesAtPlace.{stand_on}
 use Rattle.ubi_scan.proofs.file.fill.Goals as goal
 
 pub loop-done-preserved : goal.loop-done-preserved

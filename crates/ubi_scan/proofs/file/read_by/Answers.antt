@@ -1,5 +1,5 @@
 use Rattle.ubi_scan.proofs.Prelude.{◌∙◌, subst, sym, StandsAt}
-use Rattle.ubi_scan.proofs.Stands.{held_stand}
+use Rattle.ubi_scan.proofs.BytesAtPlace.{held_stand}
 use Rattle.ubi_scan.proofs.file.read_by.Goals.{else-give, then-give}
 use Rattle.ubi_scan.proofs.file.read_by.Goals as goal
 

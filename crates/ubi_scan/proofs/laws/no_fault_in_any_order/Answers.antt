@@ -1,4 +1,4 @@
-use Rattle.ubi_scan.proofs.Moved.{no_fault_in_any_order}
+use Rattle.ubi_scan.proofs.BlocksReordered.{no_fault_in_any_order}
 use Rattle.ubi_scan.proofs.laws.no_fault_in_any_order.Goals as goal
 
 pub returns : goal.returns

@@ -1,5 +1,5 @@
 use Rattle.ubi_table.proofs.Prelude.{ℕ, ap, ◌∙◌, sym, subst, MatchOption, Option, IfOk-weaker, Sizes, eraseblocks, Leb, NoMember, Wins, layout, CopyIs, copy_of}
-use Rattle.ubi_table.proofs.One.{copy_held}
+use Rattle.ubi_table.proofs.OneTable.{copy_held}
 use Rattle.ubi_table.proofs.copy.read_copy.Goals as goal
 
 pub leb-requires : goal.leb-requires

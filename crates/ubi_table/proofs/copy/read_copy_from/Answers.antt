@@ -1,5 +1,5 @@
 use Rattle.ubi_table.proofs.Prelude.{◌∙◌, ap, slice_range, sym, subst, MatchOption, block, leb, Leb, NoMember, Wins, layout, IsScan, blocks_of, leb_of_read, HasSizes, copy_of}
-use Rattle.ubi_table.proofs.One.{copy_held}
+use Rattle.ubi_table.proofs.OneTable.{copy_held}
 use Rattle.ubi_table.proofs.Streamed.{copy_sizes}
 use Rattle.ubi_table.proofs.copy.read_copy_from.Goals as goal
 

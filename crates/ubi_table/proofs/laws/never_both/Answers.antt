@@ -1,4 +1,4 @@
-use Rattle.ubi_table.proofs.One.{never_table_and_fault}
+use Rattle.ubi_table.proofs.OneTable.{never_table_and_fault}
 use Rattle.ubi_table.proofs.laws.never_both.Goals as goal
 
 pub returns : goal.returns

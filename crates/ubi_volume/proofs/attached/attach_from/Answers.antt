@@ -1,6 +1,6 @@
 use Rattle.ubi_volume.proofs.Prelude.{◌∙◌, sym, subst, image_of, Source, blocks_of, AreChecked}
 use Rattle.ubi_volume.proofs.AttachedOf.{attached}
-use Rattle.ubi_volume.proofs.Narrowed.{checked_narrowed}
+use Rattle.ubi_volume.proofs.NarrowedPlaces.{checked_narrowed}
 use Rattle.ubi_volume.proofs.PlacesOf.{are_listed, are_places}
 use Rattle.ubi_volume.proofs.attached.attach_from.Goals as goal
 

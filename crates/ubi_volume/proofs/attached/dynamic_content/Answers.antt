@@ -1,4 +1,4 @@
-use Rattle.ubi_volume.proofs.Prelude.{◌≡◌, ◌∙◌, ℕ, arith, length, refl, subst, blank, usable, blocks_of, AreGathered, AreTexts}
+use Rattle.ubi_volume.proofs.Prelude.{◌≡◌, ◌∙◌, ℕ, arith, length, refl, subst, blank, usable, blocks_of, AreGatheredLebs, AreKeptTexts}
 use Rattle.ubi_volume.proofs.ContentAt.{front_usable}
 use Rattle.ubi_volume.proofs.Dynamic.{gathered_blank, gathered_none, gathered_text, texts_blank, texts_more, texts_none}
 use Rattle.ubi_volume.proofs.VolumeAt.{leb_reads}
@@ -62,14 +62,14 @@ returns-clause-content g c =
     let old = c.loop-lnum.invariant in
     let all : c.loop-lnum.lnum ≡ r.reserved =
     (let end = c.loop-lnum.auto.lnum-end in let test = c.loop-lnum-test.false in omega (arith, end, test)) in
-    let texts = subst (λ (n : ℕ). AreTexts (usable s r) n c.loop-lnum.lebs) all old.texts in
+    let texts = subst (λ (n : ℕ). AreKeptTexts (usable s r) n c.loop-lnum.lebs) all old.texts in
     record {
       fits = (c.requires.unmarked, c.requires.kind, texts.fits);
       kept = texts.kept;
       reads = λ bytes holds. (
         c.requires.unmarked,
         c.requires.kind,
-        (subst (λ (n : ℕ). AreGathered s (blocks_of s bytes) c.args.id r n c.loop-lnum.lebs) all
+        (subst (λ (n : ℕ). AreGatheredLebs s (blocks_of s bytes) c.args.id r n c.loop-lnum.lebs) all
             (old.gathered bytes holds)).reads,
       );
     }

@@ -1,4 +1,4 @@
-use Rattle.ubi_volume.proofs.Prelude.{◌≡◌, ◌∙◌, ℕ, arith, false, length, refl, subst, sym, true, blank, is_blank, usable, blocks_of, leb_bytes, AreKept}
+use Rattle.ubi_volume.proofs.Prelude.{◌≡◌, ◌∙◌, ℕ, arith, false, length, refl, subst, sym, true, blank, is_blank, usable, blocks_of, leb_bytes, AreKeptLebs}
 use Rattle.ubi_volume.proofs.AmountAt.{none_kept, none_more, one_kept}
 use Rattle.ubi_volume.proofs.Blanks.{blank_text, not_false, not_true, other_text}
 use Rattle.ubi_volume.proofs.ContentAt.{front_usable}
@@ -62,5 +62,5 @@ returns-clause-count g c = λ bytes holds.
     let s = c.args.geometry.now in
     let all : c.loop-lnum.lnum ≡ c.args.entry.now.reserved =
     (let end = c.loop-lnum.auto.lnum-end in let test = c.loop-lnum-test.false in omega (arith, end, test)) in
-    subst (λ (n : ℕ). AreKept s (blocks_of s bytes) c.args.id c.args.entry.now n c.loop-lnum.count) all
+    subst (λ (n : ℕ). AreKeptLebs s (blocks_of s bytes) c.args.id c.args.entry.now n c.loop-lnum.count) all
     (c.loop-lnum.invariant.kept bytes holds)

@@ -1,6 +1,6 @@
 use Rattle.ubi_volume.proofs.Prelude.{image_of, blocks_of}
 use Rattle.ubi_volume.proofs.CaseSizes.{dynamic_case}
-use Rattle.ubi_volume.proofs.Either.{are_lebs}
+use Rattle.ubi_volume.proofs.AcceptedOrRefused.{are_lebs}
 use Rattle.ubi_volume.proofs.cases.case_of.Goals as goal
 
 pub returns-in-Dynamic-clause-case : goal.returns-in-Dynamic-clause-case

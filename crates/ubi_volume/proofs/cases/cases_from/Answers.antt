@@ -1,6 +1,6 @@
 use Rattle.ubi_volume.proofs.Prelude.{◌≡◌, ◌+◌, ◌∙◌, [], ◌∷◌, ◌++◌, sym, subst, ap, take, arith, None, take_more, Sizes, rec_fault, Source, blocks_of, AreChecked}
 use Rattle.ubi_volume.proofs.Gathered.{listed_item}
-use Rattle.ubi_volume.proofs.Narrowed.{checked_narrowed}
+use Rattle.ubi_volume.proofs.NarrowedPlaces.{checked_narrowed}
 use Rattle.ubi_volume.proofs.PlacesOf.{cases_more, numbered_more}
 use Rattle.ubi_volume.proofs.cases.cases_from.Goals as goal
 

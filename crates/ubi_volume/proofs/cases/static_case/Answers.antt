@@ -1,6 +1,6 @@
 use Rattle.ubi_volume.proofs.Prelude.{◌≡◌, ◌∙◌, ℕ, refl, sym, subst, arith, below_more, IsSome, Option, usable_some, image_of, blocks_of, PieceSizeIs, SizeIsRead, TextLebs}
 use Rattle.ubi_volume.proofs.CaseSizes.{damaged_case, no_piece, size_more, size_none, static_case}
-use Rattle.ubi_volume.proofs.Either.{are_lebs}
+use Rattle.ubi_volume.proofs.AcceptedOrRefused.{are_lebs}
 use Rattle.ubi_volume.proofs.Static.{damaged_piece}
 use Rattle.ubi_volume.proofs.cases.static_case.Goals as goal
 

@@ -1,6 +1,6 @@
 use Rattle.ubi_volume.proofs.Prelude.{◌≡◌, ◌+◌, ◌*◌, length, length-take-le, take, ◌∙◌, arith, err_from_is_err_and, read_text, share_len, leb_at, lebs_at, All, IsWroteError, Wrote}
 use Rattle.ubi_volume.proofs.Extracted.{lebs_failed, lebs_wrote, wanted}
-use Rattle.ubi_volume.proofs.Narrowed.{wrote_narrowed}
+use Rattle.ubi_volume.proofs.NarrowedPlaces.{wrote_narrowed}
 use Rattle.ubi_volume.proofs.Received.{error_as, wrote_as}
 use Rattle.ubi_volume.proofs.extract.write_places.Goals as goal
 

@@ -1,4 +1,4 @@
-use Rattle.ubi_volume.proofs.Moved.{reorder}
+use Rattle.ubi_volume.proofs.MeaningReordered.{reorder}
 use Rattle.ubi_volume.proofs.laws.reorder.Goals as goal
 
 pub returns : goal.returns

@@ -1,5 +1,5 @@
 use Rattle.ubi_volume.proofs.Prelude.{refl, arith}
-use Rattle.ubi_volume.proofs.Causes.{content_found, content_more, none_left, sound_here}
+use Rattle.ubi_volume.proofs.MeaningCauses.{content_found, content_more, none_left, sound_here}
 use Rattle.ubi_volume.proofs.meaning.content_range.Goals as goal
 
 pub fits-requires : goal.fits-requires

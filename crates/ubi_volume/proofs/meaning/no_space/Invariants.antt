@@ -1,5 +1,5 @@
 use Rattle.ubi_volume.proofs.Prelude.{◌≡◌, ◌+◌, take}
-use Rattle.ubi_volume.proofs.Causes.{reserved_by}
+use Rattle.ubi_volume.proofs.MeaningCauses.{reserved_by}
 use Rattle.ubi_volume.proofs.meaning.no_space.Given as goal
 
 abbrev pub invariant-loop-item : goal.invariant-loop-item

@@ -1,5 +1,5 @@
 use Rattle.ubi_volume.proofs.Prelude.{arith, sym, ◌∙◌}
-use Rattle.ubi_volume.proofs.Causes.{none_left, same_id_found, same_id_more}
+use Rattle.ubi_volume.proofs.MeaningCauses.{none_left, same_id_found, same_id_more}
 use Rattle.ubi_volume.proofs.meaning.same_id.Goals as goal
 
 pub returns-in-Some : goal.returns-in-Some

@@ -1,4 +1,4 @@
-use Rattle.ubi_volume.proofs.Narrowed.{checked_narrowed}
+use Rattle.ubi_volume.proofs.NarrowedPlaces.{checked_narrowed}
 use Rattle.ubi_volume.proofs.PlacesOf.{are_listed, are_places}
 use Rattle.ubi_volume.proofs.places.attach_places.Goals as goal
 

@@ -1,4 +1,4 @@
-use Rattle.ubi_volume.proofs.Prelude.{◌+◌, ◌∙◌, [], ◌∷◌, ◌++◌, length-append, ap, arith, StateIs}
+use Rattle.ubi_volume.proofs.Prelude.{◌+◌, ◌∙◌, [], ◌∷◌, ◌++◌, length-append, ap, arith, BlockStateIs}
 use Rattle.ubi_volume.proofs.MemberStates.{states_more}
 use Rattle.ubi_volume.proofs.Winners.{state_holds}
 use Rattle.ubi_volume.proofs.surveyed.states_of.Goals as goal
@@ -11,7 +11,7 @@ loop-p-preserved c =
     rw more (record {
       count = length-append old (one ∷ []) ∙ ap (λ n. n + 1) c.loop-p.invariant.count;
       states = λ s bs scan.
-          states_more (StateIs s bs c.args.table.now) old one c.loop-p.p c.loop-p.invariant.count
+          states_more (BlockStateIs s bs c.args.table.now) old one c.loop-p.p c.loop-p.invariant.count
           (c.loop-p.invariant.states s bs scan)
           (c.state_of.ensures s bs c.loop-p.p
           (state_holds s bs c.args.scan.now scan c.loop-p.p c.state.result c.state.ensures));

@@ -1,5 +1,5 @@
 use Rattle.ubi_calls.proofs.Prelude.{printed, answers}
-use Rattle.ubi_calls.proofs.Told.{allowed, limited, prints}
+use Rattle.ubi_calls.proofs.ToldOutcomes.{allowed, limited, prints}
 use Rattle.ubi_calls.proofs.lines.Question.answer_under.Goals as goal
 
 pub returns-in-Ok : goal.returns-in-Ok

@@ -1,5 +1,5 @@
 use Rattle.ubi_calls.proofs.Prelude.{Under, printed, answers}
-use Rattle.ubi_calls.proofs.Told.{fills}
+use Rattle.ubi_calls.proofs.ToldOutcomes.{fills}
 use Rattle.ubi_calls.proofs.lines.Question.tell.Goals as goal
 
 pub returns : goal.returns

@@ -1,5 +1,5 @@
 use Rattle.ubi_calls.proofs.Prelude.{image_of, wanted}
-use Rattle.ubi_calls.proofs.Filled.{counted, uncounted_full}
+use Rattle.ubi_calls.proofs.FilledBuffers.{counted, uncounted_full}
 use Rattle.ubi_calls.proofs.Wanted.{one_told}
 use Rattle.ubi_calls.proofs.streams.Content.count.Goals as goal
 

@@ -1,5 +1,5 @@
 use Rattle.ubi_calls.proofs.Prelude.{IfOk-at_ok, image_of, wanted}
-use Rattle.ubi_calls.proofs.Filled.{line, unended, whole}
+use Rattle.ubi_calls.proofs.FilledBuffers.{line, unended, whole}
 use Rattle.ubi_calls.proofs.streams.Content.end.Goals as goal
 
 pub returns-then-outcome-eq-DONE : goal.returns-then-outcome-eq-DONE

@@ -1,5 +1,5 @@
 use Rattle.ubi_calls.proofs.Prelude.{Sizes, image_of, Under, ended, wanted}
-use Rattle.ubi_calls.proofs.Told.{at_sizes, fills, limited, streams_more}
+use Rattle.ubi_calls.proofs.ToldOutcomes.{at_sizes, fills, limited, streams_more}
 use Rattle.ubi_calls.proofs.streams.Content.tell.Goals as goal
 
 pub returns-in-Ok : goal.returns-in-Ok

@@ -1,6 +1,6 @@
 use Rattle.ubi_change.proofs.Prelude.{Bool, cond, sym, ap, ◌∙◌, Some, option_map, state_avoiding}
 use Rattle.ubi_volume.specs.declared.attached.BlockState.TheVariants as state
-use Rattle.ubi_change.proofs.Shown.{seen_state}
+use Rattle.ubi_change.proofs.PlanPremises.{seen_state}
 use Rattle.ubi_change.proofs.avoided.Avoided.state.Goals as goal
 
 pub returns-then-has : goal.returns-then-has

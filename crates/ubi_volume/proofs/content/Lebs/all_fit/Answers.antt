@@ -1,4 +1,4 @@
-use Rattle.ubi_volume.proofs.Within.{tree_within}
+use Rattle.ubi_volume.proofs.AllowedLebs.{tree_within}
 use Rattle.ubi_volume.proofs.content.Lebs.all_fit.Goals as goal
 
 pub returns : goal.returns

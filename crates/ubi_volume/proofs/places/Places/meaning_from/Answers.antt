@@ -2,7 +2,7 @@ use Rattle.ubi_volume.proofs.Prelude.{◌≡◌, ◌+◌, ◌∙◌, [], ◌∷�
 use Rattle.std.specs.FinMap as finite
 use Rattle.ubi_volume.proofs.Gathered.{contents_more, listed_item}
 use Rattle.ubi_volume.proofs.MeaningOf.{meaning_is, volumes_are}
-use Rattle.ubi_volume.proofs.Narrowed.{contents_narrowed, places_narrowed}
+use Rattle.ubi_volume.proofs.NarrowedPlaces.{contents_narrowed, places_narrowed}
 use Rattle.ubi_volume.proofs.places.Places.meaning_from.Goals as goal
 
 pub content_from-requires-clause-places : goal.content_from-requires-clause-places

@@ -1,5 +1,0 @@
-use Rattle.ubi_change.proofs.Prelude.{◌≡◌, take, block_cut}
-use Rattle.ubi_change.proofs.stepping.apply_in.Given as goal
-
-abbrev pub invariant-loop-step : goal.invariant-loop-step
-invariant-loop-step l = l.block ≡ block_cut l.geometry l.p (take l.step-index l.steps) l.initial.block

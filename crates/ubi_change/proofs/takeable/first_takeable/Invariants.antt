@@ -1,0 +1,12 @@
+use Rattle.ubi_change.proofs.Prelude.{◌≡◌, Narrows, WhereHeld, blocks_in, blocks_of, states_avoiding}
+use Rattle.ubi_change.proofs.FirstTwoTakeable.{AreParted, PartedFit}
+use Rattle.ubi_change.proofs.takeable.first_takeable.Given as goal
+
+abbrev pub invariant-loop-p : goal.invariant-loop-p
+invariant-loop-p g l = record {
+  source : g.S.BlockSource.known l.source ≡ g.S.BlockSource.known l.fn.source;
+  narrows : Narrows (g.S.BlockSource.agrees l.fn.source) (g.S.BlockSource.agrees l.source);
+  fits : PartedFit (blocks_in l.geometry (g.S.BlockSource.known l.fn.source)) l.parted;
+  parted : WhereHeld (g.S.BlockSource.agrees l.source)
+      (λ bytes. AreParted l.geometry (blocks_of l.geometry bytes) (states_avoiding l.avoided l.surveyed.states) l.p l.parted);
+}

@@ -1,6 +1,0 @@
-use Rattle.ubi_change.proofs.Prelude.{◌≡◌, ℕ, ◌*◌, ◌<◌, false, take, check, is_weak}
-use Rattle.ubi_change.proofs.weakness.weak_place.Given as goal
-
-abbrev pub invariant-loop-k : goal.invariant-loop-k
-invariant-loop-k l = (l.front ≡ check (take (l.k * l.geometry.page) l.new))
-    × ((j : ℕ) → j < l.k → is_weak l.geometry l.new j ≡ false)

@@ -1,0 +1,145 @@
+//! Why a change or a rename isn't planned.
+
+ghost use Rattle.std.specs.Prelude.{◌≡◌, Some};
+ghost use Rattle.ubi_change.specs.declared.errors.ChangeRefusal.{ChangeRefusal};
+ghost use Rattle.ubi_change.specs.declared.errors.RenameRefusal.{RenameRefusal};
+ghost use Rattle.ubi_change.specs.ErrorTexts.{change_refusal_text, plan_error_text, rename_refusal_text};
+
+use std::alloc::AllocError;
+use std::error::Error;
+use std::fmt;
+use ubi_media::Refusal;
+
+/// Why a change isn't planned: the first cause that applies, in this order. `Memory` may come at any allocation, whatever
+/// else applies.
+#[derive(Clone, Copy, Debug, PartialEq, Eq)]
+pub enum ChangeRefusal {
+    /// The image is refused, for this cause.
+    Attach(Refusal),
+    /// The volume has no record.
+    NoVolume,
+    /// The volume is static.
+    StaticVolume,
+    /// An update of the volume began and didn't end.
+    Updating,
+    /// The volume doesn't reserve the logical eraseblock.
+    OutOfRange,
+    /// There are no new bytes, they aren't whole pages, or they are more than the volume uses of a logical eraseblock.
+    BadLength,
+    /// The first pages of the new bytes, as many as this, and then 0xFF, aren't the new bytes but have the same CRC: after a
+    /// cut there the copy would look whole. The number is the least such one.
+    WeakCheck(u32),
+    /// The sequence numbers that the plan needs would pass 2^64 - 1.
+    Exhausted,
+    /// Fewer eraseblocks can be taken than the plan needs: one if the logical eraseblock has a winner, and two if not.
+    NoFree,
+    /// Memory ran out.
+    Memory,
+}
+
+impl fmt::Display for ChangeRefusal {
+    ghost output = { λ cause. Some (change_refusal_text cause) };
+
+    fn fmt<W: fmt::Write>(&self, f: &mut fmt::Formatter<W>) -> fmt::Result {
+        match self {
+            ChangeRefusal::Attach(cause) => write!(f, "{cause}"),
+            ChangeRefusal::NoVolume => f.write_str("K2 NoVolume"),
+            ChangeRefusal::StaticVolume => f.write_str("K3 StaticVolume"),
+            ChangeRefusal::Updating => f.write_str("K4 Updating"),
+            ChangeRefusal::OutOfRange => f.write_str("K5 OutOfRange"),
+            ChangeRefusal::BadLength => f.write_str("K6 BadLength"),
+            ChangeRefusal::WeakCheck(pages) => write!(f, "K7 WeakCheck pages={pages}"),
+            ChangeRefusal::Exhausted => f.write_str("K8 Exhausted"),
+            ChangeRefusal::NoFree => f.write_str("K9 NoFree"),
+            ChangeRefusal::Memory => f.write_str("out of memory"),
+        }
+    }
+}
+
+impl Error for ChangeRefusal {}
+
+impl From<AllocError> for ChangeRefusal {
+    ghost from_gives = { λ _ e. e ≡ ChangeRefusal.Memory };
+
+    fn from(_: AllocError) -> ChangeRefusal {
+        ChangeRefusal::Memory
+    }
+}
+
+/// Why a rename isn't planned: the first cause that applies, in this order. `Memory` may come at any allocation, whatever
+/// else applies.
+#[derive(Clone, Copy, Debug, PartialEq, Eq)]
+pub enum RenameRefusal {
+    /// The image is refused, for this cause.
+    Attach(Refusal),
+    /// The volume has no record.
+    NoVolume,
+    /// The bytes aren't a name: there are none, there are more than 127, or one of them is zero.
+    BadName,
+    /// Another volume has the name: its slot.
+    SameName(u32),
+    /// The two copies of the volume table aren't both good with equal tables.
+    NeedsRepair,
+    /// The first pages of the new table, as many as this, and then 0xFF, aren't the new table but have the same CRC. The
+    /// number is the least such one.
+    WeakCheck(u32),
+    /// The two sequence numbers that the plan needs would pass 2^64 - 1.
+    Exhausted,
+    /// Fewer than two eraseblocks can be taken.
+    NoFree,
+    /// Memory ran out.
+    Memory,
+}
+
+impl fmt::Display for RenameRefusal {
+    ghost output = { λ cause. Some (rename_refusal_text cause) };
+
+    fn fmt<W: fmt::Write>(&self, f: &mut fmt::Formatter<W>) -> fmt::Result {
+        match self {
+            RenameRefusal::Attach(cause) => write!(f, "{cause}"),
+            RenameRefusal::NoVolume => f.write_str("K2 NoVolume"),
+            RenameRefusal::BadName => f.write_str("N1 BadName"),
+            RenameRefusal::SameName(slot) => write!(f, "N2 SameName slot={slot}"),
+            RenameRefusal::NeedsRepair => f.write_str("N3 NeedsRepair"),
+            RenameRefusal::WeakCheck(pages) => write!(f, "K7 WeakCheck pages={pages}"),
+            RenameRefusal::Exhausted => f.write_str("K8 Exhausted"),
+            RenameRefusal::NoFree => f.write_str("K9 NoFree"),
+            RenameRefusal::Memory => f.write_str("out of memory"),
+        }
+    }
+}
+
+impl Error for RenameRefusal {}
+
+impl From<AllocError> for RenameRefusal {
+    ghost from_gives = { λ _ e. e ≡ RenameRefusal.Memory };
+
+    fn from(_: AllocError) -> RenameRefusal {
+        RenameRefusal::Memory
+    }
+}
+
+/// Why the image of a source has no plan.
+#[derive(Clone, Copy, Debug, PartialEq, Eq)]
+pub enum PlanError<C> {
+    /// A cause applies against it, or memory ran out.
+    Refused(C),
+    /// A read failed: the eraseblock.
+    Read(u32),
+    /// An eraseblock that is listed as one that may not be touched isn't Blank: the plan might have to give it up.
+    NotBlank(u32),
+}
+
+impl<C: fmt::Display> fmt::Display for PlanError<C> {
+    ghost output = { plan_error_text C.output };
+
+    fn fmt<W: fmt::Write>(&self, f: &mut fmt::Formatter<W>) -> fmt::Result {
+        match self {
+            PlanError::Refused(cause) => write!(f, "{cause}"),
+            PlanError::Read(p) => write!(f, "a read failed block={p}"),
+            PlanError::NotBlank(p) => write!(f, "K10 NotBlank block={p}"),
+        }
+    }
+}
+
+impl<C: fmt::Debug + fmt::Display + Drop> Error for PlanError<C> {}
