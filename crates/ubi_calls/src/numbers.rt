@@ -29,8 +29,8 @@ pub struct DeviceSizes {
 /// The first limit that they break.
 pub fn geometry_of(sizes: &DeviceSizes) -> Result<Geometry, GeometryError>
     ensures { MatchResult result
-        (λ g. (first_broken (sizes_of sizes.now) ≡ None) × (g ≡ sizes_of sizes.now))
-        (λ e. first_broken (sizes_of sizes.now) ≡ Some e) }
+        (λ g. (first_broken (named_sizes sizes.now) ≡ None) × (g ≡ named_sizes sizes.now))
+        (λ e. first_broken (named_sizes sizes.now) ≡ Some e) }
 {
     Geometry::new(
         sizes.peb_size,
