@@ -42,21 +42,21 @@ static int write_volume(const struct ubi_sizes *sizes, const uint8_t *image, siz
     char path[4096];
     if (ubi_read(sizes, image, image_len, number, &nothing, 0, &len) == UBI_NO_MEMORY || !(bytes = malloc(len + 1))) return 1;
     uint32_t status = ubi_read(sizes, image, image_len, number, bytes, len, &again);
-    if (status != UBI_DONE) return refused(status, bytes, len, again);
-    snprintf(path, sizeof path, "%s/volume_%u.bin", folder, number);
-    FILE *file = fopen(path, "wb");
-    if (!file || fwrite(bytes, 1, len, file) != len || fclose(file)) return 1;
+    int failed = status != UBI_DONE && refused(status, bytes, len, again);
+    if (!failed) {
+        snprintf(path, sizeof path, "%s/volume_%u.bin", folder, number);
+        FILE *file = fopen(path, "wb");
+        failed = !file || fwrite(bytes, 1, len, file) != len || fclose(file);
+    }
     free(bytes);
-    return 0;
+    return failed;
 }
 
-int main(int argc, char **argv) {
-    size_t dump_len, len;
-    uint8_t *dump;
-    if (argc != 3 || !(dump = load(argv[1], &dump_len))) return 2;
-
+/* Lists the volumes of the image in a dump, and writes the contents of each. */
+static int write_volumes(const uint8_t *dump, size_t dump_len, const char *folder) {
     static uint8_t text[65536];
     const size_t room = sizeof text - 1;
+    size_t len;
     uint32_t status = ubi_geometry(dump, dump_len, text, room, &len);
     if (status != UBI_DONE) return refused(status, text, room, len);
     text[len < room ? len : room] = 0;
@@ -77,8 +77,16 @@ int main(int argc, char **argv) {
     fputs((char *)text, stdout);
     for (line = strstr(line, "\nvolume "); line; line = strstr(line + 1, "\nvolume ")) {
         unsigned number = (unsigned)strtoul(line + strlen("\nvolume "), NULL, 10);
-        if (write_volume(&sizes, image, image_len, number, argv[2])) return 1;
+        if (write_volume(&sizes, image, image_len, number, folder)) return 1;
     }
-    free(dump);
     return 0;
+}
+
+int main(int argc, char **argv) {
+    size_t dump_len;
+    uint8_t *dump;
+    if (argc != 3 || !(dump = load(argv[1], &dump_len))) return 2;
+    int failed = write_volumes(dump, dump_len, argv[2]);
+    free(dump);
+    return failed;
 }
