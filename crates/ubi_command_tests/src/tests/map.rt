@@ -160,7 +160,8 @@ fn writes_a_page_of_what_is_accepted_or_refused(rt: HostRuntime) -> Result<(), F
     let data = format!(in alloc;
         "{{\"blocks\":[{headers}],\
             \"geometry\":{{\"data\":128,\"leb\":384,\"page\":64,\"peb\":512,\"pebs\":32,\"slots\":2,\"vid\":64}},\
-            \"refusal\":{{\"refused\":{{\"block\":0,\"cause\":\"Ec\",\"code\":\"S3\",\"fault\":\"Version\"}}}}}}"
+            \"refusal\":{{\"refused\":{{\"block\":0,\"cause\":\"Ec\",\"code\":\"S3\",\"fault\":\"Version\"}}}},\
+            \"states\":\"!\"}}"
     )?;
     let text = printed(alloc, "!", "refused S3 Ec block=0 Version\n")?;
     assert_page(
