@@ -121,7 +121,8 @@ class _Room:
         return self.len.value <= self.size
 
     def taken(self):
-        return ctypes.string_at(self.bytes, self.len.value)
+        # ctypes.string_at cuts a length to 31 bits.
+        return memoryview(self.bytes)[:self.len.value].tobytes()
 
 
 def _path():

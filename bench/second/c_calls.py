@@ -12,6 +12,8 @@ with one byte: the answer's length is the same, its first bytes stand in the buf
 Of some images each growth of memory of each call is refused in turn:
 it has to answer that memory ran out, with nothing written, or the first bytes. What is refused Python raises, with the cause.
 
+Volumes of more than 2^31 and of more than 2^32 bytes are asked for too, the first ones by Python, which takes 5 GB of memory.
+
 Then c/examples/volumes.c and volumes.py are run on an image, and have to print the same, and to write the same volumes, as the program does.
 
 Without words there are 200 images of the seed 1, five of large eraseblocks, and five for which memory is refused. What c/build.sh has made is looked for in c/out, or in the
@@ -20,6 +22,7 @@ Without --tool the program is built first where it isn't yet. The last line is '
 an image that failed can be made again by its number, which --first names.
 """
 import argparse
+import ctypes
 import dataclasses
 import os
 import random
@@ -277,6 +280,21 @@ def look_data(rng, tool, folder, caller, library):
         Case(rng, tool, folder, caller, library, Geometry(512, 64, 64, 128, 32), image, other).look()
 
 
+def look_far(tool, folder, library):
+    """Asks for the contents of volumes of more than 2^31 and 2^32 bytes, all of them 0xFF."""
+    for count, is_read in ((17000, True), (40000, False)):
+        text, path, length = Path(folder) / "far.txt", Path(folder) / "far.img", count * 126976
+        text.write_text(f"volume 0 dynamic {count} 1 00 far\n")
+        subprocess.run([tool, "compose", text, "--out", path, "--peb", "131072", "--page", "2048"], check=True, capture_output=True)
+        image, sizes, told = path.read_bytes(), ubi.Sizes(131072, 2048, 2048, 4096), ctypes.c_size_t()
+        status = library._library.ubi_read(ctypes.byref(sizes), image, ctypes.c_size_t(len(image)), ctypes.c_uint32(0), ctypes.create_string_buffer(1),
+            ctypes.c_size_t(0), ctypes.byref(told))
+        if (status, told.value) != (0, length):
+            raise Failure(f"ubi_read without room answers {status} and {told.value} of {length} bytes")
+        if is_read and library.read(sizes, image, 0).count(b"\xFF") != length:
+            raise Failure(f"Python reads other contents than {length} bytes 0xFF")
+
+
 def look_examples(tool, folder, made, checkers):
     """Runs the examples on an image, alone and with something around it: what they print and write has to be what the program does."""
     image = ROOT / "crates/ubi_tool/data/root.img"
@@ -331,6 +349,7 @@ def main():
         })
         accepted, growths = (sum(answer[k] for answer in answers) for k in range(2))
         for name, look in (("the images of the repository", lambda: look_data(random.Random(words.seed), tool, folder, caller, library)),
+                ("contents beyond 2^32 bytes", lambda: look_far(tool, folder, library)),
                 ("the examples", lambda: look_examples(tool, folder, words.built, checkers)), ("the caller", caller.end)):
             try:
                 answers.append(look())
