@@ -1,4 +1,4 @@
-# Completion of ubi_tool for bash. Made by bench/gate/words.py.
+# Completion of ubi_tool for bash. Made by check/gate/words.py.
 _ubi_tool() {
     local word=${COMP_WORDS[COMP_CWORD]} words=
     COMPREPLY=()

@@ -1,6 +1,6 @@
 //! The calls of `ubi_calls`, which answer into memory of their caller.
 //!
-//! The script bench/second/c_calls.py makes them from C and Python, over random images.
+//! The script check/second/c_calls.py makes them from C and Python, over random images.
 
 use super::contents::{Contents, EMPTY};
 use super::geometry::SMALL;

@@ -1,6 +1,6 @@
 //! The commands where memory is refused: over bytes, and by their words over files.
 //!
-//! The script bench/second/refuse.sh refuses each growth of memory of these tests in turn, and looks for the line that
+//! The script check/second/refuse.sh refuses each growth of memory of these tests in turn, and looks for the line that
 //! is printed here.
 
 use super::answers::run_line;

@@ -538,7 +538,7 @@ fn size_of(alloc: Global, bytes: &[u8]) -> Result<u32, DetectError> {
     })
 }
 
-/// The script bench/second/refuse.sh refuses each growth of memory in turn, and looks for the line that is printed here.
+/// The script check/second/refuse.sh refuses each growth of memory in turn, and looks for the line that is printed here.
 #[test]
 fn detects_or_runs_out_of_memory(rt: HostRuntime) -> Result<(), Fail> {
     let mut bytes = [0xFF; 16_384];

@@ -49,7 +49,7 @@ fn both_planned(alloc: Global, image: &[u8]) -> Result<Option<(Vec<Step>, Vec<St
     }
 }
 
-/// The script bench/second/refuse.sh refuses each growth of memory in turn, and looks for the line that is printed here.
+/// The script check/second/refuse.sh refuses each growth of memory in turn, and looks for the line that is printed here.
 #[test]
 fn plans_all_or_runs_out_of_memory(rt: HostRuntime) -> Result<(), Fail> {
     let image = image()?;

@@ -14,7 +14,7 @@ const TEXT: &[u8] =
     b"volume 7 static 3 1 00 text\nvolume 2 dynamic 3 1 00 map\nvolume 3 dynamic 3 1 00 half\n\
     volume 0 static 3 1 00 torn\nbytes 7 61\nleb 2 1 6Aff\nupdating 3\nbytes 7 6263\ndamaged 0\n";
 
-/// The script bench/second/refuse.sh refuses each growth of memory in turn, and looks for the line that is printed
+/// The script check/second/refuse.sh refuses each growth of memory in turn, and looks for the line that is printed
 /// here.
 #[test]
 fn reads_all_or_runs_out_of_memory(rt: HostRuntime) -> Result<(), Fail> {

@@ -89,7 +89,7 @@ static SECTIONS: [(&[u8], &[Wanted]); 2] = [
     ),
 ];
 
-/// The script bench/second/refuse.sh refuses each growth of memory in turn, and looks for the line that is printed
+/// The script check/second/refuse.sh refuses each growth of memory in turn, and looks for the line that is printed
 /// here.
 #[test]
 fn gives_the_sections_or_runs_out_of_memory(rt: HostRuntime) -> Result<(), Fail> {

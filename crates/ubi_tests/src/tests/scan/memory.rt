@@ -43,7 +43,7 @@ fn has_members(found: &Scan) -> bool {
     has
 }
 
-/// The script bench/second/refuse.sh refuses each growth of memory in turn, and looks for the line that is printed
+/// The script check/second/refuse.sh refuses each growth of memory in turn, and looks for the line that is printed
 /// here.
 #[test]
 fn finds_all_or_runs_out_of_memory(rt: HostRuntime) -> Result<(), Fail> {

@@ -56,7 +56,7 @@ const RENAMED: Volumes = &[
     ),
 ];
 
-/// The script bench/second/refuse.sh refuses each growth of memory in turn, and looks for the line that is printed
+/// The script check/second/refuse.sh refuses each growth of memory in turn, and looks for the line that is printed
 /// here.
 #[test]
 fn reads_and_names_or_runs_out_of_memory(rt: HostRuntime) -> Result<(), Fail> {

@@ -36,7 +36,7 @@ fn reads_all(alloc: Global, geometry: &Geometry) -> Result<Result<bool, AllocErr
     }
 }
 
-/// The script bench/second/refuse.sh refuses each growth of memory in turn, and looks for the line that is printed
+/// The script check/second/refuse.sh refuses each growth of memory in turn, and looks for the line that is printed
 /// here.
 #[test]
 fn reads_all_or_runs_out_of_memory(rt: HostRuntime) -> Result<(), Fail> {

@@ -16,7 +16,7 @@ the name, the refusal is looked at.
 In half of the images one to four more eraseblocks are bad, and are listed so. They hold anything: bytes that are all alike or random,
 a free eraseblock, headers that are at fault or name another number, or what would win a logical eraseblock or the table. No step
 may touch them, and with other bytes in them the plan, its pages and what is written stay as they are. A quarter of the plans keep
-blank eraseblocks. The pages of each cut must be those that its programs gave. Beside the program bench/second/rules.py judges
+blank eraseblocks. The pages of each cut must be those that its programs gave. Beside the program check/second/rules.py judges
 each cut, too.
 
 Without words there are 100 images (--count) of the seed 1 (--seed) to change, and as many to rename. They lie in a new folder

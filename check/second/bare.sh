@@ -1,5 +1,5 @@
 #!/bin/sh
-# bare.sh ARCHIVE: unpacks what bench/release.sh has packed on a Debian with nothing but its base, and runs the program there.
+# bare.sh ARCHIVE: unpacks what release.sh has packed on a Debian with nothing but its base, and runs the program there.
 #
 # Needs debootstrap, root, and Debian's mirror. The base lies in a new folder below /tmp, which is removed again. The archive's sums have to
 # be right, and `list`, `extract` and `install.sh` have to work with neither the kit nor Python nor a compiler. The last line is

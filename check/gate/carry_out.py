@@ -3,7 +3,7 @@
 
 usage: carry_out.py [--tool PROGRAM] [--script PATH] [--only WORD]
 
-The tools that the script calls are those of bench/gate/fakes, which behave as mtd-utils and dd do on NAND flash. They can be told
+The tools that the script calls are those of check/gate/fakes, which behave as mtd-utils and dd do on NAND flash. They can be told
 what goes wrong: an erase that fails, that does nothing or half of it, a program that fails, that is torn, that can't be read back,
 an eraseblock that is bad. Images are small, with pages that have sub-pages and pages that have none, and with eraseblocks that are
 bad. Of each image a LEB that is mapped is changed, and one that isn't, and a volume is renamed:
@@ -16,7 +16,7 @@ bad. Of each image a LEB that is mapped is changed, and one that isn't, and a vo
 - interrupts, outputs that are closed or full, offsets beyond 4 GiB
 
 What the chip holds has to be the image after the steps that are done, and to mean the old or the new. Plans, pages and meanings
-are those of bench/second/rules.py. With --tool the plans and the pages are those of PROGRAM too, which have to be the same, and
+are those of check/second/rules.py. With --tool the plans and the pages are those of PROGRAM too, which have to be the same, and
 the meaning is what its `list` and `extract` say. The script is run by dash, bash and busybox in turn, as far as they are there.
 --only runs the cases whose names have WORD. The last line is 'N passed, M failed', and the exit status is 0 where none failed.
 """
@@ -34,9 +34,9 @@ import time
 from pathlib import Path
 
 ROOT = Path(__file__).resolve().parents[2]
-FAKES = ROOT / 'bench/gate/fakes'
+FAKES = ROOT / 'check/gate/fakes'
 DATA = ROOT / 'crates/ubi_tool/data'
-sys.path.insert(0, str(ROOT / 'bench/second'))
+sys.path.insert(0, str(ROOT / 'check/second'))
 import rules  # noqa: E402
 from rules import LAYOUT, Geometry, Record, Vid  # noqa: E402
 

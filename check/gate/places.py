@@ -5,10 +5,10 @@ usage: places.py
 
 That memory ran out, or that a read or a write failed, is something that no clause can tell from the outside: a body that answers so
 above some size meets each contract. So this looks at the source. A failure may be made in three ways: by `impl From<AllocError>`, which
-`?` uses on an allocation; out of a failure of the same kind, in an arm of a `match`; and at one of the places in bench/gate/places.txt,
+`?` uses on an allocation; out of a failure of the same kind, in an arm of a `match`; and at one of the places in check/gate/places.txt,
 each the call that reads or writes, or an arm that is told why there. A file of the system may be opened at the places in there too.
 
-A line of bench/gate/places.txt is a file below crates/, a colon, and the text of a line of it, as often as it stands there.
+A line of check/gate/places.txt is a file below crates/, a colon, and the text of a line of it, as often as it stands there.
 
 It also looks which functions are proved by hand, without the steps that Rattle writes of the code: those two that note the reads of a
 source, and no other, since one more could note reads that weren't made.

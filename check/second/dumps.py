@@ -1,6 +1,6 @@
 #!/usr/bin/env python3
 """Makes files of which the truth is known: images of many geometries, with anything around them, damaged, cut, one in another, with
-out-of-band bytes; and judges what bench/second/geometry.py tells of them.
+out-of-band bytes; and judges what check/second/geometry.py tells of them.
 
 usage: dumps.py [--seed N ..] [--count N] [--first N] [--ubinize] [--wrong] [--kind KIND]
 

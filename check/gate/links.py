@@ -20,7 +20,7 @@ from pathlib import Path
 from urllib.parse import unquote
 
 ROOT = Path(__file__).resolve().parents[2]
-TOP = ('.ci', 'attacks', 'bench', 'c', 'completions', 'crates', 'docs', 'examples')
+TOP = ('.ci', 'attacks', 'bench', 'c', 'check', 'completions', 'crates', 'docs', 'examples')
 CODE = re.compile(r'(?<!`)(`+)(?!`)(.+?)(?<!`)\1(?!`)', re.DOTALL)
 OF_CRATE = re.compile(r"`(?P<crate>ubi_\w+)`(?:'s?)?\s+`(?P<path>src/[\w./-]+)`|`(?P<first>src/[\w./-]+)` of `(?P<then>ubi_\w+)`")
 LINK = re.compile(r'\]\(\s*<?([^\s)>]+)>?(?:\s+"[^"]*")?\s*\)|^\s*\[[^\]]+\]:\s+(\S+)', re.MULTILINE)

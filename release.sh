@@ -10,7 +10,7 @@
 # Needs GNU tar, gzip, git and sha256sum. Exit status: 0 done; 1 refused; 2 bad arguments.
 
 set -eu
-top=$(cd "$(dirname "$0")/.." && pwd -P)
+top=$(cd "$(dirname "$0")" && pwd -P)
 
 tool='' folder=$top/out
 while [ $# -gt 0 ]; do

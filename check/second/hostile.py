@@ -424,7 +424,7 @@ FAMILIES = {
 
 
 class Looker:
-    """Compares the program's answers with what is expected and with what bench/second/rules.py reads."""
+    """Compares the program's answers with what is expected and with what check/second/rules.py reads."""
 
     def __init__(self, tool, folder):
         self.tool = tool

@@ -12,7 +12,7 @@ import re
 import sys
 from pathlib import Path
 
-CRATES = Path(__file__).resolve().parents[2] / "crates"
+CRATES = Path(__file__).resolve().parents[1] / "crates"
 PAUSE = 300
 
 

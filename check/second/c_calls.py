@@ -57,7 +57,7 @@ class Caller:
 
     def __init__(self, made, folder, checkers):
         program = f"{folder}/c_caller"
-        subprocess.run(["cc", "-Wall", "-Wextra", "-Werror", "-O1", *checkers, f"-I{made}", "-o", program, ROOT / "bench/second/c_caller.c",
+        subprocess.run(["cc", "-Wall", "-Wextra", "-Werror", "-O1", *checkers, f"-I{made}", "-o", program, ROOT / "check/second/c_caller.c",
             f"{made}/libubi.a", "-Wl,--wrap=malloc,--wrap=realloc"], check=True)
         self.at_work = subprocess.Popen([program], stdin=subprocess.PIPE, stdout=subprocess.PIPE)
 

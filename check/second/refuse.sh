@@ -3,7 +3,7 @@
 # of attaching and reading, of planning a rename and a change, of reading a config and the composer's text, of building an image, and of the
 # commands over bytes and by their words.
 #
-# usage: bench/second/refuse.sh [CRATE TEST]
+# usage: check/second/refuse.sh [CRATE TEST]
 #
 # Runs a test again and again: of the first run the first growth is refused, of the second the second, and so on until a run
 # meets no refusal. Without words these are the tests of the list below, in the programs that `rt test` leaves in the
@@ -16,7 +16,7 @@ root=$(CDPATH='' cd -- "$(dirname -- "$0")/../.." && pwd) || exit 1
 room=$(mktemp -d) || exit 1
 trap 'rm -rf "$room"' EXIT
 
-${CC:-cc} -O1 -shared -fPIC -o "$room/refuse.so" "$root/bench/second/refuse.c" -ldl || exit 1
+${CC:-cc} -O1 -shared -fPIC -o "$room/refuse.so" "$root/check/second/refuse.c" -ldl || exit 1
 
 # Refuses each growth of a test in turn, and counts the runs that went wrong.
 refuse_each() {

@@ -6,7 +6,7 @@ usage: starve.py [--seed N] [--count N] [--first N] [--dir FOLDER] [--tool PROGR
 The images are those of fuzz.py that are accepted, some of them with eraseblocks that are listed as bad. Each command is run over an
 image again and again: of the first run the first growth is refused, of the second the second, and so on until a run meets no
 refusal. Each run that meets one has to print `out of memory` with the status 1, and to leave the output and the pages as they
-were: no file, and no folder. The last one has to answer as with ample memory. bench/second/refuse.sh does the same with the program's tests.
+were: no file, and no folder. The last one has to answer as with ample memory. check/second/refuse.sh does the same with the program's tests.
 
 Without words there are 20 images (--count) of the seed 1 (--seed). They lie in a new folder below FOLDER (/tmp where it is
 left out), which is removed again. Without --tool the program is built first where it isn't yet. It needs a C compiler (cc,
@@ -24,7 +24,7 @@ from fuzz import ROOT, Case, Failure, Maker, built, finish, options, renumbered,
 
 def refusing(folder):
     """The path of a library that refuses one growth, which REFUSE_AT counts from 1."""
-    source, library = os.path.join(ROOT, "bench", "second", "refuse.c"), os.path.join(folder, "refuse.so")
+    source, library = os.path.join(ROOT, "check", "second", "refuse.c"), os.path.join(folder, "refuse.so")
     subprocess.run([os.environ.get("CC", "cc"), "-O1", "-shared", "-fPIC", "-o", library, source, "-ldl"], check=True)
     return library
 

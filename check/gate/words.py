@@ -69,7 +69,7 @@ def bash(commands):
     cases = ''.join(
         f"        {name}) words='{' '.join('--' + option.name for option in help.options())} --help' ;;\n"
         for name, help in commands.items())
-    return f"""# Completion of ubi_tool for bash. Made by bench/gate/words.py.
+    return f"""# Completion of ubi_tool for bash. Made by check/gate/words.py.
 _ubi_tool() {{
     local word=${{COMP_WORDS[COMP_CWORD]}} words=
     COMPREPLY=()
@@ -105,7 +105,7 @@ def zsh(commands):
         cases += f"        {name})\n            _arguments -s '--help[Print help]' \\\n                "
         cases += ' \\\n                '.join(lines) + ' ;;\n'
     return f"""#compdef ubi_tool
-# Completion of ubi_tool for zsh. Made by bench/gate/words.py.
+# Completion of ubi_tool for zsh. Made by check/gate/words.py.
 _ubi_tool() {{
     local -a commands=(
 {names}    )
@@ -167,7 +167,7 @@ def described(shown, texts):
 
 def manual(whole, commands, version):
     """The manual page: each option once."""
-    page = f""".\\" The manual page of ubi_tool. Made by bench/gate/words.py.
+    page = f""".\\" The manual page of ubi_tool. Made by check/gate/words.py.
 .TH UBI_TOOL 1 {DATE} "{version}" "User Commands"
 .SH NAME
 ubi_tool \\- {roff(whole.about[0].lower() + whole.about[1:])}
@@ -206,7 +206,7 @@ def main():
             path.write_text(text)
         elif not path.is_file() or path.read_text() != text:
             failed += 1
-            print(f'failed: {name} is not what the help says: run bench/gate/words.py')
+            print(f'failed: {name} is not what the help says: run check/gate/words.py')
     print(f'{len(made) - min(failed, len(made))} passed, {failed} failed')
     return 1 if failed else 0
 

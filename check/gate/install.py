@@ -1,5 +1,5 @@
 #!/usr/bin/env python3
-"""Whether what install.sh puts below a prefix, and what bench/release.sh packs, runs where there is no kit.
+"""Whether what install.sh puts below a prefix, and what release.sh packs, runs where there is no kit.
 
 usage: install.py [--tool PROGRAM]
 
@@ -181,12 +181,12 @@ def packed(room, tool):
     name = 'ubi_tool-0.1.0-linux-x86_64'
     time = run('git', '-C', ROOT, 'log', '-1', '--format=%ct')[1]
     if not time:
-        came = run(ROOT / 'bench/release.sh', '--tool', tool, room / 'first', cwd=room)
+        came = run(ROOT / 'release.sh', '--tool', tool, room / 'first', cwd=room)
         yield f'an archive of no clone: {came}', came[0] == 1 and b'is no clone' in came[2]
         return
     made = []
     for folder in (room / 'first', room / 'second'):
-        came = run(ROOT / 'bench/release.sh', '--tool', tool, folder, cwd=room, TMPDIR=str(room))
+        came = run(ROOT / 'release.sh', '--tool', tool, folder, cwd=room, TMPDIR=str(room))
         made.append((folder / f'{name}.tar.gz').read_bytes() if came[0] == 0 else b'')
         yield f'release.sh: {came}', came[0] == 0 and came[1].endswith(f'  {name}.tar.gz\n'.encode()) and not came[2]
     yield 'the same archive twice', made[0] == made[1] != b''

@@ -27,7 +27,7 @@ from image import IMAGE_SEQ, check, counter_header, identifier_header, sealed
 # Of each kind its number in a record, and how many times as long as `cp` it may take.
 KINDS = {"dynamic": (1, 2), "static": (2, 4)}
 HERE = os.path.dirname(os.path.abspath(__file__))
-ROOT = os.path.dirname(os.path.dirname(HERE))
+ROOT = os.path.dirname(HERE)
 PEB, PAGE = 131072, 2048
 LAYOUT, SLOTS, ROOM = 0x7FFFEFFF, 128, 8
 

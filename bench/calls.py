@@ -20,8 +20,8 @@ import time
 from editing import put_files
 from normalise import KINDS, PAGE, PEB, options, put_image
 
-ROOT = os.path.dirname(os.path.dirname(os.path.dirname(os.path.abspath(__file__))))
-sys.path.insert(0, f"{ROOT}/bench/second")
+ROOT = os.path.dirname(os.path.dirname(os.path.abspath(__file__)))
+sys.path.insert(0, f"{ROOT}/check/second")
 from c_calls import Caller  # noqa: E402
 
 SIZES = (PEB, PAGE, PAGE, 2 * PAGE, 1048576)

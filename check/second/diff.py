@@ -1,5 +1,5 @@
 #!/usr/bin/env python3
-"""Compares what `diff` and `same` answer of random pairs of images with what docs/FORMAT.md says, as bench/second/rules.py reads it.
+"""Compares what `diff` and `same` answer of random pairs of images with what docs/FORMAT.md says, as check/second/rules.py reads it.
 
 usage: diff.py [--seed N] [--count N] [--large N] [--first N] [--dir FOLDER] [--tool PROGRAM]
 

@@ -1,5 +1,5 @@
 #!/usr/bin/env python3
-"""Compares what `compose` answers of random texts with what docs/SPEC-FORMAT.md says, as bench/second/text_rules.py reads it.
+"""Compares what `compose` answers of random texts with what docs/SPEC-FORMAT.md says, as check/second/text_rules.py reads it.
 
 usage: texts.py [--seed N] [--count N] [--first N] [--dir FOLDER] [--tool PROGRAM]
 

@@ -1,5 +1,5 @@
 #!/usr/bin/env python3
-"""Compares what the program answers of random images with what docs/FORMAT.md says, as bench/second/rules.py reads it.
+"""Compares what the program answers of random images with what docs/FORMAT.md says, as check/second/rules.py reads it.
 
 usage: fuzz.py [--seed N] [--count N] [--large N] [--huge N] [--first N] [--dir FOLDER] [--tool PROGRAM]
 

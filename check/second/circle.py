@@ -3,7 +3,7 @@
 
 usage: circle.py [--seed N] [--count N] [--large N] [--ubinize N] [--first N] [--dir FOLDER] [--tool PROGRAM]
 
-The images are those of bench/second/fuzz.py. Of one that is accepted `unpack` has to write the files and the config that bench/second/rules.py gives. Then
+The images are those of check/second/fuzz.py. Of one that is accepted `unpack` has to write the files and the config that check/second/rules.py gives. Then
 the words of the config's first line are run, with a path for IMAGE: what is built has to be the normal image of the volumes that the config describes, byte for byte; and
 where it describes all of them, what `normalise` writes of the image itself.
 

@@ -1,5 +1,5 @@
 #!/usr/bin/env python3
-"""Compares what `build` answers of random configs with what docs/CONFIG-FORMAT.md says, as bench/second/config.py reads it.
+"""Compares what `build` answers of random configs with what docs/CONFIG-FORMAT.md says, as check/second/config.py reads it.
 
 usage: builds.py [--seed N] [--count N] [--first N] [--dir FOLDER] [--tool PROGRAM]
 

@@ -1,5 +1,5 @@
 #!/usr/bin/env python3
-"""Compares what the program answers of files of which no number is typed with what docs/FORMAT.md says, as bench/second/geometry.py and
+"""Compares what the program answers of files of which no number is typed with what docs/FORMAT.md says, as check/second/geometry.py and
 rules.py read it, and with the truth.
 
 usage: desk.py [--seed N] [--count N] [--geometry N] [--first N] [--dir FOLDER] [--tool PROGRAM]
