@@ -73,7 +73,7 @@ fn volume_len(alloc: Global, geometry: &Geometry, image: &[u8], id: u32) -> Opti
     let Ok(places) = attach_places(alloc, geometry, &mut source) else {
         return None;
     };
-    match places.extent(geometry, id) {
+    match places.extent(id) {
         Ok(extent) => Some(extent.bytes as usize),
         Err(_) => None,
     }

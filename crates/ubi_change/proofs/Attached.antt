@@ -1,5 +1,5 @@
 -- The plan of an attached image, with no cause against it, survives every cut.
-use Rattle.ubi_change.proofs.Prelude.{◌≡◌, ◌≢◌, ℕ, suc, ◌+◌, ◌/◌, ◌%◌, ◌^◌, ◌<◌, ◌≤◌, Bool, true, false, not, List, [], ◌∷◌, ◌++◌, append_assoc, length, set, refl, ap, sym, ◌∙◌, subst, arith, length-append, length-set, None, Option, Some, ◌==◌, IfSome, count_by, nat_lt, option_map, then_some, FinMap, option_map_or, nat_cmp, nat_tests, Sizes, IsGeometry, leb_size, is_static, data_pad, usable, vid_bytes, EcHeader, VidHeader, VolKind, VolumeRecord, Image, eraseblocks, of_blocks, NoMember, Wins, Agrees, Records, AllBlank, AcceptsBlocks, AttachValue, Fits, IsVolume, Content, Volume, records_meant, found_wins, none_found, SurvivesCuts, programs_copy, turn, blank_header, copy_header, next_ec, mapped_plan, needs, plan_of, prepare, program_header, program_text, ready_bytes, ready_ec, release, taken, unmapped_plan, causes, first_cause, first_of, is_bad_length, ec_at, is_worn, takeable, weak_pages, pages_needed, ChangeRefusal, Step, own_causes, laid, rec_fault, half_pad, reserved_within}
+use Rattle.ubi_change.proofs.Prelude.{◌≡◌, ◌≢◌, ℕ, suc, ◌+◌, ◌/◌, ◌%◌, ◌^◌, ◌<◌, ◌≤◌, Bool, true, false, not, List, [], ◌∷◌, ◌++◌, append_assoc, length, set, refl, ap, sym, ◌∙◌, subst, arith, length-append, length-set, None, Option, Some, ◌==◌, IfSome, count_by, nat_lt, option_map, then_some, FinMap, option_map_or, nat_cmp, nat_tests, Sizes, IsGeometry, leb_size, is_static, data_pad, usable, vid_bytes, EcHeader, VidHeader, VolKind, VolumeRecord, Image, eraseblocks, of_blocks, NoMember, Wins, Agrees, Records, AllBlank, AcceptsBlocks, AttachValue, Fits, IsVolume, Content, Volume, records_meant, found_wins, none_found, SurvivesCuts, programs_copy, turn, blank_header, copy_header, leb_header, next_ec, mapped_plan, needs, plan_of, prepare, program_header, program_text, ready_bytes, ready_ec, release, taken, unmapped_plan, causes, first_cause, first_of, is_bad_length, ec_at, is_worn, takeable, weak_pages, pages_needed, ChangeRefusal, Step, own_causes, laid, rec_fault, half_pad, reserved_within}
 use Rattle.std.specs.FinMap as finite
 use Rattle.ubi_media.specs.declared.vid.VolKind.TheVariants as kind
 use Rattle.ubi_volume.specs.declared.content.Content.TheVariants as content
@@ -238,7 +238,7 @@ module _ (change : Changing) where
     pub mapped_turn : turn s (mapped_plan s bs a v.entry id lnum new b old) new
         ≡ length (prepare s bs a b) + suc (pages_needed s new)
     mapped_turn =
-        let h = copy_header 0 (data_pad s v.entry) id lnum (a.scan.top_sqnum + 1) new in
+        let h = copy_header (leb_header s v.entry id lnum) (a.scan.top_sqnum + 1) new in
         let fits = copy_fits s v.entry id lnum (a.scan.top_sqnum + 1) new slot number half wide no_cause.is_new.some
         fits_leb few_numbers in
         let sound = copy_sound s v.entry id lnum (a.scan.top_sqnum + 1) new slot number half wide no_cause.is_new.some
@@ -248,7 +248,7 @@ module _ (change : Changing) where
 
     mapped_survives : SurvivesCuts s bs a.meaning id lnum new (mapped_plan s bs a v.entry id lnum new b old)
     mapped_survives =
-        let h = copy_header 0 (data_pad s v.entry) id lnum (a.scan.top_sqnum + 1) new in
+        let h = copy_header (leb_header s v.entry id lnum) (a.scan.top_sqnum + 1) new in
         let fits = copy_fits s v.entry id lnum (a.scan.top_sqnum + 1) new slot number half wide no_cause.is_new.some
         fits_leb few_numbers in
         let sound = copy_sound s v.entry id lnum (a.scan.top_sqnum + 1) new slot number half wide no_cause.is_new.some
@@ -322,7 +322,7 @@ module _ (change : Changing) where
     some_left = let f = many in omega arith
 
     abbrev pub header0 : VidHeader
-    header0 = blank_header (data_pad s v.entry) id lnum (a.scan.top_sqnum + 1)
+    header0 = blank_header (leb_header s v.entry id lnum) (a.scan.top_sqnum + 1)
 
     abbrev pub mounted0 : List ℕ
     mounted0 = laid s (ready_bytes s bs a e0) (vid_bytes header0) []
@@ -374,7 +374,7 @@ module _ (change : Changing) where
         (ap is_worn (sym made0.1) ∙ fresh))) (beside1 e0)
 
     abbrev header1 : VidHeader
-    header1 = copy_header 0 (data_pad s v.entry) id lnum (a.scan.top_sqnum + 1 + 1) new
+    header1 = copy_header (leb_header s v.entry id lnum) (a.scan.top_sqnum + 1 + 1) new
 
     abbrev pub mount0 : List Step
     mount0 = prepare s bs a e0 ++ program_header s e0 (ready_bytes s bs a e0) header0 ∷ []
@@ -433,7 +433,7 @@ module _ (change : Changing) where
         ap
         (λ k. mount0
         ++ ((prepare s bs a b1 ++ program_header s b1 (ready_bytes s bs a b1)
-        (copy_header 0 (data_pad s v.entry) id lnum k new) ∷ []) ++ program_text s b1 new ++ rel0)) two
+        (copy_header (leb_header s v.entry id lnum) k new) ∷ []) ++ program_text s b1 new ++ rel0)) two
 
     pub unmapped_turn : turn s (unmapped_plan s bs a v.entry id lnum new e0 b1) new
         ≡ length mount0 + (length (prepare s bs a b1) + suc (pages_needed s new))

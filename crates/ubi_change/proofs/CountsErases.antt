@@ -1,5 +1,5 @@
 -- Each eraseblock that a plan erases has a Valid erase-counter header at the end, which counts each erase.
-use Rattle.ubi_change.proofs.Prelude.{◌≡◌, ◌≢◌, ℕ, zero, suc, ◌+◌, ◌-◌, ◌*◌, ◌/◌, ◌%◌, ◌<◌, ◌≤◌, inl, inr, Bool, true, false, cond, List, [], ◌∷◌, ◌++◌, append_assoc, append-nil, length, map, set, refl, ap, sym, ◌∙◌, subst, arith, length-set, get_or-set_same, None, Option, Some, ◌==◌, count_by, fold, enumerate_from, option_map_or, first_chunks, nat_tests, set-set, take_all, fold-append, sum_by-append, same_Some, cases_eq, ec_bytes, ec_reading, filled, IsGeometry, Sizes, data_pad, vid_bytes, EcHeader, EcRead, VidHeader, block, ec, valid_ec, ec-laid, laid, found_wins, AttachValue, CountsErases, counter_after, erases, blank_header, copy_header, next_ec, mapped_plan, mount, plan_of, prepare, program_header, program_text, ready_bytes, ready_ec, release, renew, taken, unmapped_plan, block_after, step_done, target, ec_at, is_clean, is_sole_carrier, is_worn, stays, pages_of, Step}
+use Rattle.ubi_change.proofs.Prelude.{◌≡◌, ◌≢◌, ℕ, zero, suc, ◌+◌, ◌-◌, ◌*◌, ◌/◌, ◌%◌, ◌<◌, ◌≤◌, inl, inr, Bool, true, false, cond, List, [], ◌∷◌, ◌++◌, append_assoc, append-nil, length, map, set, refl, ap, sym, ◌∙◌, subst, arith, length-set, get_or-set_same, None, Option, Some, ◌==◌, count_by, fold, enumerate_from, option_map_or, first_chunks, nat_tests, set-set, take_all, fold-append, sum_by-append, same_Some, cases_eq, ec_bytes, ec_reading, filled, IsGeometry, Sizes, data_pad, vid_bytes, EcHeader, EcRead, VidHeader, block, ec, valid_ec, ec-laid, laid, found_wins, AttachValue, CountsErases, counter_after, erases, blank_header, copy_header, leb_header, next_ec, mapped_plan, mount, plan_of, prepare, program_header, program_text, ready_bytes, ready_ec, release, renew, taken, unmapped_plan, block_after, step_done, target, ec_at, is_clean, is_sole_carrier, is_worn, stays, pages_of, Step}
 use Rattle.std.specs.FinMap as finite
 use Rattle.ubi_media.specs.declared.ec.EcRead.TheVariants as ec_read
 use Rattle.ubi_change.specs.declared.step.Step.TheVariants as step
@@ -275,7 +275,7 @@ module _ (change : Changing) where
       let may = attached.may change old found in
       let apart = attached.old_apart change old found in
       let b = taken s bs a 0 in
-      let h = copy_header 0 (data_pad s v.entry) id lnum (a.scan.top_sqnum + 1) new in
+      let h = copy_header (leb_header s v.entry id lnum) (a.scan.top_sqnum + 1) new in
       let written : List Step = mount s bs a b h ++ program_text s b new in
       let all : AllCounted s g bs a written = written_counted s g bs a [] start b may.0 refl made.0 made.1 made.2.size
       made.2.reads made.2.ready h new (attached.paged change) (attached.room change) in
@@ -296,8 +296,8 @@ module _ (change : Changing) where
       let apart = attached.apart change found in
       let e0 = taken s bs a 0 in
       let b1 = taken s bs a 1 in
-      let h0 = blank_header (data_pad s v.entry) id lnum (a.scan.top_sqnum + 1) in
-      let h1 = copy_header 0 (data_pad s v.entry) id lnum (a.scan.top_sqnum + 2) new in
+      let h0 = blank_header (leb_header s v.entry id lnum) (a.scan.top_sqnum + 1) in
+      let h1 = copy_header (leb_header s v.entry id lnum) (a.scan.top_sqnum + 2) new in
       let mount0 : List Step = mount s bs a e0 h0 in
       let written : List Step = mount s bs a b1 h1 ++ program_text s b1 new in
       let all0 : AllCounted s g bs a mount0 = mount_counted s g bs a [] start e0 may0.0 refl made0.0 made0.1

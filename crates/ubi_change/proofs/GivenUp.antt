@@ -1,5 +1,5 @@
 -- Once the copy is whole, a plan erases the eraseblock that is given up, unless that is then worn or the sole carrier.
-use Rattle.ubi_change.proofs.Prelude.{◌≡◌, ℕ, zero, suc, ◌+◌, ◌%◌, ◌≤◌, false, cond, List, [], ◌∷◌, ◌++◌, length, refl, ap, ◌∙◌, arith, length-append, None, Option, Some, slice_get, option_map_or, Sizes, data_pad, EcHeader, VidHeader, AttachValue, turn, given_up, stays_then, Erases, blank_header, copy_header, next_ec, atomic_copy, mapped_plan, mount, plan_of, prepare, program_header, program_text, ready_bytes, ready_ec, release, renew, taken, unmapped_plan, ec_at, stays, pages_needed, Step}
+use Rattle.ubi_change.proofs.Prelude.{◌≡◌, ℕ, zero, suc, ◌+◌, ◌%◌, ◌≤◌, false, cond, List, [], ◌∷◌, ◌++◌, length, refl, ap, ◌∙◌, arith, length-append, None, Option, Some, slice_get, option_map_or, Sizes, data_pad, EcHeader, VidHeader, AttachValue, turn, given_up, stays_then, Erases, blank_header, copy_header, leb_header, next_ec, atomic_copy, mapped_plan, mount, plan_of, prepare, program_header, program_text, ready_bytes, ready_ec, release, renew, taken, unmapped_plan, ec_at, stays, pages_needed, Step}
 use Rattle.std.specs.FinMap as finite
 use Rattle.ubi_change.proofs.Attached as attached
 use Rattle.ubi_change.proofs.Copied.{length-program_text}
@@ -55,7 +55,7 @@ module _ (change : Changing) where
       → Gives (mapped_plan s bs a v.entry id lnum new (taken s bs a 0) old) old
   mapped_gives old found fresh =
       let b = taken s bs a 0 in
-      let h = copy_header 0 (data_pad s v.entry) id lnum (a.scan.top_sqnum + 1) new in
+      let h = copy_header (leb_header s v.entry id lnum) (a.scan.top_sqnum + 1) new in
       let at = attached.mapped_turn change old found in
       let by = whole_by s bs a b h new (attached.paged change) in (
         length (written s bs a b h new),
@@ -69,8 +69,8 @@ module _ (change : Changing) where
   unmapped_gives found fresh =
       let e = taken s bs a 0 in
       let b = taken s bs a 1 in
-      let h = copy_header 0 (data_pad s v.entry) id lnum (a.scan.top_sqnum + 2) new in
-      let first = mount s bs a e (blank_header (data_pad s v.entry) id lnum (a.scan.top_sqnum + 1)) in
+      let h = copy_header (leb_header s v.entry id lnum) (a.scan.top_sqnum + 2) new in
+      let first = mount s bs a e (blank_header (leb_header s v.entry id lnum) (a.scan.top_sqnum + 1)) in
       let at = attached.unmapped_turn change found in
       let by = whole_by s bs a b h new (attached.paged change) in
       let place : ℕ = length (written s bs a b h new) in (

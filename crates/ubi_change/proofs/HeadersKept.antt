@@ -1,5 +1,5 @@
 -- A program of page 0 comes right after an erase, or keeps the bytes of the erase-counter header as they stand.
-use Rattle.ubi_change.proofs.Prelude.{◌≡◌, ℕ, zero, suc, ◌+◌, ◌-◌, ◌*◌, ◌/◌, ◌%◌, ◌<◌, ◌≤◌, ◌⊎◌, inl, inr, true, cond, List, [], ◌∷◌, ◌++◌, append_assoc, length, map, set, take, refl, ap, sym, ◌∙◌, subst, arith, get_or-set_same, None, Option, Some, nat_lt, slice_get, enumerate_from, option_map_or, first_chunks, div-add-mod, mod-lt, nat_tests, take_at, same_Some, blank, filled, IsGeometry, Sizes, data_pad, vid_bytes, EcHeader, VidHeader, block, ec_area, filled-by, filled-is, AttachValue, ComesFirst, Programs, blank_header, copy_header, vid_page, atomic_copy, mapped_plan, mount, plan_of, prepare, program_header, program_text, ready_bytes, ready_ec, release, renew, taken, unmapped_plan, blocks_after, step_done, ec_at, is_clean, stays, pages_of, Step}
+use Rattle.ubi_change.proofs.Prelude.{◌≡◌, ℕ, zero, suc, ◌+◌, ◌-◌, ◌*◌, ◌/◌, ◌%◌, ◌<◌, ◌≤◌, ◌⊎◌, inl, inr, true, cond, List, [], ◌∷◌, ◌++◌, append_assoc, length, map, set, take, refl, ap, sym, ◌∙◌, subst, arith, get_or-set_same, None, Option, Some, nat_lt, slice_get, enumerate_from, option_map_or, first_chunks, div-add-mod, mod-lt, nat_tests, take_at, same_Some, blank, filled, IsGeometry, Sizes, data_pad, vid_bytes, EcHeader, VidHeader, block, ec_area, filled-by, filled-is, AttachValue, ComesFirst, Programs, blank_header, copy_header, leb_header, vid_page, atomic_copy, mapped_plan, mount, plan_of, prepare, program_header, program_text, ready_bytes, ready_ec, release, renew, taken, unmapped_plan, blocks_after, step_done, ec_at, is_clean, stays, pages_of, Step}
 use Rattle.std.specs.FinMap as finite
 use Rattle.ubi_change.specs.declared.step.Step.TheVariants as step
 use Rattle.ubi_change.proofs.Attached as attached
@@ -178,7 +178,7 @@ module _ (change : Changing) where
       let made = attached.made change old found in
       let may = attached.may change old found in
       copy_keeps s g bs a None bs (taken s bs a 0) may.0 made.2.size
-      (copy_header 0 (data_pad s v.entry) id lnum (a.scan.top_sqnum + 1) new) made.2.ready new old (ec_at s bs old)
+      (copy_header (leb_header s v.entry id lnum) (a.scan.top_sqnum + 1) new) made.2.ready new old (ec_at s bs old)
 
   unmapped_keeps : finite.get a.scan.winners (id, lnum) ≡ None
       → KeepAll s None bs (unmapped_plan s bs a v.entry id lnum new (taken s bs a 0) (taken s bs a 1))
@@ -189,8 +189,8 @@ module _ (change : Changing) where
       let may1 = attached.may1 change found in
       let e0 = taken s bs a 0 in
       let b1 = taken s bs a 1 in
-      let h0 = blank_header (data_pad s v.entry) id lnum (a.scan.top_sqnum + 1) in
-      let h1 = copy_header 0 (data_pad s v.entry) id lnum (a.scan.top_sqnum + 2) new in
+      let h0 = blank_header (leb_header s v.entry id lnum) (a.scan.top_sqnum + 1) in
+      let h1 = copy_header (leb_header s v.entry id lnum) (a.scan.top_sqnum + 2) new in
       let rest : List Step = atomic_copy s bs a b1 h1 new e0 (ready_ec s bs a e0) in
       let left = attached.mounted_done change found in
       let ready1 = subst (λ (z : List (List ℕ)). done s z (prepare s bs a b1)

@@ -1,6 +1,6 @@
 -- The cuts of an atomic copy of a LEB that has a winner: before the commit point the old is meant, and from it on the
 -- new.
-use Rattle.ubi_change.proofs.Prelude.{◌≡◌, ◌≢◌, ℕ, suc, ◌+◌, ◌-◌, ◌/◌, ◌%◌, ◌^◌, ◌<◌, ◌≤◌, inl, inr, true, List, [], ◌∷◌, ◌++◌, length, set, take, refl, ap, sym, ◌∙◌, subst, arith, length-set, None, Option, Some, FinMap, nat_cmp, nat_tests, filled, Sizes, IsGeometry, leb_size, data_pad, usable, breaks, fields_from, first_fault, vid_fault, VidFits, EcHeader, VolumeRecord, VidHeader, check_from-lt, block, leb, IsMember, Leb, Wins, has_members, layout, sqnum_at, Agrees, Records, AllBlank, AcceptsBlocks, IsUnlike, IsOutside, SlotMeans, Meant, Volume, changed, copy_header, program_header, program_text, weak_pages, pages_needed, Step}
+use Rattle.ubi_change.proofs.Prelude.{◌≡◌, ◌≢◌, ℕ, suc, ◌+◌, ◌-◌, ◌/◌, ◌%◌, ◌^◌, ◌<◌, ◌≤◌, inl, inr, true, List, [], ◌∷◌, ◌++◌, length, set, take, refl, ap, sym, ◌∙◌, subst, arith, length-set, None, Option, Some, FinMap, nat_cmp, nat_tests, filled, Sizes, IsGeometry, leb_size, data_pad, usable, breaks, fields_from, first_fault, vid_fault, VidFits, EcHeader, VolumeRecord, VidHeader, check_from-lt, block, leb, IsMember, Leb, Wins, has_members, layout, sqnum_at, Agrees, Records, AllBlank, AcceptsBlocks, IsUnlike, IsOutside, SlotMeans, Meant, Volume, changed, copy_header, leb_header, program_header, program_text, weak_pages, pages_needed, Step}
 use Rattle.std.specs.FinMap as finite
 use Rattle.ubi_media.specs.declared.vid.VolKind.TheVariants as kind
 use Rattle.ubi_volume.specs.declared.content.Content.TheVariants as content
@@ -36,11 +36,11 @@ used_by_volume s bs m a id v there all =
 module _ (s : Sizes) (r : VolumeRecord) (id lnum sqnum : ℕ) (new : List ℕ) (slot : id < 128) (number : lnum < 2 ^ 31)
     (half : data_pad s r < leb_size s / 2)
     (wide : leb_size s < 2 ^ 31) (some : 1 ≤ length new) (short : length new ≤ leb_size s) where
-  pub copy_sound : vid_fault s (copy_header 0 (data_pad s r) id lnum sqnum new) ≡ None
+  pub copy_sound : vid_fault s (copy_header (leb_header s r id lnum) sqnum new) ≡ None
   unfolding first_fault breaks fields_from
   copy_sound = grind (arith, nat_tests)
 
-  pub copy_fits : sqnum < 2 ^ 64 → VidFits (copy_header 0 (data_pad s r) id lnum sqnum new)
+  pub copy_fits : sqnum < 2 ^ 64 → VidFits (copy_header (leb_header s r id lnum) sqnum new)
   copy_fits few = record {
     vol_id = omega arith;
     lnum = omega arith;
@@ -75,7 +75,7 @@ module _ (s : Sizes) (g : IsGeometry s) (bs : List (List ℕ)) (m : Meant) (a : 
   of = (id, lnum)
 
   abbrev header : VidHeader
-  header = copy_header 0 (data_pad s r) id lnum sqnum new
+  header = copy_header (leb_header s r id lnum) sqnum new
 
   sizes : m.sizes ≡ s
   sizes = a.means.sizes

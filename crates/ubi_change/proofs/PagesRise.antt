@@ -1,6 +1,6 @@
 -- Between two erases of an eraseblock a plan programs its pages in ascending order, none twice except page 0, and that
 -- at most twice.
-use Rattle.ubi_change.proofs.Prelude.{◌≡◌, ◌≢◌, ℕ, zero, suc, ◌+◌, ◌/◌, ◌<◌, ◌≤◌, ◌⊎◌, inl, inr, Bool, true, false, cond, List, [], ◌∷◌, ◌++◌, append_assoc, length, map, refl, ap, sym, ◌∙◌, subst, arith, None, Option, Some, enumerate_from, option_map_or, first_chunks, same_Some, cases_eq, IsGeometry, Sizes, EcHeader, data_pad, VolumeRecord, VidHeader, AttachValue, NoErase, Programs, blank_header, copy_header, next_ec, vid_page, atomic_copy, mapped_plan, mount, needs, plan_of, prepare, program_header, program_text, ready_bytes, ready_ec, release, renew, taken, unmapped_plan, ec_at, is_clean, stays, takeable, pages_of, Step}
+use Rattle.ubi_change.proofs.Prelude.{◌≡◌, ◌≢◌, ℕ, zero, suc, ◌+◌, ◌/◌, ◌<◌, ◌≤◌, ◌⊎◌, inl, inr, Bool, true, false, cond, List, [], ◌∷◌, ◌++◌, append_assoc, length, map, refl, ap, sym, ◌∙◌, subst, arith, None, Option, Some, enumerate_from, option_map_or, first_chunks, same_Some, cases_eq, IsGeometry, Sizes, EcHeader, data_pad, VolumeRecord, VidHeader, AttachValue, NoErase, Programs, blank_header, copy_header, leb_header, next_ec, vid_page, atomic_copy, mapped_plan, mount, needs, plan_of, prepare, program_header, program_text, ready_bytes, ready_ec, release, renew, taken, unmapped_plan, ec_at, is_clean, stays, takeable, pages_of, Step}
 use Rattle.std.specs.FinMap as finite
 use Rattle.ubi_change.specs.declared.step.Step.TheVariants as step
 use Rattle.ubi_change.proofs.Choosing.{two_apart}
@@ -242,15 +242,15 @@ module _ (s : Sizes) (g : IsGeometry s) (bs : List (List ℕ)) (a : AttachValue)
           → InOrder p 0 (option_map_or (mapped_plan s bs a r id lnum new (taken s bs a 0)) o
           (unmapped_plan s bs a r id lnum new (taken s bs a 0) (taken s bs a 1)))
       by_winner (Some old) e =
-          copy_order s g bs a p (taken s bs a 0) 0 (copy_header 0 (data_pad s r) id lnum (a.scan.top_sqnum + 1) new) new
+          copy_order s g bs a p (taken s bs a 0) 0 (copy_header (leb_header s r id lnum) (a.scan.top_sqnum + 1) new) new
           old (ec_at s bs old) (λ _. omega arith)
       by_winner None e =
           let n : needs s bs a id lnum ≡ 2 = ap (λ (o : Option ℕ). option_map_or (λ _. 1) o 2) e in
           let apart = two_apart s bs a.states (omega arith) in
           let first = taken s bs a 0 in
           let next = taken s bs a 1 in
-          let copy = copy_header 0 (data_pad s r) id lnum (a.scan.top_sqnum + 2) new in
-          mount_order s g bs a p first 0 (blank_header (data_pad s r) id lnum (a.scan.top_sqnum + 1))
+          let copy = copy_header (leb_header s r id lnum) (a.scan.top_sqnum + 2) new in
+          mount_order s g bs a p first 0 (blank_header (leb_header s r id lnum) (a.scan.top_sqnum + 1))
           (atomic_copy s bs a next copy new first (ready_ec s bs a first)) (λ _. omega arith)
           (λ same. copy_order s g bs a p next (s.vid_offset / s.page + 2) copy new first (ready_ec s bs a first)
           (λ again. absurd (apart (same ∙ sym again))))

@@ -1,5 +1,5 @@
 -- Each step of a plan fits what those before it leave.
-use Rattle.ubi_change.proofs.Prelude.{◌≡◌, ℕ, ◌+◌, ◌%◌, ◌<◌, ◌≤◌, cond, List, [], ◌∷◌, ◌++◌, length, set, refl, ap, sym, ◌∙◌, subst, arith, length-set, get_or-set_same, None, Option, Some, option_map_or, fold-append, AreBytes, filled, IsGeometry, Sizes, data_pad, vid_bytes, EcHeader, VidHeader, block, eraseblocks, laid, found_wins, AttachValue, AllFit, blank_header, copy_header, atomic_copy, mapped_plan, plan_of, prepare, program_header, program_text, ready_bytes, ready_ec, release, renew, taken, unmapped_plan, step_done, ec_at, is_clean, stays, Step}
+use Rattle.ubi_change.proofs.Prelude.{◌≡◌, ℕ, ◌+◌, ◌%◌, ◌<◌, ◌≤◌, cond, List, [], ◌∷◌, ◌++◌, length, set, refl, ap, sym, ◌∙◌, subst, arith, length-set, get_or-set_same, None, Option, Some, option_map_or, fold-append, AreBytes, filled, IsGeometry, Sizes, data_pad, vid_bytes, EcHeader, VidHeader, block, eraseblocks, laid, found_wins, AttachValue, AllFit, blank_header, copy_header, leb_header, atomic_copy, mapped_plan, plan_of, prepare, program_header, program_text, ready_bytes, ready_ec, release, renew, taken, unmapped_plan, step_done, ec_at, is_clean, stays, Step}
 use Rattle.std.specs.FinMap as finite
 use Rattle.ubi_change.proofs.Attached as attached
 use Rattle.ubi_change.proofs.CopyFits.{bytes-ec, header_done, header_fits, text_fits}
@@ -78,7 +78,7 @@ module _ (change : Changing) (are : AreBytes change.new) where
       let made = attached.made change old found in
       let may = attached.may change old found in
       copy_fits s g bs a bs (taken s bs a 0) may.0 (ready_bytes s bs a (taken s bs a 0)) made.2.size
-      (copy_header 0 (data_pad s v.entry) id lnum (a.scan.top_sqnum + 1) new) (omega arith)
+      (copy_header (leb_header s v.entry id lnum) (a.scan.top_sqnum + 1) new) (omega arith)
       made.2.ready new (attached.paged change) (attached.room change) are old (ec_at s bs old)
       (found_wins s bs a.scan att.scan (id, lnum) old found).member.inside
 
@@ -91,7 +91,7 @@ module _ (change : Changing) (are : AreBytes change.new) where
       let may1 = attached.may1 change found in
       let e0 = taken s bs a 0 in
       let b1 = taken s bs a 1 in
-      let header0 = blank_header (data_pad s v.entry) id lnum (a.scan.top_sqnum + 1) in
+      let header0 = blank_header (leb_header s v.entry id lnum) (a.scan.top_sqnum + 1) in
       let cs = attached.cs change found in
       let mount0 = prepare s bs a e0 ++ program_header s e0 (ready_bytes s bs a e0) header0 ∷ [] in
       let first : FitAll s bs mount0 = mount_fits s g bs a bs e0 may0.0 (ready_bytes s bs a e0) made0.2.size header0
@@ -100,10 +100,10 @@ module _ (change : Changing) (are : AreBytes change.new) where
       let e0_inside : e0 < length bs = may0.0 in
       let b1_inside : b1 < length bs = may1.0 in
       let second = copy_fits s g bs a cs b1 (omega arith) (ready_bytes s bs a b1) made1.2.size
-      (copy_header 0 (data_pad s v.entry) id lnum (a.scan.top_sqnum + 2) new) (omega arith)
+      (copy_header (leb_header s v.entry id lnum) (a.scan.top_sqnum + 2) new) (omega arith)
       made1.2.ready new (attached.paged change) (attached.room change) are e0 (ready_ec s bs a e0) (omega arith) in
       let rest : List Step = atomic_copy s bs a b1
-      (copy_header 0 (data_pad s v.entry) id lnum (a.scan.top_sqnum + 2) new) new e0 (ready_ec s bs a e0) in
+      (copy_header (leb_header s v.entry id lnum) (a.scan.top_sqnum + 2) new) new e0 (ready_ec s bs a e0) in
       fit-append s bs mount0 rest first
       (subst (λ (z : List (List ℕ)). FitAll s z rest)
       (sym (attached.mounted_done change found)) second)

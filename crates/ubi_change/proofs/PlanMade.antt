@@ -1,5 +1,5 @@
 -- What was read for a change makes its plan: which cause applies, and that the steps are those of the plan.
-use Rattle.ubi_change.proofs.Prelude.{◌≡◌, ℕ, ◌+◌, ◌<◌, ◌≤◌, inl, inr, Bool, true, false, List, [], ◌∷◌, ◌++◌, length, refl, ap, ap₂, sym, ◌∙◌, subst, arith, None, Option, Some, nat_lt, option_map, then_some, option_map_or, nat_tests, Sizes, data_pad, VolumeRecord, carriers, AttachValue, AreSites, IsSitesRefusal, IsTooFew, image_causes, change_needs, steps_on, site_at, first_taken, blank_header, copy_header, mapped_plan, mount, needs, plan_of, ready_ec, taken, unmapped_plan, first_of, ec_at, takeable, ChangeRefusal, Site, FirstTwo, Target}
+use Rattle.ubi_change.proofs.Prelude.{◌≡◌, ℕ, ◌+◌, ◌<◌, ◌≤◌, inl, inr, Bool, true, false, List, [], ◌∷◌, ◌++◌, length, refl, ap, ap₂, sym, ◌∙◌, subst, arith, None, Option, Some, nat_lt, option_map, then_some, option_map_or, nat_tests, Sizes, data_pad, VolumeRecord, carriers, AttachValue, AreSites, IsSitesRefusal, IsTooFew, image_causes, change_needs, steps_on, site_at, first_taken, blank_header, copy_header, leb_header, mapped_plan, mount, needs, plan_of, ready_ec, taken, unmapped_plan, first_of, ec_at, takeable, ChangeRefusal, Site, FirstTwo, Target}
 use Rattle.std.specs.FinMap as finite
 use Rattle.ubi_change.specs.declared.errors.ChangeRefusal.TheVariants as refusal
 use Rattle.ubi_change.specs.declared.sites.Sites.{Sites as OnSites}
@@ -98,7 +98,7 @@ module _ (s : Sizes) (bs : List (List ℕ)) (a : AttachValue) (same : a.scan.car
         let p = won_by.0 in
         ap (λ (t : Target). steps_on s a.scan t new (on.Mapped copy old)) e
         ∙ ap₂ (λ (x y : Site). steps_on s a.scan asked new (on.Mapped x y)) (first_taken_is copy are.1).1 won_by.2
-        ∙ copy-is s bs a same b (copy_header 0 (data_pad s r) id lnum (top + 1) new) new p (ec_at s bs p)
+        ∙ copy-is s bs a same b (copy_header (leb_header s r id lnum) (top + 1) new) new p (ec_at s bs p)
         ∙ sym
         (ap (λ (o : Option ℕ). option_map_or (mapped_plan s bs a r id lnum new b) o
         (unmapped_plan s bs a r id lnum new b (taken s bs a 1))) won_by.1)
@@ -107,8 +107,8 @@ module _ (s : Sizes) (bs : List (List ℕ)) (a : AttachValue) (same : a.scan.car
         let b = taken s bs a 1 in
         ap (λ (t : Target). steps_on s a.scan t new (on.Unmapped first copy)) e
         ∙ ap₂ (λ (x y : Site). steps_on s a.scan asked new (on.Unmapped x y)) (first_taken_is first are.1).1 (second_taken_is copy are.2).1
-        ∙ ap (λ steps. mount s bs a x (blank_header (data_pad s r) id lnum (top + 1)) ++ steps)
-        (copy-is s bs a same b (copy_header 0 (data_pad s r) id lnum (top + 2) new) new x (ready_ec s bs a x))
+        ∙ ap (λ steps. mount s bs a x (blank_header (leb_header s r id lnum) (top + 1)) ++ steps)
+        (copy-is s bs a same b (copy_header (leb_header s r id lnum) (top + 2) new) new x (ready_ec s bs a x))
         ∙ sym
         (ap (λ (o : Option ℕ). option_map_or (mapped_plan s bs a r id lnum new x) o
         (unmapped_plan s bs a r id lnum new x b)) (site_none site (finite.get a.scan.winners (id, lnum)) (sym are.0 ∙ won)))

@@ -118,7 +118,7 @@ pub use Rattle.ubi_change.specs.Frugal.{CountsErases, IsFrugal, TouchesOnly, cou
 pub use Rattle.ubi_change.specs.Laws.{PlanSurvives, RenameSurvives, left}
 pub use Rattle.ubi_change.specs.Order.{ComesFirst, Erases, NoErase, Programs, RisesBetweenErases}
 pub use Rattle.ubi_change.specs.Pages.{PagesCarry, line_of, programmed, with_pages}
-pub use Rattle.ubi_change.specs.Plan.{atomic_copy, blank_header, copy_header, mapped_plan, mount, needs, next_ec, plan_of, prepare, program_header, program_text, ready_bytes, ready_ec, release, renew, taken, unmapped_plan, vid_page}
+pub use Rattle.ubi_change.specs.Plan.{atomic_copy, blank_header, copy_header, leb_header, mapped_plan, mount, needs, next_ec, plan_of, prepare, program_header, program_text, ready_bytes, ready_ec, release, renew, taken, unmapped_plan, vid_page}
 pub use Rattle.ubi_change.specs.Planned.{IsChangeError, IsChangeRefusal, IsChangeRefusalAvoiding, IsFrugalAvoiding, IsFrugalOf, IsPlanAvoiding, IsThePlan, PlanFacts, PlanFactsOfSource}
 pub use Rattle.ubi_change.specs.Refused.{causes, first_cause, first_of, is_bad_length}
 pub use Rattle.ubi_change.specs.RenamePlan.{copy_plan, holder, layout_header, rename_plan, renamed_pages, table_pages}

@@ -1,5 +1,5 @@
 -- Which eraseblocks the steps of a plan touch.
-use Rattle.ubi_change.proofs.Prelude.{◌≡◌, ℕ, zero, suc, ◌+◌, ◌/◌, ◌<◌, ◌≤◌, List, [], ◌∷◌, ◌++◌, length, map, take, get_or, refl, ap, subst, arith, Contains, None, Option, Some, enumerate_from, option_map_or, first_chunks, same_Some, Sizes, EcHeader, VolumeRecord, VidHeader, AttachValue, TouchesOnly, given_up, touched, data_pad, blank_header, copy_header, next_ec, atomic_copy, mapped_plan, mount, needs, plan_of, prepare, program_header, program_text, ready_bytes, ready_ec, release, renew, taken, unmapped_plan, target, ec_at, is_clean, stays, takeable, pages_of, Step}
+use Rattle.ubi_change.proofs.Prelude.{◌≡◌, ℕ, zero, suc, ◌+◌, ◌/◌, ◌<◌, ◌≤◌, List, [], ◌∷◌, ◌++◌, length, map, take, get_or, refl, ap, subst, arith, Contains, None, Option, Some, enumerate_from, option_map_or, first_chunks, same_Some, Sizes, EcHeader, VolumeRecord, VidHeader, AttachValue, TouchesOnly, given_up, touched, data_pad, blank_header, copy_header, leb_header, next_ec, atomic_copy, mapped_plan, mount, needs, plan_of, prepare, program_header, program_text, ready_bytes, ready_ec, release, renew, taken, unmapped_plan, target, ec_at, is_clean, stays, takeable, pages_of, Step}
 use Rattle.std.specs.FinMap as finite
 use Rattle.ubi_change.specs.declared.step.Step.TheVariants as step
 use Rattle.ubi_change.proofs.Runs.{if_renewed}
@@ -82,14 +82,14 @@ module _ (s : Sizes) (bs : List (List ℕ)) (a : AttachValue) (r : VolumeRecord)
       by_winner (Some old) e =
           let n : needs s bs a id lnum ≡ 1 = ap (λ (o : Option ℕ). option_map_or (λ _. 1) o 2) e in
           copy_touches s bs a (touched s bs a id lnum) (taken s bs a 0)
-          (copy_header 0 (data_pad s r) id lnum (a.scan.top_sqnum + 1) new) new old (ec_at s bs old)
+          (copy_header (leb_header s r id lnum) (a.scan.top_sqnum + 1) new) new old (ec_at s bs old)
           (taken_touched 0 (omega arith))
           (given old (ap (λ (o : Option ℕ). option_map_or (λ p. p) o (taken s bs a 0)) e))
       by_winner None e =
           let n : needs s bs a id lnum ≡ 2 = ap (λ (o : Option ℕ). option_map_or (λ _. 1) o 2) e in
           let first = taken s bs a 0 in
-          let blank_one = blank_header (data_pad s r) id lnum (a.scan.top_sqnum + 1) in
-          let copy = copy_header 0 (data_pad s r) id lnum (a.scan.top_sqnum + 2) new in
+          let blank_one = blank_header (leb_header s r id lnum) (a.scan.top_sqnum + 1) in
+          let copy = copy_header (leb_header s r id lnum) (a.scan.top_sqnum + 2) new in
           touch-append (touched s bs a id lnum) (mount s bs a first blank_one)
           (atomic_copy s bs a (taken s bs a 1) copy new first (ready_ec s bs a first))
           (mount_touches s bs a (touched s bs a id lnum) first blank_one (taken_touched 0 (omega arith)))

@@ -1,5 +1,5 @@
 -- A LEB without a winner is first mapped with a plain blank eraseblock: the meaning stays, and then it has a winner.
-use Rattle.ubi_change.proofs.Prelude.{◌≡◌, ◌≢◌, ℕ, zero, suc, ◌+◌, ◌-◌, ◌/◌, ◌^◌, ◌<◌, ◌≤◌, inl, inr, true, List, [], ◌∷◌, ◌++◌, length, set, take, refl, ap, sym, ◌∙◌, subst, arith, length-set, None, Option, Some, unwrap_or, FinMap, nat_cmp, nat_tests, set-set, take-replicate, fold-append, blank, filled, Sizes, IsGeometry, leb_size, data_pad, usable, breaks, fields_from, first_fault, vid_bytes, vid_fault, VidFits, EcHeader, VolumeRecord, VidHeader, leb, IsMember, Leb, NoMember, Wins, has_members, sqnum_at, Agrees, Records, AllBlank, AcceptsBlocks, IsUnlike, SlotMeans, LebReads, Meant, Volume, changed, blank_header, copy_header, program_header, program_text, block_after, step_done, pages_needed, Step, laid}
+use Rattle.ubi_change.proofs.Prelude.{◌≡◌, ◌≢◌, ℕ, zero, suc, ◌+◌, ◌-◌, ◌/◌, ◌^◌, ◌<◌, ◌≤◌, inl, inr, true, List, [], ◌∷◌, ◌++◌, length, set, take, refl, ap, sym, ◌∙◌, subst, arith, length-set, None, Option, Some, unwrap_or, FinMap, nat_cmp, nat_tests, set-set, take-replicate, fold-append, blank, filled, Sizes, IsGeometry, leb_size, data_pad, usable, breaks, fields_from, first_fault, vid_bytes, vid_fault, VidFits, EcHeader, VolumeRecord, VidHeader, leb, IsMember, Leb, NoMember, Wins, has_members, sqnum_at, Agrees, Records, AllBlank, AcceptsBlocks, IsUnlike, SlotMeans, LebReads, Meant, Volume, changed, blank_header, copy_header, leb_header, program_header, program_text, block_after, step_done, pages_needed, Step, laid}
 use Rattle.std.specs.FinMap as finite
 use Rattle.std.proofs.lemmas.List.{get_or-set_same}
 use Rattle.ubi_volume.specs.declared.content.Content.TheVariants as content
@@ -17,11 +17,11 @@ use Rattle.ubi_change.proofs.Written.{leb-part, part-mount, seq-part}
 
 module _ (s : Sizes) (r : VolumeRecord) (id lnum sqnum : ℕ) (slot : id < 128) (number : lnum < 2 ^ 31)
     (half : data_pad s r < leb_size s / 2) (wide : leb_size s < 2 ^ 31) where
-  pub blank_sound : vid_fault s (blank_header (data_pad s r) id lnum sqnum) ≡ None
+  pub blank_sound : vid_fault s (blank_header (leb_header s r id lnum) sqnum) ≡ None
   unfolding first_fault breaks fields_from
   blank_sound = grind (arith, nat_tests)
 
-  pub blank_fits : sqnum < 2 ^ 64 → VidFits (blank_header (data_pad s r) id lnum sqnum)
+  pub blank_fits : sqnum < 2 ^ 64 → VidFits (blank_header (leb_header s r id lnum) sqnum)
   blank_fits few = record {
     vol_id = omega arith;
     lnum = omega arith;
@@ -48,7 +48,7 @@ module _ (s : Sizes) (g : IsGeometry s) (bs : List (List ℕ)) (m : Meant) (a : 
   of = (id, lnum)
 
   abbrev header : VidHeader
-  header = blank_header (data_pad s r) id lnum sqnum
+  header = blank_header (leb_header s r id lnum) sqnum
 
   abbrev pub mounted : List ℕ
   mounted = laid s bytes (vid_bytes header) []
@@ -190,11 +190,11 @@ module _ (s : Sizes) (g : IsGeometry s) (bs : List (List ℕ)) (m : Meant) (a : 
 
     pub unmapped : TurnsAt s (λ x. AcceptsBlocks s x m) (λ x. AcceptsBlocks s x (changed m id lnum new)) bs
         (mount_steps
-        ++ ((next_prep ++ program_header s p next_bytes (copy_header 0 (data_pad s r) id lnum (sqnum + 1) new) ∷ [])
+        ++ ((next_prep ++ program_header s p next_bytes (copy_header (leb_header s r id lnum) (sqnum + 1) new) ∷ [])
         ++ program_text s p new ++ rel))
         (length mount_steps + (length next_prep + suc (pages_needed s new)))
     unmapped =
-        let steps = (next_prep ++ program_header s p next_bytes (copy_header 0 (data_pad s r) id lnum (sqnum + 1) new)
+        let steps = (next_prep ++ program_header s p next_bytes (copy_header (leb_header s r id lnum) (sqnum + 1) new)
         ∷ []) ++ program_text s p new ++ rel in
         turns-behind s (λ x. AcceptsBlocks s x m) (λ x. AcceptsBlocks s x (changed m id lnum new)) bs mount_steps steps
         (length next_prep + suc (pages_needed s new)) mount_cuts

@@ -4,7 +4,9 @@ use Rattle.std.specs.FinMap.{get}
 use Rattle.std.specs.Option.{option_map_or}
 use Rattle.ubi_media.specs.Fields.{filled}
 use Rattle.ubi_media.specs.Geometry.{Sizes}
+use Rattle.ubi_media.specs.Vid.{plain}
 use Rattle.ubi_media.specs.declared.vid.VidHeader.{VidHeader}
+use Rattle.ubi_media.specs.declared.vid.VolKind.TheVariants as kind
 use Rattle.ubi_scan.specs.Members.{layout}
 use Rattle.ubi_table.specs.Records.{Records, table_bytes}
 use Rattle.ubi_volume.specs.Attached.{AttachValue}
@@ -24,7 +26,7 @@ renamed_pages s m id name = table_pages s (records_of (renamed m id name))
 
 -- the header of copy c of the table with these pages
 abbrev pub layout_header : ℕ → ℕ → List ℕ → VidHeader
-layout_header c sqnum new = copy_header 5 0 layout c sqnum new
+layout_header c sqnum new = copy_header (plain kind.Dynamic 5 0 layout c) sqnum new
 
 module _ (s : Sizes) (bs : List (List ℕ)) (a : AttachValue) where
   -- the eraseblock that holds copy c of the table

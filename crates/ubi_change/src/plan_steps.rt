@@ -1,7 +1,7 @@
 //! The parts of a plan, each added to the steps before it, and the headers that they write.
 
 ghost use Rattle.std.specs.Prelude.{◌≡◌, ◌++◌, ◌∷◌, [], ◌%◌, ◌^◌, ◌≤◌, ◌<◌, IfSome, OnOk, length};
-ghost use Rattle.ubi_change.specs.inner.Making.{table_target};
+ghost use Rattle.ubi_change.specs.inner.Making.{table_target, target_header};
 ghost use Rattle.ubi_change.specs.inner.Sites.{copy_on, mount_on, ready_on, release_on};
 ghost use Rattle.ubi_change.specs.Plan.{blank_header, copy_header, next_ec, program_header, program_text, renew};
 
@@ -216,33 +216,38 @@ impl Target {
         }
     }
 
-    /// The header under which a user's logical eraseblock reads 0xFF.
-    pub fn blank_header(&self, sqnum: u64) -> VidHeader
-        ensures { result ≡ blank_header self.now.data_pad self.now.id self.now.lnum sqnum }
+    /// The header of the logical eraseblock, as long as it names no data.
+    fn header(&self) -> VidHeader
+        ensures { result ≡ target_header self.now }
     {
-        VidHeader {
-            sqnum,
-            ..VidHeader::plain(VolKind::Dynamic, 0, self.data_pad, self.id, self.lnum)
-        }
+        VidHeader::plain(
+            VolKind::Dynamic,
+            self.compat,
+            self.data_pad,
+            self.id,
+            self.lnum,
+        )
+    }
+
+    /// The header under which the logical eraseblock reads 0xFF.
+    pub fn blank_header(&self, sqnum: u64) -> VidHeader
+        ensures { result ≡ blank_header (target_header self.now) sqnum }
+    {
+        let leb = self.header();
+        VidHeader { sqnum, ..leb }
     }
 
     /// The header of a copy with these contents.
     pub fn copy_header(&self, sqnum: u64, new: &[u8]) -> VidHeader
         requires { length new.now < 2 ^ 31 }
-        ensures { result ≡ copy_header self.now.compat self.now.data_pad self.now.id self.now.lnum sqnum new.now }
+        ensures { result ≡ copy_header (target_header self.now) sqnum new.now }
     {
         VidHeader {
             copy_flag: true,
             data_size: new.len() as u32,
             data_crc: crc(new),
             sqnum,
-            ..VidHeader::plain(
-                VolKind::Dynamic,
-                self.compat,
-                self.data_pad,
-                self.id,
-                self.lnum,
-            )
+            ..self.header()
         }
     }
 }

@@ -64,7 +64,7 @@ fn extract_from_places<S: BlockSource, W: Write>(
     let Some(id) = key.number_in(places.table()) else {
         return unread(alloc, ReadError::NoVolume);
     };
-    let extent = match places.extent(geometry, id) {
+    let extent = match places.extent(id) {
         Ok(extent) => extent,
         Err(error) => return unread(alloc, error),
     };

@@ -13,7 +13,7 @@ use crate::unpack::file_name;
 use std::alloc::{AllocError, Global};
 use ubi_config::{ConfigVolume, Text, write_config};
 use ubi_files::{Disk, Outcome, ToolError};
-use ubi_media::{Geometry, VolumeRecord};
+use ubi_media::VolumeRecord;
 use ubi_volume::{Extent, Places, ReadError, write_all};
 
 /// The config of a folder.
@@ -50,18 +50,13 @@ fn described(
 }
 
 /// The volumes of places, as the config describes them.
-fn config_volumes(
-    alloc: Global,
-    geometry: &Geometry,
-    places: &Places,
-) -> Result<Vec<ConfigVolume>, AllocError>
-    requires { places.now.records.sizes ≡ geometry.now }
-    ensures sound { IfOk result (λ vs. All (λ v. rec_fault geometry.now v.entry ≡ None) vs.items) }
+fn config_volumes(alloc: Global, places: &Places) -> Result<Vec<ConfigVolume>, AllocError>
+    ensures sound { IfOk result (λ vs. All (λ v. rec_fault places.now.records.sizes v.entry ≡ None) vs.items) }
     ensures volumes { IfOk result (λ vs. vs.items ≡ all_described (λ id. extent_len (extent_in places.now id)) (finite.entries places.now.records.of)) }
 {
     let mut volumes = Vec::new(alloc);
     for listed in places.table().entries() {
-        let extent = places.extent(geometry, listed.0);
+        let extent = places.extent(listed.0);
         let volume = described(alloc, listed, &extent)?;
         volumes.push(volume)?;
     }
@@ -69,12 +64,12 @@ fn config_volumes(
 }
 
 /// The text of the config.
-fn config_text(alloc: Global, geometry: &Geometry, places: &Places) -> Result<Vec<u8>, AllocError>
-    requires { places.now.records.sizes ≡ geometry.now }
-    ensures { IfOk result (λ text. text.items ≡ config_in geometry.now places.now) }
+fn config_text(alloc: Global, places: &Places) -> Result<Vec<u8>, AllocError>
+    ensures { IfOk result (λ text. text.items ≡ config_in places.now.records.sizes places.now) }
 {
-    let volumes = config_volumes(alloc, geometry, places)?;
-    write_config(alloc, geometry, places.image_seq(), volumes.as_slice())
+    let volumes = config_volumes(alloc, places)?;
+    let geometry = places.table().geometry();
+    write_config(alloc, &geometry, places.image_seq(), volumes.as_slice())
 }
 
 /// The config of a folder with the volumes of places.
@@ -84,14 +79,12 @@ fn config_text(alloc: Global, geometry: &Geometry, places: &Places) -> Result<Ve
 /// Memory ran out.
 pub(crate) fn folder_config(
     alloc: Global,
-    geometry: &Geometry,
     places: &Places,
     dir: &str,
 ) -> Result<FolderConfig, AllocError>
-    requires { places.now.records.sizes ≡ geometry.now }
-    ensures { IfOk result (IsConfigOf dir.now (config_in geometry.now places.now)) }
+    ensures { IfOk result (IsConfigOf dir.now (config_in places.now.records.sizes places.now)) }
 {
-    let text = config_text(alloc, geometry, places)?;
+    let text = config_text(alloc, places)?;
     let mut path = String::from_str(alloc, dir)?;
     path.push_str("/ubi.ini")?;
     let unwritten = unwritten_line(alloc, path.as_str())?;

@@ -184,14 +184,13 @@ fn status_with(status: u8, extent: &Result<Extent, ReadError>) -> u8
 }
 
 /// What is answered once the volumes are unpacked: a line for each, and whether all of them can be read.
-fn unpacked(alloc: Global, geometry: &Geometry, places: &Places) -> Result<Outcome, AllocError>
-    requires { places.now.records.sizes ≡ geometry.now }
+fn unpacked(alloc: Global, places: &Places) -> Result<Outcome, AllocError>
     ensures { IfOk result (λ o. Gives o (says (unpacked_lines (λ id. extent_len (extent_in places.now id)) (finite.entries places.now.records.of)) (unpacked_status (λ id. extent_len (extent_in places.now id)) (finite.entries places.now.records.of)))) }
 {
     let mut text = Vec::new(alloc);
     let mut status = DONE;
     for listed in places.table().entries() {
-        let extent = places.extent(geometry, listed.0);
+        let extent = places.extent(listed.0);
         status = status_with(status, &extent);
         put_unpacked(alloc, &mut text, listed, &extent)?;
     }
@@ -221,7 +220,7 @@ fn unpack_volume<D: Disk, S: BlockSource>(
     ensures others { OthersStay (D.files disk.old) (D.files disk.new) path.now }
     ensures failed { IfErr result (λ e. e ≢ ToolError.Memory) }
 {
-    let Ok(extent) = places.extent(geometry, id) else {
+    let Ok(extent) = places.extent(id) else {
         return Ok(());
     };
     let Ok(mut file) = disk.create_new(path) else {
@@ -298,9 +297,9 @@ fn unpack_places<D: Disk, S: BlockSource>(
     ensures memory { result ≡ Err ToolError.Memory → AllStay (D.files disk.old) (D.files disk.new) }
     ensures failed { IfErr result IsNoWrite }
 {
-    let outcome = unpacked(alloc, geometry, places)?;
+    let outcome = unpacked(alloc, places)?;
     let mut folder = folder_of(alloc, dir, places.table().entries())?;
-    let config = folder_config(alloc, geometry, places, dir)?;
+    let config = folder_config(alloc, places, dir)?;
     let unmade = unwritten_line(alloc, dir)?;
     let mut buffer = Vec::from_elem(alloc, 0u8, geometry.peb_size() as usize)?;
     if disk.make_folder(dir).is_err() {

@@ -18,7 +18,7 @@ use crate::sides::OneSide;
 use std::alloc::Global;
 use ubi_media::Geometry;
 use ubi_scan::BlockSource;
-use ubi_volume::{Extent, Surveyed};
+use ubi_volume::{Extent, Surveyed, share_len};
 
 /// What is read of a logical eraseblock of a volume.
 fn share_of(survey: &Surveyed, id: u32, lnum: u32, extent: Extent) -> Share
@@ -27,7 +27,7 @@ fn share_of(survey: &Surveyed, id: u32, lnum: u32, extent: Extent) -> Share
 {
     Share {
         place: survey.winner(id, lnum),
-        len: extent.share_len(lnum),
+        len: share_len(extent.size, extent.bytes, lnum) as usize,
     }
 }
 

@@ -99,7 +99,7 @@ module _ (ps : Parts) (g : IsGeometry ps.sizes) (p : Part) (sound : rec_fault ps
       ≡ laid_bytes ps.sizes (new_ec ps.image_seq) (static_part (data_pad ps.sizes p.entry) size p.id (text_of bytes p) lnum)
   static_written =
       let f = λ (n l : ℕ) (t : List ℕ). laid_bytes ps.sizes (new_ec ps.image_seq)
-      (record { header = piece_header (data_pad ps.sizes p.entry) p.id (pieces size n) lnum l (crc_of t); text = t }) in
+      (record { header = piece_header (plain kind.Static 0 (data_pad ps.sizes p.entry) p.id lnum) (pieces size n) l (crc_of t); text = t }) in
       ap (f p.len (share_len size p.len lnum)) read ∙ ap (λ l. f p.len l part) (sym long)
       ∙ ap (λ n. f n (length part) part) (sym (text_size bytes p reaches))
 

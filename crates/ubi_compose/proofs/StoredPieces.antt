@@ -83,7 +83,7 @@ module _ (p : Placed) (image : List ℕ) where
             ≡ piece_bytes d (static_piece s id r lebs (length t) n q) image
         static_is =
             let f = λ (l c : ℕ) (x : List ℕ). laid_bytes s (new_ec p.image_seq)
-            (record { header = piece_header pad id lebs n l c; text = x }) in
+            (record { header = piece_header (plain kind.Static 0 pad id n) lebs l c; text = x }) in
             ap (λ l. f l (crc_of (share size t n)) (share size t n)) long
             ∙ ap (λ c. f len c (share size t n)) (sym check_is) ∙ ap (f len (given_check (vid s (block bs q)))) share_is
 

@@ -35,14 +35,13 @@ abbrev pub dynamic_block : ℕ → ℕ → ℕ × List ℕ → Laid
 dynamic_block pad vol leb = record { header = plain kind.Dynamic 0 pad vol leb.0; text = leb.1 }
 
 -- the header of a LEB of a static volume that uses a number of them, by the size of its data and their CRC
-abbrev pub piece_header : ℕ → ℕ → ℕ → ℕ → ℕ → ℕ → VidHeader
-piece_header pad vol used lnum size crc =
-    record (plain kind.Static 0 pad vol lnum) { data_size = size; used_ebs = used; data_crc = crc }
+abbrev pub piece_header : VidHeader → ℕ → ℕ → ℕ → VidHeader
+piece_header leb used size crc = record leb { data_size = size; used_ebs = used; data_crc = crc }
 
 -- a LEB of a static volume, with its header and data
 abbrev pub static_block : ℕ → ℕ → ℕ → ℕ → List ℕ → Laid
 static_block pad vol used lnum text = record {
-  header = piece_header pad vol used lnum (length text) (crc_of text);
+  header = piece_header (plain kind.Static 0 pad vol lnum) used (length text) (crc_of text);
   text = text;
 }
 

@@ -25,7 +25,7 @@ pub fn piece_header(
     data_size: u32,
     data_crc: u32,
 ) -> VidHeader
-    ensures { result ≡ piece_header data_pad vol_id used_ebs lnum data_size data_crc }
+    ensures { result ≡ piece_header (plain kind.Static 0 data_pad vol_id lnum) used_ebs data_size data_crc }
 {
     VidHeader {
         data_size,

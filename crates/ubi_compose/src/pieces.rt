@@ -14,7 +14,7 @@ use crate::header::piece_header;
 use crate::sourced::Contents;
 use ubi_media::{Geometry, VidHeader, VidRead, VolKind, crc, is_blank, read_vid};
 use ubi_scan::{BlockSource, SourceFault};
-use ubi_volume::Extent;
+use ubi_volume::share_len;
 
 /// A device that a normal image is written for.
 #[derive(Clone, Copy)]
@@ -79,8 +79,7 @@ fn piece_of(geometry: &Geometry, part: &Part, lnum: u32) -> Piece
 {
     let (id, data_pad) = (part.id, part.entry.data_pad(geometry));
     let (lebs, size) = (piece_count(geometry, part), part.entry.usable(geometry));
-    let bytes = part.len;
-    let len = Extent { lebs, size, bytes }.share_len(lnum) as u32;
+    let len = share_len(size, part.len, lnum);
     let header = match part.entry.kind {
         VolKind::Static => piece_header(data_pad, id, lebs, lnum, len, 0),
         VolKind::Dynamic => VidHeader::plain(VolKind::Dynamic, 0, data_pad, id, lnum),

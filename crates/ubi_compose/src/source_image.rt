@@ -20,7 +20,7 @@ use std::alloc::Global;
 use std::io::Write;
 use ubi_media::{Geometry, VidHeader, VolKind, VolumeRecord};
 use ubi_scan::{BlockSource, StreamError};
-use ubi_volume::{Extent, PlaceContent, Places, attach_places};
+use ubi_volume::{PlaceContent, Places, attach_places, share_len};
 
 /// Writes the normal image of what a source holds, and returns how many bytes that is. It holds one eraseblock of
 /// contents at a time, and allocates all memory before it writes.
@@ -84,8 +84,7 @@ fn static_piece(
     requires { rec_fault geometry.now entry.now ≡ None }
     ensures { result ≡ static_piece geometry.now id entry.now lebs bytes lnum p }
 {
-    let size = entry.usable(geometry);
-    let len = Extent { lebs, size, bytes }.share_len(lnum) as u32;
+    let len = share_len(entry.usable(geometry), bytes, lnum);
     Piece {
         header: piece_header(entry.data_pad(geometry), id, lebs, lnum, len, 0),
         origin: Origin::Block(p),

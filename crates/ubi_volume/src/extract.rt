@@ -11,7 +11,7 @@ ghost use Rattle.ubi_volume.specs.Wrote.{All, IsWroteError, Wrote};
 ghost use Rattle.ubi_volume.specs.inner.Pieces.{leb_at};
 
 use crate::block::read_place;
-use crate::places::{Extent, Places};
+use crate::places::{Extent, Places, share_len};
 use crate::write::write_all;
 use std::io::Write;
 use ubi_media::Geometry;
@@ -83,7 +83,7 @@ pub fn write_places<S: BlockSource, W: Write>(
 {
     let mut done = 0;
     for lnum in 0..extent.lebs {
-        let len = extent.share_len(lnum);
+        let len = share_len(extent.size, extent.bytes, lnum) as usize;
         let place = places.place(id, lnum);
         done = write_leb(geometry, source, place, &mut buffer[..len], writer, done)?;
     }

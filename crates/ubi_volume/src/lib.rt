@@ -52,7 +52,7 @@ pub use content::{Bytes, Content, Lebs, Volume};
 pub use errors::{MeaningCause, MeaningError, ReadError};
 pub use extract::write_places;
 pub use meaning::Meaning;
-pub use places::{Extent, PlaceContent, Places, attach_places};
+pub use places::{Extent, PlaceContent, Places, attach_places, share_len};
 pub use read::{read_leb, volume_len};
 pub use surveyed::{Surveyed, survey, survey_from};
 pub use write::{read_volume, write_all, write_volume};

@@ -187,30 +187,29 @@ impl Extent {
             }),
         }
     }
+}
 
-    /// How many of the bytes stand in a logical eraseblock.
-    pub fn share_len(self, lnum: u32) -> usize
-        ensures { result ≡ share_len self.size self.bytes lnum }
-    {
-        let before = u64::from(lnum) * u64::from(self.size);
-        u64::from(self.size).min(self.bytes.saturating_sub(before)) as usize
-    }
+/// How many of a volume's bytes stand in a logical eraseblock: each holds as many as fit, and the last what is left.
+pub fn share_len(size: u32, bytes: u64, lnum: u32) -> u32
+    ensures { result ≡ share_len size bytes lnum }
+{
+    let before = u64::from(lnum) * u64::from(size);
+    u64::from(size).min(bytes.saturating_sub(before)) as u32
 }
 
 impl Places {
-    /// The extent of what a volume reads. The geometry is the one that the places were found with.
+    /// The extent of what a volume reads.
     ///
     /// # Errors
     ///
     /// The first of these that applies: `NoVolume`, `Updating`, `Damaged`.
-    pub fn extent(&self, geometry: &Geometry, id: u32) -> Result<Extent, ReadError>
-        requires { self.now.records.sizes ≡ geometry.now }
+    pub fn extent(&self, id: u32) -> Result<Extent, ReadError>
         ensures value { result ≡ extent_in self.now id }
-        ensures room { IfOk result (λ e. e.size ≤ leb_size geometry.now) }
+        ensures room { IfOk result (λ e. e.size ≤ leb_size self.now.records.sizes) }
         ensures meant { (image : Image) (h : ArePlaces image self.now) → extent_len result ≡ volume_len h.meaning id }
     {
         match self.table().get(id) {
-            Some(entry) => Extent::of(geometry, entry, self.content(id)),
+            Some(entry) => Extent::of(&self.table().geometry(), entry, self.content(id)),
             None => Err(ReadError::NoVolume),
         }
     }

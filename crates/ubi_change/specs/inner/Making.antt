@@ -5,7 +5,10 @@ use Rattle.std.specs.FinMap.{empty, get}
 use Rattle.ubi_media.specs.Geometry.{Sizes}
 use Rattle.ubi_media.specs.Kind.{is_static}
 use Rattle.ubi_media.specs.Record.{data_pad, rec_fault, usable}
+use Rattle.ubi_media.specs.Vid.{plain}
 use Rattle.ubi_media.specs.declared.record.VolumeRecord.{VolumeRecord}
+use Rattle.ubi_media.specs.declared.vid.VidHeader.{VidHeader}
+use Rattle.ubi_media.specs.declared.vid.VolKind.TheVariants as kind
 use Rattle.ubi_scan.specs.Members.{layout}
 use Rattle.ubi_scan.specs.Scan.{Found}
 use Rattle.ubi_scan.specs.Source.{Agreed, Source}
@@ -113,17 +116,21 @@ HasRoom scan (on.Unmapped first copy) = HasCounter first × HasCounter copy × (
 abbrev pub table_target : ℕ → Target
 table_target c = record { id = layout; lnum = c; compat = 5; data_pad = 0 }
 
+-- the header of a LEB that is to hold something, as long as it names no data
+abbrev pub target_header : Target → VidHeader
+target_header t = plain kind.Dynamic t.compat t.data_pad t.id t.lnum
+
 module _ (s : Sizes) (scan : Found) (t : Target) (new : List ℕ) where
   -- the steps for a LEB with a winner
   abbrev pub mapped_steps : Site → Site → List Step
   mapped_steps copy old =
-      copy_on s scan copy (copy_header t.compat t.data_pad t.id t.lnum (scan.top_sqnum + 1) new) new old old.ec
+      copy_on s scan copy (copy_header (target_header t) (scan.top_sqnum + 1) new) new old old.ec
 
   -- the steps for a LEB without a winner
   abbrev pub unmapped_steps : Site → Site → List Step
   unmapped_steps first copy =
-      mount_on s scan first (blank_header t.data_pad t.id t.lnum (scan.top_sqnum + 1))
-      ++ copy_on s scan copy (copy_header t.compat t.data_pad t.id t.lnum (scan.top_sqnum + 2) new) new first
+      mount_on s scan first (blank_header (target_header t) (scan.top_sqnum + 1))
+      ++ copy_on s scan copy (copy_header (target_header t) (scan.top_sqnum + 2) new) new first
       (ready_on scan first)
 
   -- the steps for a LEB with or without a winner

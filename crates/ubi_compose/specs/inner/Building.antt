@@ -54,7 +54,7 @@ table_of ps =
 
 -- the header of a piece of a part, without its CRC, by the kind of the volume
 abbrev pub part_header : VolKind → Sizes → Part → ℕ → ℕ → VidHeader
-part_header kind.Static s p lnum len = piece_header (data_pad s p.entry) p.id (pieces_of s p) lnum len 0
+part_header kind.Static s p lnum len = piece_header (plain kind.Static 0 (data_pad s p.entry) p.id lnum) (pieces_of s p) len 0
 part_header kind.Dynamic s p lnum len = plain kind.Dynamic 0 (data_pad s p.entry) p.id lnum
 
 -- a piece of a part, by the kind of the volume

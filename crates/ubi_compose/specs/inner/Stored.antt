@@ -23,7 +23,7 @@ damaged_piece s id r = record { header = (damaged_block (data_pad s r) id).heade
 -- the piece of a LEB of a static volume, which stands in an eraseblock of the image
 abbrev pub static_piece : Sizes → ℕ → VolumeRecord → ℕ → ℕ → ℕ → ℕ → Piece
 static_piece s id r lebs bytes lnum at = record {
-  header = piece_header (data_pad s r) id lebs lnum (share_len (usable s r) bytes lnum) 0;
+  header = piece_header (plain kind.Static 0 (data_pad s r) id lnum) lebs (share_len (usable s r) bytes lnum) 0;
   origin = origin.Block at;
   len = share_len (usable s r) bytes lnum;
 }

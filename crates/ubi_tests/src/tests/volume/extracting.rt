@@ -24,7 +24,7 @@ fn extract(
 ) -> Result<Answer, Fail> {
     let geometry = small()?;
     let places = attach_places(alloc, &geometry, source)?;
-    let extent = match places.extent(&geometry, id) {
+    let extent = match places.extent(id) {
         Ok(extent) => extent,
         Err(error) => return Ok(Err(error)),
     };
