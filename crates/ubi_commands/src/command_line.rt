@@ -63,7 +63,7 @@ static TELLING: [CommandRow; 5] = [
     },
     CommandRow {
         name: "map",
-        about: "Prints a letter for each eraseblock, and writes a page that shows what lies where",
+        about: "Prints a letter for each eraseblock, and draws them on an HTML page",
         arguments: &[FOUND, IMAGE_PART, IMAGE_PAGES, &[PAGE_FILE]],
     },
 ];
@@ -102,7 +102,7 @@ static WORKING: [CommandRow; 9] = [
     },
     CommandRow {
         name: "diff",
-        about: "Prints in what the contents of two images differ",
+        about: "Prints how the contents of two images differ",
         arguments: &[FOUND, IMAGE_PART, IMAGE_PAGES, &[OTHER, FORMAT]],
     },
     CommandRow {
@@ -155,14 +155,14 @@ const FOUND_PEB: Argument = Argument(
     Optional,
     "peb",
     Measure,
-    "Eraseblock size in bytes [default: what the dump's headers tell]",
+    "Eraseblock size in bytes [default: what the dump's headers say]",
 );
 
 const FOUND_PAGE: Argument = Argument(
     Optional,
     "page",
     Measure,
-    "Page size in bytes [default: what the dump's headers tell]",
+    "Page size in bytes [default: what the dump's headers say]",
 );
 
 const VID: Argument = Argument(
@@ -192,21 +192,21 @@ const START: Argument = Argument(
     Optional,
     "start",
     Long,
-    "Place in the file where the image begins [default: 0]",
+    "Offset of the image in the file in bytes [default: 0]",
 );
 
 const LENGTH: Argument = Argument(
     Optional,
     "length",
     Long,
-    "Bytes of the file that are the image [default: all from --start on]",
+    "Length of the image in bytes [default: up to the end of the file]",
 );
 
 const OOB: Argument = Argument(
     Optional,
     "oob",
     Number("N"),
-    "Out-of-band bytes behind each page [default: 0]",
+    "Out-of-band bytes after each page [default: 0]",
 );
 
 const BAD: Argument = Argument(
@@ -220,7 +220,7 @@ const FORMAT: Argument = Argument(
     Optional,
     "format",
     Text("WORD"),
-    "How the answer is told: text, or json, one object on one line [default: text]",
+    "How the answer is printed: text, or json, one object on one line [default: text]",
 );
 
 const OTHER: Argument = Argument(
