@@ -5,7 +5,6 @@ use Rattle.std.specs.Prelude.{All as Every}
 use Rattle.std.specs.FinMap as finite
 use Rattle.ubi_volume.specs.declared.errors.ReadError.TheVariants as error
 use Rattle.std.proofs.lemmas.List.{append_assoc}
-use Rattle.ubi_compose.specs.Built.{built as meant}
 use Rattle.ubi_media.specs.declared.vid.VolKind.TheVariants as kind
 use Rattle.ubi_commands.proofs.BuildReads.{all_told, first_of, middle, named, no_volume, parts_reach, received_is, sized_sum}
 use Rattle.ubi_commands.proofs.FolderReads.{folder_config_reads}

@@ -1,5 +1,5 @@
 -- What a command can answer over one file or two, in a format.
-use Rattle.std.specs.Prelude.{◌≡◌, List, Result, Ok, Err, ℕ}
+use Rattle.std.specs.Prelude.{◌≡◌, List, ℕ}
 use Rattle.ubi_media.specs.Geometry.{Sizes}
 use Rattle.ubi_scan.specs.Source.{Agreed, Source}
 use Rattle.ubi_files.specs.Answer.{Gives, says}

@@ -2,7 +2,7 @@
 use Rattle.std.specs.Prelude.{◌≡◌, ℕ, List, ◌++◌, IsSome, None, Option, Some, codes, length, option_map}
 use Rattle.ubi_media.specs.Geometry.{Sizes}
 use Rattle.ubi_media.specs.declared.refusal.Refusal.{Refusal}
-use Rattle.ubi_scan.specs.Image.{Image, IsLengthFault, IsSizeFault, IsWholeImage, IsWholeSize, eraseblocks, image_of}
+use Rattle.ubi_scan.specs.Image.{Image, IsLengthFault, IsSizeFault, IsWholeImage, eraseblocks, image_of}
 use Rattle.ubi_scan.specs.Source.{Agreed, Source, WhereHeld}
 use Rattle.ubi_scan.specs.declared.errors.StreamError.TheVariants as stream
 use Rattle.ubi_volume.specs.Accepts.{Accepts, Refuses}

@@ -1,4 +1,4 @@
-use Rattle.ubi_commands.proofs.Prelude.{AreRecords, ConfigVolume, List, None, ReadError, Records, [], all_described, ap, arith, described, extent_in, extent_len, get_or, rec_fault, subst, sym, take, take_all, ℕ, ◌++◌, ◌∙◌, ◌∷◌, ◌≡◌}
+use Rattle.ubi_commands.proofs.Prelude.{AreRecords, ConfigVolume, List, None, ReadError, Records, [], all_described, ap, arith, described, extent_in, extent_len, get_or, rec_fault, refl, subst, sym, take, take_all, ℕ, ◌++◌, ◌∙◌, ◌∷◌, ◌≡◌}
 use Rattle.std.proofs.Common.{Result}
 use Rattle.std.specs.Prelude.{All}
 use Rattle.std.specs.FinMap as finite
@@ -30,5 +30,5 @@ returns-clause-sound c =
     let test = c.loop-listed-test.false in
     let all : take c.loop-listed.listed-index es ≡ es = take_all c.loop-listed.listed-index es (omega (arith, end, test)) in
     let volumes = c.loop-listed.invariant ∙ ap (all_described len) (all ∙ entries) in
-    subst (λ (vs : List ConfigVolume). All (λ v. rec_fault c.args.geometry.now v.entry ≡ None) vs) (sym volumes)
-    (sound_described len t c.args.geometry.now c.requires are)
+    subst (λ (vs : List ConfigVolume). All (λ v. rec_fault t.sizes v.entry ≡ None) vs) (sym volumes)
+    (sound_described len t t.sizes refl are)

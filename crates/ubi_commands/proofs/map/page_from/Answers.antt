@@ -1,4 +1,4 @@
-use Rattle.ubi_commands.proofs.Prelude.{ℕ, List, map, string_bytes, ap, refuses, source_narrowed}
+use Rattle.ubi_commands.proofs.Prelude.{ℕ, List, map, string_bytes, refuses, source_narrowed}
 use Rattle.ubi_commands.proofs.MappedLines.{of_no_page, of_page, of_refused_page}
 use Rattle.ubi_commands.proofs.map.page_from.Goals as goal
 

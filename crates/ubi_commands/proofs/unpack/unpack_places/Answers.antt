@@ -1,4 +1,4 @@
-use Rattle.ubi_commands.proofs.Prelude.{ℕ, ◌<◌, ◌∙◌, List, ap, arith, length, refl, subst, sym, IfSome, Option, Records, places_narrowed, IsNewFile, OutsideStay, Listed, no_folder, AreFilesOf}
+use Rattle.ubi_commands.proofs.Prelude.{ℕ, Sizes, config_in, ◌<◌, ◌∙◌, List, ap, arith, length, refl, subst, sym, IfSome, Option, Records, places_narrowed, IsNewFile, OutsideStay, Listed, no_folder, AreFilesOf}
 use Rattle.std.specs.FinMap as finite
 use Rattle.ubi_commands.specs.Unpack.{told}
 use Rattle.ubi_commands.proofs.Unpacked.{all_done, config_failed, files_count, outside_config, some_line, stopped_at}
@@ -35,7 +35,8 @@ returns-in-Ok-clause-image g c = λ bytes holds.
     let config = c.in_ok-config.ensures in
     let old = g.D.Disk.files c.unpack_volumes.new.disk in
     let new = g.D.Disk.files c.write_new.new.disk in
-    let text = c.as_slice.ensures.value ∙ config.text_is in
+    let text = c.as_slice.ensures.value ∙ config.text_is
+        ∙ ap (λ (z : Sizes). config_in z c.args.places.now) c.requires.places.sizes in
     all_done _ c.args.places.now p _ c.requires.places.within c.args.dir.now c.in_ok-folder.folder.path.now _ old c.in_ok-outcome.outcome
     c.in_ok-folder.ensures.path new s c.as_str.result.now c.requires.places.sizes (c.as_str.ensures.value ∙ config.path)
     (rw c.in-None.is at (c.in_ok-unpack_volumes.ensures.ends bytes holds p))
