@@ -1,5 +1,5 @@
 -- Each eraseblock that a plan erases has a Valid erase-counter header at the end, which counts each erase.
-use Rattle.ubi_change.proofs.Prelude.{◌≡◌, ◌≢◌, ℕ, zero, suc, ◌+◌, ◌-◌, ◌*◌, ◌/◌, ◌%◌, ◌<◌, ◌≤◌, inl, inr, Bool, true, false, cond, List, [], ◌∷◌, ◌++◌, append_assoc, append-nil, length, map, set, refl, ap, sym, ◌∙◌, subst, arith, length-set, get_or-set_same, None, Option, Some, ◌==◌, count_by, fold, enumerate_from, option_map_or, first_chunks, nat_tests, set-set, take_all, fold-append, sum_by-append, same_Some, cases_eq, ec_bytes, ec_reading, filled, IsGeometry, Sizes, data_pad, vid_bytes, EcHeader, EcRead, VidHeader, block, ec, valid_ec, ec-laid, laid, found_wins, AttachValue, CountsErases, counter_after, erases, blank_header, copy_header, leb_header, next_ec, mapped_plan, mount, plan_of, prepare, program_header, program_text, ready_bytes, ready_ec, release, renew, taken, unmapped_plan, block_after, step_done, target, ec_at, is_clean, is_sole_carrier, is_worn, stays, pages_of, Step}
+use Rattle.ubi_change.proofs.Prelude.{◌≡◌, ◌≢◌, ℕ, zero, suc, ◌+◌, ◌-◌, ◌*◌, ◌/◌, ◌%◌, ◌<◌, ◌≤◌, inl, inr, Bool, true, false, cond, List, [], ◌∷◌, ◌++◌, append_assoc, append-nil, length, map, set, refl, ap, sym, ◌∙◌, subst, arith, length-set, get_or-set_same, None, Option, Some, ◌==◌, count_by, fold, enumerate_from, option_map_or, first_chunks, nat_tests, set-set, take_all, fold-append, sum_by-append, same_Some, cases_eq, ec_bytes, ec_reading, filled, IsGeometry, Sizes, vid_bytes, EcHeader, EcRead, VidHeader, block, ec, valid_ec, ec-laid, laid, found_wins, AttachValue, CountsErases, counter_after, erases, blank_header, copy_header, leb_header, next_ec, mapped_plan, mount, plan_of, prepare, program_header, program_text, ready_bytes, ready_ec, release, renew, taken, unmapped_plan, block_after, step_done, target, ec_at, is_clean, is_sole_carrier, is_worn, stays, pages_of, Step}
 use Rattle.std.specs.FinMap as finite
 use Rattle.ubi_media.specs.declared.ec.EcRead.TheVariants as ec_read
 use Rattle.ubi_change.specs.declared.step.Step.TheVariants as step

@@ -1,5 +1,5 @@
 -- A program of page 0 comes right after an erase, or keeps the bytes of the erase-counter header as they stand.
-use Rattle.ubi_change.proofs.Prelude.{◌≡◌, ℕ, zero, suc, ◌+◌, ◌-◌, ◌*◌, ◌/◌, ◌%◌, ◌<◌, ◌≤◌, ◌⊎◌, inl, inr, true, cond, List, [], ◌∷◌, ◌++◌, append_assoc, length, map, set, take, refl, ap, sym, ◌∙◌, subst, arith, get_or-set_same, None, Option, Some, nat_lt, slice_get, enumerate_from, option_map_or, first_chunks, div-add-mod, mod-lt, nat_tests, take_at, same_Some, blank, filled, IsGeometry, Sizes, data_pad, vid_bytes, EcHeader, VidHeader, block, ec_area, filled-by, filled-is, AttachValue, ComesFirst, Programs, blank_header, copy_header, leb_header, vid_page, atomic_copy, mapped_plan, mount, plan_of, prepare, program_header, program_text, ready_bytes, ready_ec, release, renew, taken, unmapped_plan, blocks_after, step_done, ec_at, is_clean, stays, pages_of, Step}
+use Rattle.ubi_change.proofs.Prelude.{◌≡◌, ℕ, zero, suc, ◌+◌, ◌-◌, ◌*◌, ◌/◌, ◌%◌, ◌<◌, ◌≤◌, ◌⊎◌, inl, inr, true, cond, List, [], ◌∷◌, ◌++◌, append_assoc, length, map, set, take, refl, ap, sym, ◌∙◌, subst, arith, get_or-set_same, None, Option, Some, nat_lt, slice_get, enumerate_from, option_map_or, first_chunks, div-add-mod, mod-lt, nat_tests, take_at, same_Some, blank, filled, IsGeometry, Sizes, vid_bytes, EcHeader, VidHeader, block, ec_area, filled-by, filled-is, AttachValue, ComesFirst, Programs, blank_header, copy_header, leb_header, vid_page, atomic_copy, mapped_plan, mount, plan_of, prepare, program_header, program_text, ready_bytes, ready_ec, release, renew, taken, unmapped_plan, blocks_after, step_done, ec_at, is_clean, stays, pages_of, Step}
 use Rattle.std.specs.FinMap as finite
 use Rattle.ubi_change.specs.declared.step.Step.TheVariants as step
 use Rattle.ubi_change.proofs.Attached as attached

@@ -1,6 +1,6 @@
 -- Between two erases of an eraseblock a plan programs its pages in ascending order, none twice except page 0, and that
 -- at most twice.
-use Rattle.ubi_change.proofs.Prelude.{◌≡◌, ◌≢◌, ℕ, zero, suc, ◌+◌, ◌/◌, ◌<◌, ◌≤◌, ◌⊎◌, inl, inr, Bool, true, false, cond, List, [], ◌∷◌, ◌++◌, append_assoc, length, map, refl, ap, sym, ◌∙◌, subst, arith, None, Option, Some, enumerate_from, option_map_or, first_chunks, same_Some, cases_eq, IsGeometry, Sizes, EcHeader, data_pad, VolumeRecord, VidHeader, AttachValue, NoErase, Programs, blank_header, copy_header, leb_header, next_ec, vid_page, atomic_copy, mapped_plan, mount, needs, plan_of, prepare, program_header, program_text, ready_bytes, ready_ec, release, renew, taken, unmapped_plan, ec_at, is_clean, stays, takeable, pages_of, Step}
+use Rattle.ubi_change.proofs.Prelude.{◌≡◌, ◌≢◌, ℕ, zero, suc, ◌+◌, ◌/◌, ◌<◌, ◌≤◌, ◌⊎◌, inl, inr, Bool, true, false, cond, List, [], ◌∷◌, ◌++◌, append_assoc, length, map, refl, ap, sym, ◌∙◌, subst, arith, None, Option, Some, enumerate_from, option_map_or, first_chunks, same_Some, cases_eq, IsGeometry, Sizes, EcHeader, VolumeRecord, VidHeader, AttachValue, NoErase, Programs, blank_header, copy_header, leb_header, next_ec, vid_page, atomic_copy, mapped_plan, mount, needs, plan_of, prepare, program_header, program_text, ready_bytes, ready_ec, release, renew, taken, unmapped_plan, ec_at, is_clean, stays, takeable, pages_of, Step}
 use Rattle.std.specs.FinMap as finite
 use Rattle.ubi_change.specs.declared.step.Step.TheVariants as step
 use Rattle.ubi_change.proofs.Choosing.{two_apart}

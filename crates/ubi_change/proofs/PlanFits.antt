@@ -1,5 +1,5 @@
 -- Each step of a plan fits what those before it leave.
-use Rattle.ubi_change.proofs.Prelude.{◌≡◌, ℕ, ◌+◌, ◌%◌, ◌<◌, ◌≤◌, cond, List, [], ◌∷◌, ◌++◌, length, set, refl, ap, sym, ◌∙◌, subst, arith, length-set, get_or-set_same, None, Option, Some, option_map_or, fold-append, AreBytes, filled, IsGeometry, Sizes, data_pad, vid_bytes, EcHeader, VidHeader, block, eraseblocks, laid, found_wins, AttachValue, AllFit, blank_header, copy_header, leb_header, atomic_copy, mapped_plan, plan_of, prepare, program_header, program_text, ready_bytes, ready_ec, release, renew, taken, unmapped_plan, step_done, ec_at, is_clean, stays, Step}
+use Rattle.ubi_change.proofs.Prelude.{◌≡◌, ℕ, ◌+◌, ◌%◌, ◌<◌, ◌≤◌, List, [], ◌∷◌, ◌++◌, length, set, refl, ap, sym, ◌∙◌, subst, arith, length-set, get_or-set_same, None, Option, Some, option_map_or, fold-append, AreBytes, filled, IsGeometry, Sizes, vid_bytes, EcHeader, VidHeader, block, laid, found_wins, AttachValue, AllFit, blank_header, copy_header, leb_header, atomic_copy, mapped_plan, plan_of, prepare, program_header, program_text, ready_bytes, ready_ec, release, taken, unmapped_plan, step_done, ec_at, is_clean, stays, Step}
 use Rattle.std.specs.FinMap as finite
 use Rattle.ubi_change.proofs.Attached as attached
 use Rattle.ubi_change.proofs.CopyFits.{bytes-ec, header_done, header_fits, text_fits}

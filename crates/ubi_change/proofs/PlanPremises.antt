@@ -1,7 +1,6 @@
 -- What plans need of attaching: only the states in which nothing is lost have to be right. What attaching shows is so,
 -- and so is what a plan that avoids something sees of it.
 use Rattle.ubi_change.proofs.Prelude.{◌≡◌, ℕ, zero, suc, ◌+◌, Bool, true, false, cond, List, [], ◌∷◌, map, refl, ap, sym, ◌∙◌, subst, arith, IfSome, None, Option, Some, option_map, slice_get, enumerate_from, Sizes, Image, eraseblocks, of_blocks, IsScan, Records, Accepts, AreBlockStates, IsAttached, BlockStateIs, AttachValue, records_of, BlockState, Avoided, is_avoided, nothing, avoiding, state_avoiding, states_avoiding, is_unused}
-use Rattle.std.specs.Prelude.{not}
 use Rattle.ubi_volume.specs.declared.attached.BlockState.TheVariants as state
 
 -- each eraseblock in a state in which nothing is lost with it has this state

@@ -1,5 +1,5 @@
 -- Steps on other eraseblocks: those of a copy and of what is given up don't change the order of an eraseblock's pages.
-use Rattle.ubi_change.proofs.Prelude.{◌≡◌, ◌≢◌, ℕ, ◌+◌, ◌/◌, ◌≤◌, ◌⊎◌, inl, inr, List, [], ◌∷◌, ◌++◌, refl, sym, ◌∙◌, Option, first_chunks, IsGeometry, Sizes, EcHeader, VidHeader, AttachValue, mount, prepare, program_header, program_text, ready_bytes, release, renew, target, stays, pages_of, Step}
+use Rattle.ubi_change.proofs.Prelude.{◌≡◌, ◌≢◌, ℕ, ◌+◌, ◌/◌, ◌≤◌, ◌⊎◌, inl, inr, List, [], ◌∷◌, ◌++◌, refl, sym, ◌∙◌, Option, first_chunks, IsGeometry, Sizes, EcHeader, VidHeader, AttachValue, mount, prepare, program_header, program_text, ready_bytes, release, target, stays, pages_of, Step}
 use Rattle.ubi_change.specs.declared.step.Step.TheVariants as step
 use Rattle.ubi_change.proofs.CountsErases.{pages_on, prepare_on}
 use Rattle.ubi_change.proofs.PagesRise.{InOrder}

@@ -1,5 +1,5 @@
 -- Which eraseblocks the steps of a plan touch.
-use Rattle.ubi_change.proofs.Prelude.{◌≡◌, ℕ, zero, suc, ◌+◌, ◌/◌, ◌<◌, ◌≤◌, List, [], ◌∷◌, ◌++◌, length, map, take, get_or, refl, ap, subst, arith, Contains, None, Option, Some, enumerate_from, option_map_or, first_chunks, same_Some, Sizes, EcHeader, VolumeRecord, VidHeader, AttachValue, TouchesOnly, given_up, touched, data_pad, blank_header, copy_header, leb_header, next_ec, atomic_copy, mapped_plan, mount, needs, plan_of, prepare, program_header, program_text, ready_bytes, ready_ec, release, renew, taken, unmapped_plan, target, ec_at, is_clean, stays, takeable, pages_of, Step}
+use Rattle.ubi_change.proofs.Prelude.{◌≡◌, ℕ, zero, suc, ◌+◌, ◌/◌, ◌<◌, ◌≤◌, List, [], ◌∷◌, ◌++◌, length, map, take, get_or, refl, ap, subst, arith, Contains, None, Option, Some, enumerate_from, option_map_or, first_chunks, same_Some, Sizes, EcHeader, VolumeRecord, VidHeader, AttachValue, TouchesOnly, given_up, touched, blank_header, copy_header, leb_header, next_ec, atomic_copy, mapped_plan, mount, needs, plan_of, prepare, program_header, program_text, ready_bytes, ready_ec, release, renew, taken, unmapped_plan, target, ec_at, is_clean, stays, takeable, pages_of, Step}
 use Rattle.std.specs.FinMap as finite
 use Rattle.ubi_change.specs.declared.step.Step.TheVariants as step
 use Rattle.ubi_change.proofs.Runs.{if_renewed}
