@@ -16,8 +16,9 @@ With --calls contracts alone are printed: those of these calls, and then of the 
 that it reads and writes piece by piece, with the call that `main` makes.
 
 With --check the files that the promise rests on are listed, and those that all public contracts rest on. What only private
-functions' contracts and proofs cite lies in specs/inner/. The exit status is 1 where a public contract or a file above that
-folder reaches into it, where no public contract reaches a definition above it, and where a definition has no sentence before it.
+functions' contracts and proofs of one crate cite lies in specs/inner/. The exit status is 1 if a public contract, a file above that
+folder or another crate reaches into it, if no public contract reaches a definition above it and no other crate cites that, and if
+a definition has no sentence before it.
 """
 import os
 import re
@@ -54,6 +55,8 @@ PROGRAM_CALLS = (
     ("ubi_commands", "commands", "run_words"),
 )
 NAME = r"[^\s(){}.,;:λ→←∷≡×⊎]+"
+# What a `use` line takes from a file of definitions: the crate, the file, and the names.
+CITED = re.compile(r"\bRattle\.(ubi_\w+)\.specs\.([\w.]+)\.\{([^}]*)\}")
 # The first line of a definition: its modifiers, and then its name with a colon, or a record or a family with its own. A
 # level may stand before the colon.
 START = re.compile(
@@ -298,11 +301,30 @@ def is_inner(name):
     return name.startswith("inner.")
 
 
+def cited_beyond():
+    """The definitions that another crate cites in its sources, definitions or proofs."""
+    cited = set()
+    for crate in CRATES:
+        for part in ("src", "specs", "proofs"):
+            for where, _, names in os.walk(os.path.join(ROOT, "crates", crate, part)):
+                for name in names:
+                    if name.endswith((".rt", ".antt")):
+                        with open(os.path.join(where, name), encoding="utf-8") as file:
+                            for of, module, items in CITED.findall(file.read()):
+                                if of != crate:
+                                    cited |= {(of, module, item.strip()) for item in items.split(",")}
+    return cited
+
+
 def misplaced(public):
-    """What lies in the wrong folder, by the definitions that public contracts reach."""
+    """What lies in the wrong folder, by the definitions that public contracts reach, and those that other crates cite."""
+    beyond = cited_beyond()
     for crate, name, item in public:
         if is_inner(name):
             yield f"{crate}.{name}.{item} is reached by a public contract"
+    for crate, name, item in sorted(beyond):
+        if is_inner(name):
+            yield f"{crate}.{name}.{item} is cited by another crate"
     for crate in CRATES:
         for name in all_files(crate):
             file = file_of(crate, name)
@@ -311,8 +333,8 @@ def misplaced(public):
             for used in sorted({used[:2] for used in [*file.uses.values(), *file.files.values()] if is_inner(used[1])}):
                 yield f"{crate}.{name} uses {used[0]}.{used[1]}"
             for item in file.items:
-                if (crate, name, item) not in public:
-                    yield f"{crate}.{name}.{item} is reached by no public contract"
+                if (crate, name, item) not in public and (crate, name, item) not in beyond:
+                    yield f"{crate}.{name}.{item} is reached by no public contract, and cited by no other crate"
 
 
 def unsaid():

@@ -43,13 +43,12 @@ pub use Rattle.ubi_volume.specs.Meant.{Fits, IsMeaning, IsVolume, KeepsNoBlank, 
 pub use Rattle.ubi_volume.specs.Places.{ArePlacesError, case_of}
 pub use Rattle.ubi_volume.specs.Reading.{leb_read, leb_text}
 pub use Rattle.ubi_volume.specs.Survey.{IsSurvey, IsSurveyOf, Seen}
-pub use Rattle.ubi_volume.specs.Texts.{PieceIs}
+pub use Rattle.ubi_volume.specs.Texts.{PieceIs, SizeIsRead}
 pub use Rattle.ubi_volume.specs.declared.content.Content.{Content}
 pub use Rattle.ubi_volume.specs.declared.content.Volume.{Volume}
 pub use Rattle.ubi_volume.specs.declared.errors.ReadError.{ReadError}
 pub use Rattle.ubi_volume.specs.declared.places.Extent.{Extent}
 pub use Rattle.ubi_volume.specs.declared.places.PlaceContent.{PlaceContent}
-pub use Rattle.ubi_volume.specs.inner.Cases.{SizeIsRead}
 pub use Rattle.ubi_compare.specs.Compared.{IsCompareFault, WhereBothHeld}
 pub use Rattle.ubi_compare.specs.Differences.{condition_of, content_differences, differences, leb_differences, lebs_apart, length_differences, ranges_after, read_apart, record_differences, same_condition, same_kind, unless, volume_differences}
 pub use Rattle.ubi_compare.specs.Laws.{NothingDiffers}

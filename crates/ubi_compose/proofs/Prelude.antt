@@ -85,11 +85,11 @@ pub use Rattle.ubi_scan.proofs.Seq.{seq_is}
 pub use Rattle.ubi_scan.proofs.TrueTests.{both_left, both_right}
 pub use Rattle.ubi_scan.specs.Clean.{IsSound}
 pub use Rattle.ubi_scan.specs.Faults.{IsMislaid, NoFault}
+pub use Rattle.ubi_scan.specs.Held.{anything, sound}
 pub use Rattle.ubi_scan.specs.Image.{Image, IsWholeImage, block, ec, eraseblocks, image_of, leb, vid, vid_area}
 pub use Rattle.ubi_scan.specs.Members.{IsMember, Leb, NoMember, Wins, foreign, foreign_if, good_in, has_members, is_good, layout, leb_of, member, member_if, named_in, sqnum_at, sqnum_in}
 pub use Rattle.ubi_scan.specs.Numbers.{image_seq, seq_if, seq_of}
 pub use Rattle.ubi_scan.specs.Source.{Agreed, Narrows, Source, blocks_in, blocks_of}
-pub use Rattle.ubi_scan.specs.inner.Held.{anything, sound}
 pub use Rattle.ubi_table.proofs.NoRecords.{no_entries}
 pub use Rattle.ubi_table.proofs.ReadBack.{length-table_bytes, pieces_more}
 pub use Rattle.ubi_table.proofs.TableOfBytes.{table_written}
@@ -124,12 +124,12 @@ pub use Rattle.ubi_volume.specs.Meant.{Fits, HasDistinctNames, IsMeaning, IsVolu
 pub use Rattle.ubi_volume.specs.PageLaws.{image_with_page, meaning_with_page}
 pub use Rattle.ubi_volume.specs.Places.{ArePlaces, ArePlacesOf, AreWithin, CaseFits, IsCountedPlace, IsNextPlace, Placed, case_of}
 pub use Rattle.ubi_volume.specs.Reading.{leb_text, lebs_text, read_volume, volume_read}
+pub use Rattle.ubi_volume.specs.Texts.{AreRead, PieceIs, UsedIs}
 pub use Rattle.ubi_volume.specs.Wrote.{All, First, NotAll, Wrote}
 pub use Rattle.ubi_volume.specs.declared.content.Content.{Content}
 pub use Rattle.ubi_volume.specs.declared.content.Volume.{Volume}
 pub use Rattle.ubi_volume.specs.declared.errors.MeaningCause.{MeaningCause}
 pub use Rattle.ubi_volume.specs.declared.places.PlaceContent.{PlaceContent}
-pub use Rattle.ubi_volume.specs.inner.Gathered.{AreRead, PieceIs, UsedIs}
 unfoldable pub use Rattle.ubi_words.specs.Words.{is_number, number_within}
 pub use Rattle.ubi_compose.specs.Building.{CanBuild, those}
 pub use Rattle.ubi_compose.specs.Built.{HaveMeaning, Parts, Reaches, built, content_of, item_of, items_of, lebs_of, most_blocks, pieces_of, text_of}

@@ -6,7 +6,7 @@ ghost use Rattle.ubi_compose.specs.inner.Pieces.{HasPut, IsInBuffer, IsReadIn, I
 ghost use Rattle.ubi_compose.specs.Normal.{laid_bytes, new_ec};
 ghost use Rattle.ubi_media.specs.Fields.{blank};
 ghost use Rattle.ubi_media.specs.Geometry.{leb_size, slots};
-ghost use Rattle.ubi_scan.specs.inner.Held.{anything};
+ghost use Rattle.ubi_scan.specs.Held.{anything};
 ghost use Rattle.ubi_scan.specs.Source.{Narrows};
 
 use crate::errors::PutError;

@@ -2,6 +2,4 @@
 pub mod Ahead
 pub mod Choice
 pub mod Counts
-pub mod Held
-pub mod Named
 pub mod Pass

@@ -1,8 +1,7 @@
 -- What contents that were read piece by piece say about the volume of a surveyed image.
-use Rattle.ubi_volume.proofs.Prelude.{◌≡◌, ◌∙◌, ◌<◌, ℕ, List, false, refl, sym, length, None, Some, Sizes, rec_fault, usable, VolumeRecord, usable_some, image_of, blocks_of, leb_bytes, share_len, pieces, case_of, Volume, IsSurvey, Seen, TextLebs, SizeIsRead}
+use Rattle.ubi_volume.proofs.Prelude.{◌≡◌, ◌∙◌, ◌<◌, ℕ, List, false, refl, sym, length, None, Some, Sizes, rec_fault, usable, VolumeRecord, usable_some, image_of, blocks_of, leb_bytes, share_len, pieces, case_of, Volume, IsSurvey, Seen, TextLebs, SizeIsRead, PieceIs}
 use Rattle.std.specs.FinMap as finite
 use Rattle.ubi_media.specs.declared.vid.VolKind.TheVariants as kind
-use Rattle.ubi_volume.specs.Texts.{PieceIs}
 use Rattle.ubi_volume.specs.declared.content.Content.TheVariants as content
 use Rattle.ubi_volume.specs.declared.places.PlaceContent.TheVariants as place
 use Rattle.ubi_volume.proofs.CaseSizes.{static_case}

@@ -114,7 +114,7 @@ pub use Rattle.ubi_volume.specs.PageLaws.{LesserPage, image_with_page, meaning_w
 pub use Rattle.ubi_volume.specs.Places.{AreListed, ArePlaces, ArePlacesError, ArePlacesOf, AreWithin, CaseFits, Placed, case_of}
 pub use Rattle.ubi_volume.specs.Reading.{leb_text, lebs_text, volume_len, volume_read}
 pub use Rattle.ubi_volume.specs.Survey.{IsAttachedOf, IsSurvey, IsSurveyOf, Seen}
-pub use Rattle.ubi_volume.specs.Texts.{RawIs, TextLebs}
+pub use Rattle.ubi_volume.specs.Texts.{AreRead, PieceIs, RawIs, SizeIsRead, TextLebs, UsedIs, used_in}
 pub use Rattle.ubi_volume.specs.Wrote.{All, First, IsWroteError, NotAll, Wanted, Wrote}
 pub use Rattle.ubi_volume.specs.declared.attached.BlockState.{BlockState}
 pub use Rattle.ubi_volume.specs.declared.cases.RawPiece.{RawPiece}
@@ -124,8 +124,8 @@ pub use Rattle.ubi_volume.specs.declared.errors.MeaningCause.{MeaningCause}
 pub use Rattle.ubi_volume.specs.declared.errors.ReadError.{ReadError}
 pub use Rattle.ubi_volume.specs.declared.places.Extent.{Extent}
 pub use Rattle.ubi_volume.specs.declared.places.PlaceContent.{PlaceContent}
-pub use Rattle.ubi_volume.specs.inner.Cases.{AreCases, AreNumbered, CaseIs, PieceSizeIs, SizeIsRead, case_in}
-pub use Rattle.ubi_volume.specs.inner.Gathered.{AreContents, AreGatheredLebs, AreKeptLebs, AreKeptTexts, AreRead, ContentIs, IsContentOf, PieceIs, UsedIs, used_in}
+pub use Rattle.ubi_volume.specs.inner.Cases.{AreCases, AreNumbered, CaseIs, PieceSizeIs, case_in}
+pub use Rattle.ubi_volume.specs.inner.Gathered.{AreContents, AreGatheredLebs, AreKeptLebs, AreKeptTexts, ContentIs, IsContentOf}
 pub use Rattle.ubi_volume.specs.inner.Headers.{Disagrees, WinnerHeaderIs, winner_header}
 pub use Rattle.ubi_volume.specs.inner.Making.{IsFirstOf, NoneBelow, leb_fits}
 pub use Rattle.ubi_volume.specs.inner.Pieces.{leb_at, lebs_at, lebs_bytes}

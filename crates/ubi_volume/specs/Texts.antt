@@ -1,5 +1,5 @@
 -- The contents of a static volume, piece by piece.
-use Rattle.std.specs.Prelude.{◌≡◌, ◌≢◌, ℕ, ◌≤◌, ◌⊎◌, List, None, Option, MatchOption, Some}
+use Rattle.std.specs.Prelude.{◌≡◌, ◌≢◌, ℕ, ◌<◌, ◌≤◌, ◌⊎◌, List, None, Option, MatchOption, Some, flat_map, length, slice_index}
 use Rattle.std.specs.Option.{option_map_or}
 use Rattle.ubi_media.specs.Check.{crc_of}
 use Rattle.ubi_media.specs.Geometry.{Sizes}
@@ -30,6 +30,18 @@ abbrev pub RawIs : Sizes → List (List ℕ) → ℕ → ℕ → ℕ → Option 
 RawIs s bs vol used lnum None = PieceIs s bs vol used lnum None
 RawIs s bs vol used lnum (Some (text, crc)) =
     (crc_of text ≡ crc → PieceIs s bs vol used lnum (Some text)) × (crc_of text ≢ crc → PieceIs s bs vol used lnum None)
+
+-- the contents in the first n pieces
+pub record AreRead (s : Sizes) (bs : List (List ℕ)) (vol used n : ℕ) (text : List ℕ) : Type 0 where
+  pub ps : List ℕ
+  pub count : length ps ≡ n
+  pub win : (lnum : ℕ) → lnum < n → Wins s bs (vol, lnum) (slice_index ps lnum)
+  pub pieces : (lnum : ℕ) → lnum < n → IsPiece s bs used (slice_index ps lnum)
+  pub joined : text ≡ flat_map (piece s bs) ps
+
+-- the size of the contents in the first n pieces
+abbrev pub SizeIsRead : Sizes → List (List ℕ) → ℕ → ℕ → ℕ → ℕ → Type 0
+SizeIsRead s bs vol used n size = (text : List ℕ) × AreRead s bs vol used n text × (size ≡ length text)
 
 -- how many LEBs hold a static volume's contents, which are whole if all their pieces are there; or none, if they aren't whole
 abbrev pub TextLebs : Sizes → List (List ℕ) → ℕ → VolumeRecord → Option ℕ → Type 0

@@ -3,5 +3,6 @@ pub mod Cases
 pub mod Gathered
 pub mod Headers
 pub mod Making
+pub mod Named
 pub mod Pieces
 pub mod Surveying

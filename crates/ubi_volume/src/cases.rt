@@ -11,9 +11,8 @@ ghost use Rattle.ubi_scan.specs.Stream.{IsReadFault, IsScanOf, NamesBlock, after
 ghost use Rattle.ubi_volume.specs.Accepts.{NoMismatch};
 ghost use Rattle.ubi_volume.specs.Places.{CaseFits, IsReadFailure};
 ghost use Rattle.ubi_volume.specs.Survey.{IsSurveyOf, TellsCase};
-ghost use Rattle.ubi_volume.specs.Texts.{PieceIs, RawIs, TextLebs};
+ghost use Rattle.ubi_volume.specs.Texts.{PieceIs, RawIs, TextLebs, UsedIs};
 ghost use Rattle.ubi_volume.specs.inner.Cases.{AreCases, AreNumbered, CaseIs, PieceSizeIs};
-ghost use Rattle.ubi_volume.specs.inner.Gathered.{UsedIs};
 ghost use Rattle.ubi_volume.specs.inner.Surveying.{AreChecked};
 
 use crate::places::PlaceContent;

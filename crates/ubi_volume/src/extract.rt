@@ -4,7 +4,7 @@ ghost use Rattle.std.specs.Prelude.{◌≡◌, ◌+◌, ◌*◌, ◌<◌, ◌≤
 ghost use Rattle.ubi_media.specs.Geometry.{leb_size};
 ghost use Rattle.ubi_scan.specs.Source.{Narrows, blocks_in};
 ghost use Rattle.ubi_scan.specs.Stream.{NamesBlock, after};
-ghost use Rattle.ubi_scan.specs.inner.Named.{NamesRead};
+ghost use Rattle.ubi_volume.specs.inner.Named.{NamesRead};
 ghost use Rattle.ubi_volume.specs.Extract.{extent_in, read_text};
 ghost use Rattle.ubi_volume.specs.Places.{ArePlacesOf};
 ghost use Rattle.ubi_volume.specs.Wrote.{All, IsWroteError, Wrote};

@@ -7,8 +7,7 @@ use Rattle.ubi_media.specs.declared.vid.VolKind.TheVariants as kind
 use Rattle.ubi_scan.specs.Source.{Agreed, Source, blocks_of}
 use Rattle.ubi_volume.specs.Meant.{pieces}
 use Rattle.ubi_volume.specs.Survey.{IsSurveyOf, Seen}
-use Rattle.ubi_volume.specs.Texts.{PieceIs, TextLebs}
-use Rattle.ubi_volume.specs.inner.Cases.{SizeIsRead}
+use Rattle.ubi_volume.specs.Texts.{PieceIs, SizeIsRead, TextLebs}
 use Rattle.ubi_volume.specs.declared.content.Content.TheVariants as content
 use Rattle.ubi_volume.specs.declared.content.Volume.{Volume}
 use Rattle.ubi_compare.specs.inner.Ranges.{HaveTold}

@@ -4,7 +4,8 @@ use Rattle.std.specs.FinMap.{FinMap}
 use Rattle.ubi_media.specs.Geometry.{Sizes}
 use Rattle.ubi_media.specs.declared.record.VolumeRecord.{VolumeRecord}
 use Rattle.ubi_scan.specs.Scan.{leb_cmp}
-use Rattle.ubi_volume.specs.inner.Gathered.{AreContents, AreRead, ContentIs, PieceIs}
+use Rattle.ubi_volume.specs.Texts.{PieceIs}
+use Rattle.ubi_volume.specs.inner.Gathered.{AreContents, ContentIs}
 use Rattle.ubi_volume.specs.Places.{CaseFits, case_of}
 use Rattle.ubi_volume.specs.declared.content.Content.{Content}
 use Rattle.ubi_volume.specs.declared.content.Volume.{Volume}
@@ -14,10 +15,6 @@ use Rattle.ubi_volume.specs.declared.places.PlaceContent.{PlaceContent}
 abbrev pub PieceSizeIs : Sizes → List (List ℕ) → ℕ → ℕ → ℕ → Option ℕ → Type 0
 PieceSizeIs s bs vol used lnum size = (text : Option (List ℕ)) × PieceIs s bs vol used lnum text
     × (size ≡ option_map length text)
-
--- the size of the contents in the first n pieces
-abbrev pub SizeIsRead : Sizes → List (List ℕ) → ℕ → ℕ → ℕ → ℕ → Type 0
-SizeIsRead s bs vol used n size = (text : List ℕ) × AreRead s bs vol used n text × (size ≡ length text)
 
 -- the case and size of what a volume with this record reads
 abbrev pub CaseIs : Sizes → List (List ℕ) → ℕ → VolumeRecord → PlaceContent → Type 0

@@ -1,17 +1,15 @@
 -- What is gathered of a volume, piece by piece.
-use Rattle.std.specs.Prelude.{◌≡◌, ◌≢◌, ℕ, ◌<◌, List, All, IfSome, length, map, flat_map, slice_index}
+use Rattle.std.specs.Prelude.{◌≡◌, ◌≢◌, ℕ, ◌<◌, List, All, IfSome, length, map}
 use Rattle.std.specs.FinMap.{FinMap, get, entries}
 use Rattle.std.specs.Ordering.{nat_cmp}
 use Rattle.ubi_media.specs.Fields.{blank}
 use Rattle.ubi_media.specs.Geometry.{Sizes}
 use Rattle.ubi_media.specs.Record.{usable}
 use Rattle.ubi_media.specs.declared.record.VolumeRecord.{VolumeRecord}
-use Rattle.ubi_scan.specs.Members.{Wins}
 use Rattle.ubi_scan.specs.Source.{Agreed, WhereHeld, blocks_of}
-use Rattle.ubi_volume.specs.Means.{IsPiece, LebReads, VolumeReads, piece}
+use Rattle.ubi_volume.specs.Means.{LebReads, VolumeReads}
 use Rattle.ubi_volume.specs.Meant.{Fits, KeepsNoBlank}
 use Rattle.ubi_volume.specs.Reading.{leb_text}
-pub use Rattle.ubi_volume.specs.Texts.{PieceIs, UsedIs, used_in}
 use Rattle.ubi_volume.specs.declared.content.Content.{Content}
 use Rattle.ubi_volume.specs.declared.content.Volume.{Volume}
 
@@ -31,14 +29,6 @@ pub record AreGatheredLebs (s : Sizes) (bs : List (List ℕ)) (vol : ℕ) (r : V
     (lebs : FinMap nat_cmp (List ℕ)) : Type 0 where
   pub texts : AreKeptTexts (usable s r) n lebs
   pub reads : (lnum : ℕ) → lnum < n → LebReads s bs vol r lnum (leb_text (usable s r) (get lebs lnum))
-
--- the contents in the first n pieces
-pub record AreRead (s : Sizes) (bs : List (List ℕ)) (vol used n : ℕ) (text : List ℕ) : Type 0 where
-  pub ps : List ℕ
-  pub count : length ps ≡ n
-  pub win : (lnum : ℕ) → lnum < n → Wins s bs (vol, lnum) (slice_index ps lnum)
-  pub pieces : (lnum : ℕ) → lnum < n → IsPiece s bs used (slice_index ps lnum)
-  pub joined : text ≡ flat_map (piece s bs) ps
 
 -- what a volume of a source reads, in whatever the source may hold; it is as a meaning keeps it, whatever that is
 pub record IsContentOf (s : Sizes) (agrees : Agreed) (vol : ℕ) (r : VolumeRecord) (c : Content) : Type 0 where
