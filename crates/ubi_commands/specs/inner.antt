@@ -7,7 +7,6 @@ pub mod FileAnswers
 pub mod Folder
 pub mod Gathering
 pub mod Planning
-pub mod Telling
 pub mod Writes
 pub mod Formatted
 pub mod Pictured

@@ -70,7 +70,7 @@ impl PlacedFile for KnownFile<'_> {
 
 impl<'a> Disk for Telling<'a> {
     ghost use Rattle.ubi_files.specs.Disk.{IsKept};
-    ghost use Rattle.ubi_commands.specs.inner.Telling.{opens_image, telling};
+    ghost use Rattle.ubi_command_tests.specs.Telling.{opens_image, telling};
 
     type Placed = KnownFile<'a>;
 
