@@ -8,8 +8,9 @@ looks random; the second one in another order. The pairs: the same contents; one
 eraseblock; and of static volumes contents that are a byte shorter, or by a whole logical eraseblock. They lie in a new folder below FOLDER
 (/tmp where it is left out), which is removed again. Without --tool the program is built first where it isn't yet.
 
-It prints how many times the processor time of `cat` each takes, the least of eleven runs, the three commands in turns. It ends with
-status 1 where equal images take more than 1.0 times (dynamic) or 1.6 times (static), or unequal ones more than 1.5 or 2.
+It prints how many times the processor time of `cat` each takes, the least of 31 runs, the three commands in turns. It ends with status 1
+if equal images take more than 1.2 times (dynamic) or 1.6 times (static), or unequal ones more than 1.5 or 2. The limit of 1.0 for dynamic
+ones is that of an image and itself, which reading.py measures.
 """
 import os
 import random
@@ -20,9 +21,9 @@ import tempfile
 
 from normalise import KINDS, LAYOUT, PAGE, PEB, SLOTS, eraseblock, identifier_header, options, record, sealed, static_header
 
-RUNS = 11
+RUNS = 31
 # How many times as long as `cat` of both: of equal images, and of unequal ones. The clock's ticks are allowed for.
-MOST = {"dynamic": (1.0, 1.5), "static": (1.6, 2.0)}
+MOST = {"dynamic": (1.2, 1.5), "static": (1.6, 2.0)}
 TICK = 0.05
 ROOM = PEB - 2 * PAGE
 
