@@ -56,8 +56,8 @@ uint32_t ubi_check(const struct ubi_sizes *sizes, const uint8_t *image, size_t i
 /* The sizes of the device, and a line for each volume. */
 uint32_t ubi_list(const struct ubi_sizes *sizes, const uint8_t *image, size_t image_len, uint8_t *out, size_t out_len, size_t *len);
 
-/* The two headers of an eraseblock: what each is, and its bytes. Of all causes for which an image is refused only its length stops
- * this call. */
+/* The two headers of an eraseblock: what each is, and its bytes. This also works for an image that is refused, unless the cause is its
+ * length. */
 uint32_t ubi_show(const struct ubi_sizes *sizes, const uint8_t *image, size_t image_len, uint32_t block, uint8_t *out, size_t out_len,
     size_t *len);
 
