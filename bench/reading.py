@@ -1,19 +1,18 @@
 #!/usr/bin/env python3
-"""Measures `./ubi_tool geometry`, `check`, `list`, `same` and `diff` against `cat` of the same file, `extract` and `unpack` against `cp` of it, and
-`build` against `cp` of what `extract` writes.
+"""Measures `./ubi_tool geometry`, `check`, `list`, `same` and `diff` against `cat` of the same file, `extract` and
+`unpack` against `cp` of it, and `build` against `cp` of the file that `extract` writes.
 
 usage: reading.py [--dir FOLDER] [--blocks N] [--tool PROGRAM]
 
-The images are those of normalise.py: N eraseblocks (1,024, which is 128 MiB) of 128 KiB, of one dynamic or static volume.
-They lie in a new folder below FOLDER (/tmp where it is left out), which is removed again. Without --tool the program is
-built first where it isn't yet. `same` and `diff` compare an image with itself, and read it twice; so does the `cat` that they
-are measured against.
+The images are those of normalise.py: N eraseblocks (1,024, which is 128 MiB) of 128 KiB, of one dynamic or static
+volume. They lie in a new folder below FOLDER (/tmp by default), which is removed afterwards. Without --tool the program
+is built first, unless it is built already. `same` and `diff` compare an image with itself, and read it twice; so does
+the `cat` that they are measured against. `build` makes an image from a config of the one volume, with the same
+contents.
 
-`build` makes an image of a config with the one volume, whose contents are those.
-
-It prints the seconds of each, as they pass and of the processor (user and system), the least of five runs, and the peak of
-memory, which needs GNU time. It ends with status 1 where a command takes more than 8 MiB of memory, or where `check` takes
-longer than `cat` as it passes.
+It prints the seconds of each, elapsed and of the processor (user and system), the least of five runs, and the peak of
+memory, which needs GNU time. It ends with status 1 if a command takes more than 8 MiB of memory, or if the elapsed time
+of `check` is more than that of `cat`.
 """
 import subprocess
 import sys
@@ -21,6 +20,7 @@ import sys
 from normalise import PAGE, PEB, ROOM, options, over_images
 
 MOST = 1
+SMALL = ("geometry", "check", "list", "same", "diff", "extract", "unpack", "build")
 CONFIG = """[volume]
 mode=ubi
 vol_id=0
@@ -31,9 +31,10 @@ image={}
 
 
 def built(tool, path, sizes):
-    """Writes what the volume of an image reads, and a config of it, beside the image. Gives both paths."""
+    """Writes the contents of the volume of an image, and a config of it, beside the image. Returns both paths."""
     content, config = f"{path}.content", f"{path}.ini"
-    subprocess.run([tool, "extract", path, "--id", "0", "--out", content, *sizes], check=True, stdout=subprocess.DEVNULL)
+    extract = [tool, "extract", path, "--id", "0", "--out", content, *sizes]
+    subprocess.run(extract, check=True, stdout=subprocess.DEVNULL)
     listed = subprocess.run([tool, "list", path, *sizes], check=True, capture_output=True, text=True).stdout
     with open(config, "w", encoding="ascii") as file:
         file.write(CONFIG.format("static" if " static " in listed else "dynamic", content))
@@ -64,7 +65,7 @@ def main():
 
     above = False
     for _, ran in over_images(place, count, runs):
-        above |= any(ran[name][2] > ROOM for name in ("geometry", "check", "list", "same", "diff", "extract", "unpack", "build"))
+        above |= any(ran[name][2] > ROOM for name in SMALL)
         above |= ran["check"][0] > MOST * ran["cat"][0]
     sys.exit(1 if above else 0)
 

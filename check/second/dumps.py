@@ -360,7 +360,7 @@ def volume_of(rng, geometry, content):
     table = rules.put_table(geometry, {0: Record(len(shares), 1, kind, 0, b"inner", 0)})
     parts = [(Vid(1, 0, 5, LAYOUT, copy, 0, 0, 0, 0, 0), table) for copy in range(2)]
     for lnum, share in enumerate(shares):
-        of_static = (len(share), len(shares), 0, rules.check(share))
+        of_static = (len(share), len(shares), 0, rules.crc(share))
         parts.append((Vid(kind, 0, 0, 0, lnum, *(of_static if kind == 2 else (0, 0, 0, 0)), lnum + 1), share))
     if is_used:
         rng.shuffle(parts)

@@ -180,7 +180,7 @@ def solved(rng, size, off):
 def weakness(geometry, new, pages):
     """A number that is 0 where the first pages of new bytes, for each of some numbers of them, have the check of all."""
     fronts = [new[: n * geometry.page].ljust(len(new), b"\xFF") for n in pages]
-    return sum((rules.check(front) ^ rules.check(new)) << 32 * k for k, front in enumerate(fronts))
+    return sum((rules.crc(front) ^ rules.crc(new)) << 32 * k for k, front in enumerate(fronts))
 
 
 def said(refusal, plan, meant, *what):
@@ -267,7 +267,7 @@ class Maker:
         text = self.with_unseen(records) if rng.random() < 0.25 else rules.put_table(self.geometry, records)
         text = text.ljust(leb, rng.choice((b"\xFF", b"\0")))
         size = rng.choice((0, 0, 0, rng.randrange(172, leb + 1)))
-        right = rules.check(text[:size]) ^ int(rng.random() < 0.3) if size else 0
+        right = rules.crc(text[:size]) ^ int(rng.random() < 0.3) if size else 0
         return self.block(Vid(1, int(size > 0), 5, LAYOUT, copy, size, 0, 0, right, self.sqnum()), text)
 
     def other_records(self):
@@ -302,7 +302,7 @@ class Maker:
             for _ in range(rng.choice((1, 1, 2, 3))):
                 text = self.text(usable)
                 size = rng.randrange(1, usable + 1) if rng.random() < 0.5 else 0
-                right = rules.check(text[:size]) if size else 0
+                right = rules.crc(text[:size]) if size else 0
                 if size and rng.random() < 0.3:
                     right ^= 1
                 blocks.append(self.block(Vid(1, int(size > 0), 0, slot, lnum, size, 0, pad, right, self.sqnum()), text))
@@ -316,7 +316,7 @@ class Maker:
         blocks = []
         for lnum, share in enumerate(shares):
             for _ in range(rng.choice((1, 1, 1, 1, 2, 0) if rng.random() < 0.4 else (1,))):
-                right = rules.check(share) ^ int(rng.random() < 0.05)
+                right = rules.crc(share) ^ int(rng.random() < 0.05)
                 vid = Vid(2, rng.choice((0, 0, 1)), 0, slot, lnum, len(share), len(shares), pad, right, self.sqnum())
                 blocks.append(self.block(vid, share))
         return blocks

@@ -260,8 +260,8 @@ def places(looker):
         parts |= leb_parts(g, p, of_leb(lnum, lnum), pieces)
     # Another copy of the last LEB, which is newer; and one that is newer still, and cut short.
     (newer, lebs[lnum]), (cut, whole) = spread(g, 100), spread(g, 200)
-    parts |= leb_parts(g, last - 1, of_leb(lnum, 1000, copy=1, size=g.leb, data_check=rules.check(lebs[lnum])), newer)
-    parts |= leb_parts(g, last // 2 + 1, of_leb(lnum, 1001, copy=1, size=g.leb, data_check=rules.check(whole) ^ 1), cut)
+    parts |= leb_parts(g, last - 1, of_leb(lnum, 1000, copy=1, size=g.leb, data_crc=rules.crc(lebs[lnum])), newer)
+    parts |= leb_parts(g, last // 2 + 1, of_leb(lnum, 1001, copy=1, size=g.leb, data_crc=rules.crc(whole) ^ 1), cut)
     image = Sparse((last + 2) * g.peb, parts)
     image.put(looker.path("far.img"))
     meant = Meaning(g, SEQ, records, {0: lebs})
@@ -496,7 +496,7 @@ def built_pieces(geometry, records, files):
         for lnum, data in enumerate(shares(files[number], geometry.leb)):
             header = of_leb(lnum, 0, volume=number)
             if r.kind == 2:
-                header = dataclasses.replace(header, kind=2, size=len(data), used=r.reserved, data_check=rules.check(data))
+                header = dataclasses.replace(header, kind=2, size=len(data), used=r.reserved, data_crc=rules.crc(data))
             yield rules.put_block(geometry, rules.put_ec(geometry, 0, SEQ), rules.put_vid(header), data)
 
 
