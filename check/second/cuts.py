@@ -204,8 +204,8 @@ def listed(device, names, lebs):
     for volume, name in names.items():
         count = sum(of == volume and data.strip(b"\xFF") != b"" for (of, _), data in lebs.items())
         lines.append(
-            f"volume {volume} dynamic reserved={RESERVED[volume]} alignment=1 usable={device.leb} flags=00 lebs={count} "
-            f"name={SHOWN.get(name, name.decode(errors='replace'))}\n"
+            f"volume {volume} dynamic reserved={RESERVED[volume]} alignment=1 usable={device.leb} flags=00 "
+            f"lebs={count} name={SHOWN.get(name, name.decode(errors='replace'))}\n"
         )
     return "".join((*lines, f"volumes {len(names)}\n"))
 
@@ -306,7 +306,8 @@ class Looker:
         changed = device.lebs | {(0, lnum): new.ljust(device.leb, b"\xFF")}
         self.judge(device, cuts, at)
         for k, what in self.each_cut(device, steps, cuts):
-            self.look(device, device.names, device.lebs if k < at else changed, f"{what} of a change with its commit at {at}")
+            lebs = device.lebs if k < at else changed
+            self.look(device, device.names, lebs, f"{what} of a change with its commit at {at}")
         return len(steps)
 
     def try_rename(self, device):
@@ -329,11 +330,13 @@ class Looker:
         expect([first, second] == device.takeable()[:2], f"the copies are put into {first} and {second}")
         self.judge(device, cuts, at)
         for k, what in self.each_cut(device, steps, cuts):
-            self.look(device, device.names if k < at else names, device.lebs, f"{what} of a rename with its commit at {at}")
+            meant = device.names if k < at else names
+            self.look(device, meant, device.lebs, f"{what} of a rename with its commit at {at}")
             rename = ["rename", self.cut, "--id", str(volume), "--name", "again", "--out", self.out]
             again, _ = self.run(*rename, *device.words())
             differ = at <= k < end and names != device.names
-            expect((again == "refused N3 NeedsRepair\n") == differ, f"{what} of a rename from {at} to {end} is renamed: {again}")
+            is_refused = again == "refused N3 NeedsRepair\n"
+            expect(is_refused == differ, f"{what} of a rename from {at} to {end} is renamed: {again}")
         return len(steps)
 
     def outs(self, device):
