@@ -60,7 +60,7 @@ class Writer:
         if record.marker:
             return "updating"
         if record.kind == 1:
-            lebs = {lnum: self.maker.text(usable) for lnum in range(record.reserved) if rng.random() < 0.5}
+            lebs = {lnum: self.maker.contents(usable) for lnum in range(record.reserved) if rng.random() < 0.5}
             return {lnum: data for lnum, data in lebs.items() if not rules.is_blank(data)}
         if rng.random() < 0.2:
             return "damaged"
