@@ -85,7 +85,8 @@ class Measured:
 
     def __init__(self):
         self.is_above = False
-        print("| what | against | times as long | target | seconds | MiB at the peak |\n" + "|---" * 6 + "|", flush=True)
+        print("| what | against | times as long | target | seconds | MiB at the peak |")
+        print("|---|---|---|---|---|---|", flush=True)
 
     def add(self, what, against, seconds, run):
         """Adds a run, with what it is measured against and the seconds that this takes."""

@@ -523,7 +523,7 @@ class Cases:
             return change
 
         def done(k, *more):
-            """Gives the chip the image after K steps."""
+            """Fills the chip with the image after K steps."""
             def change(chip):
                 chip.fill(chip.plan.after[k])
                 for one in more:

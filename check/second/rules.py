@@ -1,6 +1,6 @@
-"""A second reading of docs/FORMAT.md: what an image means, or why it is refused, also if some of its eraseblocks are bad,
-and the plans of a change and of a rename with their pages. geometry.py finds the geometries of a file that nothing is
-known about.
+"""A second reading of docs/FORMAT.md: what an image means, or why it is refused, also if some of its eraseblocks are
+bad, and the plans of a change and of a rename with their pages. geometry.py finds the geometries of a file that nothing
+is known about.
 
 It was written from that document and not from the program, so that the answers of the program can be compared with it.
 It is short and slow: it says each rule once, in the document's words. A refusal is the exception `Refused`, which holds
