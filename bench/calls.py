@@ -11,7 +11,8 @@ counts the bytes of the normal image.
 
 It prints the elapsed seconds of each call, and those of the command, which also starts, and reads and writes files: the
 least of five. It ends with status 1 if a call takes longer than its command. The call without room is measured against
-`normalise`, and `map` against `check`. """
+`normalise`, and `map` against `check`.
+"""
 import os
 import subprocess
 import sys

@@ -11,7 +11,8 @@ whole logical eraseblock. They lie in a new folder below FOLDER (/tmp by default
 
 It prints how many times the processor time of `cat` each takes, the least of eleven runs, the three commands in turns.
 It ends with status 1 if equal images take more than 1.0 times (dynamic) or 1.6 times (static), or unequal ones more
-than 1.5 or 2. """
+than 1.5 or 2.
+"""
 import os
 import random
 import shutil

@@ -7,18 +7,17 @@ The image is the dynamic one of normalise.py: N eraseblocks (8,192, which is 1 G
 measures:
   plain   `geometry` and `list` of the image, without a number, against `cat`
   around  `geometry` of a file of that size, half of which is such an image, with random bytes before and after it,
-          against
-          `cat`
+          against `cat`
   oob     `check` and `normalise` of the image with 64 out-of-band bytes after each page, by --oob, against the same
-          without
-          them
+          without them
   sparse  `geometry` of a sparse file of 5 GiB with an image of nine eraseblocks at 3 GiB, in seconds
 The files lie in a new folder below FOLDER (/tmp by default), which is removed afterwards; for 8,192 eraseblocks it
 needs some 4 GiB there. Without --tool the program is built first, unless it is built already.
 
 It prints a table: how many times as long each takes as what it is measured against, in elapsed seconds, the least of
 five runs on a file that was read before; and the peak of memory, which needs GNU time. It ends with status 1 if one is
-above its target, or takes more than 16 MiB. """
+above its target, or takes more than 16 MiB.
+"""
 import os
 import random
 import shutil

@@ -10,7 +10,8 @@ its steps done. The files lie in a new folder below FOLDER (/tmp by default), wh
 
 It prints the seconds of each, elapsed and of the processor (user and system), the least of five runs, each into a new
 file, and the peak of memory, which needs GNU time. It ends with status 1 if one takes more than twice the elapsed time
-of `cp`, or more than 8 MiB. """
+of `cp`, or more than 8 MiB.
+"""
 import os
 import shutil
 import sys

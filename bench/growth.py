@@ -23,7 +23,8 @@ n log n they grow over all sizes, and at most from one size to the next. It ends
 With --instructions it counts the program's instructions instead of seconds, in millions, in one run of each under
 valgrind, which takes some fifty times as long. Their number depends neither on what else the machine does nor on its
 caches, so it ends with status 1 if they grow more than 1.3 times as fast from any size to the next. They don't include
-the work of the system, which reads the file and provides pages for it. """
+the work of the system, which reads the file and provides pages for it.
+"""
 import argparse
 import math
 import os

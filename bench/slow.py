@@ -7,7 +7,8 @@ usage: slow.py CRATE [N]
 before it is saved in which no other part is, and it is large if there was much to check. It lists N of each (20). If
 two jobs run at the same time, each hides the other's time. The last check begins after a pause of five minutes in which
 nothing was saved; the parts that it took from an earlier one aren't listed. To time a whole crate, remove its folder
-out/ and check it anew. """
+out/ and check it anew.
+"""
 import re
 import sys
 from pathlib import Path

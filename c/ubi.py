@@ -11,7 +11,8 @@
 `c/build.sh` makes the shared object that this module loads, and install.sh installs both. An image is any object whose
 bytes lie in one piece, such as bytes, a bytearray or an mmap; it is not copied, and must not be written while a call
 runs. A call raises Refused with the cause if ubi_tool would print a line with `refused`; Limit if the sizes are no
-geometry; and MemoryError if memory runs out. ubi.h and docs/C.md say more. """
+geometry; and MemoryError if memory runs out. ubi.h and docs/C.md say more.
+"""
 import contextlib
 import ctypes
 import os

@@ -19,7 +19,8 @@ image one mapped LEB and one unmapped LEB are changed, and a volume is renamed. 
 The chip must hold the image after the steps that are done, and mean the old or the new. Plans, pages and meanings are
 those of check/second/rules.py. With --tool the plans and the pages of PROGRAM must be the same, and the meaning is what
 its `list` and `extract` say. The script is run by dash, bash and busybox in turn, if they are installed. --only runs
-the cases whose names contain WORD. The last line is 'N passed, M failed', and the exit status is 0 if none failed. """
+the cases whose names contain WORD. The last line is 'N passed, M failed', and the exit status is 0 if none failed.
+"""
 import argparse
 import itertools
 import os

@@ -2,7 +2,8 @@
 
 An item is public if src/lib.rt exports it, with the methods and the ghost lines of exported types and traits, except
 those of a trait that the crate keeps to itself. A program exports nothing: there an item is public if it has the word
-`pub`. """
+`pub`.
+"""
 import os
 import re
 

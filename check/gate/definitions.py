@@ -20,7 +20,8 @@ place, over files that it reads and writes piece by piece, with the call that `m
 With --check it lists the files that the promise rests on, and those that all public contracts rest on. Definitions that
 only private functions' contracts and proofs cite lie in specs/inner/. The exit status is 1 if a public contract or a
 file above that folder reaches into it, if no public contract reaches a definition above it, or if a definition has no
-sentence before it. """
+sentence before it.
+"""
 import os
 import re
 import sys

@@ -10,7 +10,8 @@ those of everything, as the system counts them; and the ratio of that to the pro
 budget of the gate. The exit status is that of the first command that fails; those after it aren't run.
 
 `rt ci` doesn't repeat what it has passed on the machine before, so a ratio is valid only if everything was proved anew,
-and it is most exact on a machine that does nothing else. """
+and it is most exact on a machine that does nothing else.
+"""
 import os
 import re
 import resource

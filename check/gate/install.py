@@ -8,7 +8,8 @@ files and their bytes; the program has to run with an empty environment, the Pyt
 is installed with it, the checksums of the archive have to be right, and an archive that is made twice has to be the
 same. If c/build.sh has made no library, it compares only the path that the module tries. What isn't built, is older
 than its sources or can't be written has to be refused, and wrong words too. Ends with 'N passed, M failed', and with
-status 1 if some failed. """
+status 1 if some failed.
+"""
 import argparse
 import os
 import re

@@ -7,7 +7,8 @@ It runs the program with words that are right, wrong, not UTF-8, or refused; wit
 has to show how far long work is, and with a pipe, which has to get nothing; and through `./ubi_tool`, called by links,
 in folders and with words that have blanks. With an `rt` that builds another program, the launcher has to run that
 program if a source is newer, and nothing if the build fails. Ends with 'N passed, M failed', and with status 1 if some
-failed. """
+failed.
+"""
 import argparse
 import os
 import pty

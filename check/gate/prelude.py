@@ -10,7 +10,8 @@ crate's own lemmas, themselves.
 
 Without --write it lists the files that import a name without their prelude or one that they don't use, and those
 preludes that have names which no file takes. The exit status is 1 if one is listed. With --write it mends them; run `rt
-fmt` and `rt check` after it. """
+fmt` and `rt check` after it.
+"""
 import argparse
 import collections
 import pathlib

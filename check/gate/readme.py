@@ -8,7 +8,8 @@ An example is a line that begins with '$ ' in a block without a language, and th
 end of the block are what it prints. The shell runs the examples of a page in their order, at the top of the repository.
 Without --tool the program is built first, unless it is built already; with it, PROGRAM replaces `./ubi_tool` in each
 example. A front page is the comment at the head of a library's src/lib.rt, and the block in it has to be the code in
-crates/ubi_uses/src below the lines `ghost use`. Ends with 'N passed, M failed', and with status 1 if some failed. """
+crates/ubi_uses/src below the lines `ghost use`. Ends with 'N passed, M failed', and with status 1 if some failed.
+"""
 import argparse
 import shlex
 import subprocess

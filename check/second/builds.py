@@ -17,7 +17,8 @@ lead out of the folder.
 By default there are 500 configs (--count) of the seed 1 (--seed). They lie in a new folder below FOLDER (/tmp by
 default), which is removed afterwards. Without --tool the program is built first, unless it is built already. It counts
 each cause. The last line is 'N passed, M failed', and the exit status is 0 if none failed; a config that failed can be
-made again by its number. """
+made again by its number.
+"""
 import collections
 import os
 import re

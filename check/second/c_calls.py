@@ -22,7 +22,8 @@ By default there are 200 images of the seed 1, five with large eraseblocks, and 
 The library is the one that c/build.sh has put into c/out, or the one in the folder that --built names. With --asan
 c_caller.c is compiled with the checkers of addresses and of undefined behaviour, and linked with the archive. Without
 --tool the program is built first, unless it is built already. The last line is 'N passed, M failed', and the exit
-status is 0 if none failed; an image that failed can be made again by giving its number to --first. """
+status is 0 if none failed; an image that failed can be made again by giving its number to --first.
+"""
 import argparse
 import ctypes
 import dataclasses

@@ -13,7 +13,8 @@ eraseblocks of 128 KiB. They lie in a new folder below FOLDER (/tmp by default),
 --tool the program is built first, unless it is built already. It counts how many come back whole, and how many in part.
 With --ubinize N more images are taken apart, with sizes that ubinize can make (it needs mtd-utils): ubinize takes the
 config too, and makes an image that means the same, unless docs/CONFIG-FORMAT.md says why not. The last line is 'N
-passed, M failed', and the exit status is 0 if none failed. """
+passed, M failed', and the exit status is 0 if none failed.
+"""
 import collections
 import os
 import shutil

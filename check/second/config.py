@@ -3,7 +3,8 @@ section.
 
 It was written from that document and not from the program, as rules.py was from docs/FORMAT.md. It says each rule once,
 in the document's words; a rule looks at its line and at all lines above it. A fault is a pair: the number of its line,
-and its cause as it is printed, such as (4, "I12 Missing vol_id"). """
+and its cause as it is printed, such as (4, "I12 Missing vol_id").
+"""
 import dataclasses
 import re
 

@@ -21,7 +21,8 @@ check/second/rules.py judges each cut, too.
 
 By default there are 100 images (--count) of the seed 1 (--seed) to change, and as many to rename. They lie in a new
 folder below FOLDER (/tmp by default), which is removed afterwards. Without --tool the program is built first, unless it
-is built already. The last line is 'N passed, M failed', and the exit status is 0 if none failed. """
+is built already. The last line is 'N passed, M failed', and the exit status is 0 if none failed.
+"""
 import os
 import struct
 import subprocess

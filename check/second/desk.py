@@ -15,7 +15,8 @@ By default there are 1,000 files (--count) of the seed 1 (--seed), and no files 
 (--geometry). They lie in a new folder below FOLDER (/tmp by default), which is removed afterwards. Without --tool the
 program is built first, unless it is built already. It counts the right, wrong and refused answers. The last line is 'N
 passed, M failed', and the exit status is 0 if none failed; a file that failed can be made again by giving its number to
---first: the kind of a file depends on its number. """
+--first: the kind of a file depends on its number.
+"""
 import collections
 import os
 import subprocess

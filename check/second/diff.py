@@ -11,7 +11,8 @@ other wear and another order. Now and then the right one is another image altoge
 to print exactly the differences of the two meanings, in both orders, and `same` its last line.
 
 By default there are 500 pairs (--count) of the seed 1 (--seed), and 5 (--large) with eraseblocks of 128 KiB. The last
-line is 'N passed, M failed', and the exit status is 0 if none failed. """
+line is 'N passed, M failed', and the exit status is 0 if none failed.
+"""
 import dataclasses
 
 import fuzz

@@ -13,7 +13,8 @@ docs/FORMAT.md says that it may be given, and otherwise *other*.
 
 By default there are 2,000 files (--count) of the seed 1 (--seed). It prints for each kind how many are right, wrong and
 refused, and each wrong answer with its number, with which --first makes it again (--wrong prints no table). It ends
-with status 1 if one is wrong that isn't named. """
+with status 1 if one is wrong that isn't named.
+"""
 import argparse
 import collections
 import dataclasses
@@ -301,7 +302,7 @@ def at_any_byte(rng, image):
 
 
 def with_number(rng, geometry, blocks):
-    """The same image, of which each header has one number."""
+    """The same image, with one number in all headers."""
     number = rng.randrange(1, 2**32)
     return geometry, [renumbered(block, number) for block in blocks]
 

@@ -17,7 +17,8 @@ link, or have a name that differs by a blank.
 
 The cases are always the same. Their files lie in new folders below FOLDER (/tmp by default), which are removed
 afterwards. Without --tool the program is built first, unless it is built already. The last line is 'N passed, M
-failed', and the exit status is 0 if none failed. """
+failed', and the exit status is 0 if none failed.
+"""
 import argparse
 import dataclasses
 import os

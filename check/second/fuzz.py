@@ -29,7 +29,8 @@ eraseblocks of 128 KiB and pages of 2 KiB, with sub-pages and without, for which
 checked, and one (--huge) whose outputs are larger than 16 MiB. They lie in a new folder below FOLDER (/tmp by default),
 which is removed afterwards. Without --tool the program is built first, unless it is built already. The last line is 'N
 passed, M failed', and the exit status is 0 if none failed; an image that failed can be made again by giving its number
-to --first. """
+to --first.
+"""
 import argparse
 import dataclasses
 import os
@@ -721,7 +722,8 @@ class Case(Runner):
     """An image, and the answers that the program has to give for it.
 
     TIMES are how often it may be changed, PLANS is how many changes and how many renames are planned, and CUTS how many
-    cuts of each are checked. """
+    cuts of each are checked.
+    """
 
     def __init__(self, rng, tool, folder, maker, times=(0, 1, 1, 2, 3), plans=4, cuts=99):
         super().__init__(tool, folder, maker.geometry)

@@ -4,7 +4,8 @@ found.
 
 It was written from that section and not from the program, so that the answers of the program can be compared with it.
 It says each rule once, in the document's words. A refusal is the exception `Refused`, which holds the line that the
-program prints, without `refused `. """
+program prints, without `refused `.
+"""
 import collections
 import dataclasses
 import math

@@ -14,31 +14,27 @@ as `ubinize` writes it. The families, all of which are run by default:
   faults    each rule of each header and record broken, with a right CRC, in every place where it can be
   pairs     each two of these: the cause of the lower eraseblock comes first, and those of the table last
   carriers  the image, a free eraseblock and an erased one, with each subset of them carrying the number: they mean the
-            image,
-            without the number if none carries it; and changes of each LEB and a rename, whose plans don't touch a sole
-            carrier
+            image, without the number if none carries it; and changes of each LEB and a rename, whose plans don't touch
+            a sole carrier
   repairs   renames in these, if a bit of a copy of the table or of its header is flipped, or copy 1 is at fault or
-            differs:
-            refused N3 NeedsRepair; and if bytes differ that nothing looks at: the plan
+            differs: refused N3 NeedsRepair; and if bytes differ that nothing looks at: the plan
   weak      renames after which the first pages of the table, for each number of pages and each two numbers, have the
-            CRC of all,
-            if there are such names: refused K7 WeakCheck with the least number
+            CRC of all, if there are such names: refused K7 WeakCheck with the least number
   names     renames in these to each byte, as it is and as two digits of either case, to names of each length up to 129
-            bytes, and
-            to words that can't be read: refused N1 BadName, whether the volume exists or not
+            bytes, and to words that can't be read: refused N1 BadName, whether the volume exists or not
   texts     texts for `compose`: each form of line with each fault, each two faults in one text, each byte in each place
-            that has
-            a rule of its own, and right texts at the limits; the cause of the first line comes first (text_faults.py)
+            that has a rule of its own, and right texts at the limits; the cause of the first line comes first
+            (text_faults.py)
   lists     LISTs of bad eraseblocks: each form, each byte in each place of one, the longest words, numbers that are
-            repeated, in
-            falling order or beyond the image, and wrong words; each is answered within two seconds
+            repeated, in falling order or beyond the image, and wrong words; each is answered within two seconds
   devices   character devices without an end, for each file that a command reads: cannot read, or wrong words if a plan
-            has no
-            LIST; and the image from a pipe, from standard input that is a file, and from a terminal: as from its file
+            has no LIST; and the image from a pipe, from standard input that is a file, and from a terminal: as from its
+            file
 
 The script says what is expected, family by family. The images lie in a new folder below FOLDER (/tmp by default), which
 is removed afterwards. Without --tool the program is built first, unless it is built already. The last line is 'N
-passed, M failed', and the exit status is 0 if none failed. """
+passed, M failed', and the exit status is 0 if none failed.
+"""
 import argparse
 import itertools
 import os

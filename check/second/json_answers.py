@@ -15,7 +15,8 @@ both have to agree on whether the images mean the same.
 
 By default there are 500 images of the seed 1, and 500 pairs (--pairs). Without --tool the program is built first,
 unless it is built already. The last line is 'N passed, M failed', and the exit status is 0 if none failed; an image
-that failed can be made again by giving its number to --first. """
+that failed can be made again by giving its number to --first.
+"""
 import json
 import subprocess
 

@@ -12,7 +12,8 @@ them: the lines of each eraseblock's headers are those of the second reading, an
 
 By default there are 500 images of the seed 1. Without --tool the program is built first, unless it is built already.
 The last line is 'N passed, M failed', and the exit status is 0 if none failed; an image that failed can be made again
-by giving its number to --first. """
+by giving its number to --first.
+"""
 import json
 import os
 import subprocess

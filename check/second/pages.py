@@ -11,7 +11,8 @@ eraseblock; a refused image has to show its cause and the eraseblock at fault; n
 asked of any network or file. 8,192 eraseblocks have to be drawn in half a second.
 
 With --picture one page is drawn into a file. The last line is 'N passed, M failed', and the exit status is 0 if none
-failed. """
+failed.
+"""
 import argparse
 import json
 import os

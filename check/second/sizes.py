@@ -7,11 +7,9 @@ A program that takes a size or a place modulo a power of two, or that gives up a
 images as the rules do. So each command is run on images that are made here, up to the largest possible, and each byte
 that it writes is compared. The families, all of which are run by default:
   headers   headers at 0, 5, 9 and 65 GiB, and at each power of two from 2^31 to 2^43, shown one by one, with those
-            beside each, and if
-            they are bad
+            beside each, and if they are bad
   places    an image of 256 GiB and more whose tables and LEBs lie at these places up to 2^38: each command that writes
-            no image of its
-            size
+            no image of its size
   beyond    an image that ends beyond 4 GiB: a change and a rename, whose outputs are compared byte for byte
   many      an image of 2^20 eraseblocks, which is the most; and as a pipe of 512 MiB
   volumes   128 volumes, which is the most, with names of 127 bytes; and a config of 128 sections
@@ -28,7 +26,8 @@ that it writes is compared. The families, all of which are run by default:
 Large files are sparse: unwritten parts read as zero, which is no header. Large outputs go into a pipe, and are compared
 while they are written. So it needs only 3 GB of the disk below FOLDER (/tmp by default), which are freed afterwards.
 Without --tool the program is built first, unless it is built already. The last line is 'N passed, M failed', and the
-exit status is 0 if none failed. """
+exit status is 0 if none failed.
+"""
 import argparse
 import dataclasses
 import fcntl
@@ -578,7 +577,7 @@ def geometry(looker):
 
 
 def huge(looker):
-    """Files of 8 TiB, of which no more is read than a device has or a text may have; and a long text, mostly of
+    """Files of 8 TiB, which are read no further than a device or a text may be long; and a long text, mostly of
     remarks."""
     records, contents = {0: Record(1, 1, 1, 0, b"a", 0)}, {0: {0: noise(1, LEAST.leb)}}
     few, volume = dataclasses.replace(LEAST, pebs=64), Meaning(LEAST, SEQ, records, contents)

@@ -12,7 +12,8 @@ check/second/refuse.sh does the same with tests of the libraries.
 By default there are 20 images (--count) of the seed 1 (--seed). They lie in a new folder below FOLDER (/tmp by
 default), which is removed afterwards. Without --tool the program is built first, unless it is built already. It needs a
 C compiler (cc, or what CC names), for a few lines that wrap the C library's malloc and realloc. The last line is 'N
-passed, M failed', which counts runs, and the exit status is 0 if none failed. """
+passed, M failed', which counts runs, and the exit status is 0 if none failed.
+"""
 import os
 import random
 import subprocess

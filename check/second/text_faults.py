@@ -1,7 +1,8 @@
 """A text with each form of line, and each way in which it is refused: the family `texts` of hostile.py.
 
 A case is a text, the number of spare eraseblocks that is asked for, and what is expected: the line of a refusal, or the
-lines that `list` prints for the volumes. """
+lines that `list` prints for the volumes.
+"""
 import functools
 import itertools
 

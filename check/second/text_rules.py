@@ -2,7 +2,8 @@
 
 It was written from that document and not from the program, as rules.py was from docs/FORMAT.md. It says each rule once,
 in the document's words; a rule looks at its line and at all lines above it. `Described` is a text that is composed; a
-refusal is the exception `Refused` of rules.py. """
+refusal is the exception `Refused` of rules.py.
+"""
 import dataclasses
 import re
 

@@ -11,7 +11,8 @@ and from a pipe, and `geometry` reads a part. An impossible view has to be refus
 or F8, with its number, and no output may be written then.
 
 By default there are 500 files of the seed 1. Without --tool the program is built first, unless it is built already. The
-last line is 'N passed, M failed', and the exit status is 0 if none failed. """
+last line is 'N passed, M failed', and the exit status is 0 if none failed.
+"""
 import argparse
 import random
 import subprocess
