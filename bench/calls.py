@@ -21,11 +21,10 @@ import time
 
 from editing import put_files
 from image import ROOT
-from normalise import KINDS, PAGE, PEB, options, put_image
-from c_calls import Caller  # image.py has put check/second on the path
+from normalise import GEOMETRY, KINDS, PEB, WORDS, options, put_image
+from c_calls import Caller, sizes_of  # image.py has put check/second on the path
 
-SIZES = (PEB, PAGE, PAGE, 2 * PAGE, 1048576)
-WORDS = ["--peb", str(PEB), "--page", str(PAGE)]
+SIZES = sizes_of(GEOMETRY)
 
 
 def least(run):

@@ -20,7 +20,8 @@ import subprocess
 import sys
 import tempfile
 
-from normalise import GEOMETRY, KINDS, PAGE, PEB, eraseblock, options, static_header, tables
+from image import mixed
+from normalise import GEOMETRY, KINDS, WORDS, eraseblock, options, static_header, tables
 from rules import dynamic_header
 
 RUNS = 11
@@ -31,11 +32,9 @@ TICK = 0.05
 
 def put_image(path, kind, reserved, contents, seed):
     """Writes the image of a volume whose logical eraseblocks hold these contents."""
-    numbers = list(range(len(contents)))
-    random.Random(seed).shuffle(numbers)
     with open(path, "wb") as file:
         file.writelines(tables(kind, reserved))
-        for number in numbers:
+        for number in mixed(len(contents), seed):
             data = contents[number]
             is_static = kind == "static"
             vid = static_header(number, len(contents), data) if is_static else dynamic_header(0, number, number + 1)
@@ -72,14 +71,13 @@ def main():
     place, count, tool = options(__doc__, "--blocks", 1024)
     folder, above = tempfile.mkdtemp(dir=place), False
     left, right = (os.path.join(folder, name) for name in ("left.img", "right.img"))
-    sizes = ["--peb", str(PEB), "--page", str(PAGE)]
     try:
         for kind in KINDS:
             contents = [random.Random(number).randbytes(GEOMETRY.leb) for number in range(count - 2)]
             put_image(left, kind, count - 2, contents, 1)
             for what, others in pairs(kind, contents):
                 put_image(right, kind, count - 2, others, 2)
-                compared = [[tool, name, left, right, *sizes] for name in ("same", "diff")]
+                compared = [[tool, name, left, right, *WORDS] for name in ("same", "diff")]
                 commands = [["cat", left, right], *compared]
                 least = [min(times) for times in zip(*([used(words) for words in commands] for _ in range(RUNS)))]
                 most = MOST[kind][what != "nothing"]

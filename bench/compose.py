@@ -17,6 +17,7 @@ import shutil
 import sys
 import tempfile
 
+from image import mixed
 from normalise import measure, options
 
 MOST = 6
@@ -28,9 +29,7 @@ def text(peb, page, size):
     leb = peb - 2 * page
     count = size // (2 * leb + 12) + 1
     yield f"volume 0 dynamic {count} 1 00 root\n"
-    numbers = list(range(count))
-    random.Random(count).shuffle(numbers)
-    for number in numbers:
+    for number in mixed(count):
         yield f"leb 0 {number} {random.Random(number).randbytes(leb).hex()}\n"
 
 

@@ -24,11 +24,10 @@ import shutil
 import sys
 import tempfile
 
-from normalise import PAGE, PEB, eraseblocks, measure, options
+from normalise import PAGE, PEB, WORDS, eraseblocks, measure, options
 
 MIB, GIB = 2**20, 2**30
 OOB, ROOM = 64, 16
-SIZES = ["--peb", str(PEB), "--page", str(PAGE)]
 SPARSE_SIZE, SPARSE_PLACE, SPARSE_BLOCKS = 5 * GIB, 3 * GIB, 9
 # The greatest ratio of each measurement to what it is measured against; for the last one the most seconds.
 TARGETS = {
@@ -106,10 +105,10 @@ def main():
         cat = measure(["cat", path], out)[0]
         measured.add("`geometry`, plain", "`cat`", cat, measure([tool, "geometry", path], out))
         measured.add("`list` without a number, plain", "`cat`", cat, measure([tool, "list", path], out))
-        check = measure([tool, "check", path, *SIZES], out)[0]
-        normalise = measure([tool, "normalise", path, "--out", out, *SIZES], out)[0]
+        check = measure([tool, "check", path, *WORDS], out)[0]
+        normalise = measure([tool, "normalise", path, "--out", out, *WORDS], out)[0]
         put(path, with_more(count))
-        more = [*SIZES, "--oob", str(OOB)]
+        more = [*WORDS, "--oob", str(OOB)]
         measured.add(f"`check --oob {OOB}`", "`check` without", check, measure([tool, "check", path, *more], out))
         run = measure([tool, "normalise", path, "--out", out, *more], out)
         measured.add(f"`normalise --oob {OOB}`", "`normalise` without", normalise, run)

@@ -17,7 +17,7 @@ import shutil
 import sys
 import tempfile
 
-from normalise import EC, PAGE, PEB, ROOM, eraseblocks, measure, options
+from normalise import EC, PAGE, PEB, ROOM, WORDS, eraseblocks, measure, options
 
 MOST = 2
 
@@ -33,7 +33,6 @@ def put_files(image, new, count):
 
 def main():
     place, count, tool = options(__doc__, "--blocks", 1024)
-    sizes = ["--peb", str(PEB), "--page", str(PAGE)]
     folder = tempfile.mkdtemp(dir=place)
     print(f"{count} eraseblocks of {PEB} bytes     elapsed   of the processor   MiB at the peak")
     try:
@@ -41,8 +40,8 @@ def main():
         put_files(image, new, count)
         runs = {
             "cp": ["cp", image, out],
-            "change": [tool, "change", image, "--id", "0", "--lnum", "0", "--from", new, "--out", out, *sizes],
-            "rename": [tool, "rename", image, "--id", "0", "--name", "other", "--out", out, *sizes],
+            "change": [tool, "change", image, "--id", "0", "--lnum", "0", "--from", new, "--out", out, *WORDS],
+            "rename": [tool, "rename", image, "--id", "0", "--name", "other", "--out", out, *WORDS],
         }
         ran = {name: measure(words, out) for name, words in runs.items()}
     finally:

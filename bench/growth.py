@@ -28,7 +28,6 @@ the work of the system, which reads the file and provides pages for it.
 import argparse
 import math
 import os
-import random
 import re
 import shutil
 import subprocess
@@ -36,7 +35,7 @@ import sys
 import tempfile
 
 import image
-from image import EC, ROOT
+from image import EC, ROOT, mixed
 from normalise import built_tool, static_header
 from rules import EMPTY_RECORD, LAYOUT, Geometry, Record, dynamic_header, put_block, put_record
 from scan import ENVIRONMENT, run
@@ -51,12 +50,6 @@ OTHERS = 4
 
 def block(vid=b"", data=b""):
     return put_block(GEOMETRY, EC, vid, data)
-
-
-def mixed(count):
-    order = list(range(count))
-    random.Random(count).shuffle(order)
-    return order
 
 
 def members(kind, count):

@@ -28,19 +28,17 @@ KINDS = ("rising", "mixed", "one", "one-mixed", "copies", "pairs")
 EC = counter_header(7, VID, DATA, IMAGE_SEQ)
 
 
-def places(kind, count):
-    """The numbers below COUNT: by rising number, or in an order that looks random."""
-    if kind in ("rising", "one"):
-        return range(count)
-    order = list(range(count))
-    random.Random(count).shuffle(order)
-    return order
+def mixed(count, seed=None):
+    """The numbers below COUNT in an order that looks random."""
+    numbers = list(range(count))
+    random.Random(count if seed is None else seed).shuffle(numbers)
+    return numbers
 
 
 def eraseblocks(kind, count):
     """The eraseblocks of an image, one after the other."""
     erased = b"\xFF" * (PEB - DATA)
-    for place, k in enumerate(places(kind, count)):
+    for place, k in enumerate(range(count) if kind in ("rising", "one") else mixed(count)):
         if kind in ("one", "one-mixed"):
             yield EC + dynamic_header(0, 0, k + 1) + erased
         elif kind in ("copies", "pairs"):

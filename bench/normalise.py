@@ -21,7 +21,7 @@ import sys
 import tempfile
 import time
 
-from image import IMAGE_SEQ, ROOT
+from image import IMAGE_SEQ, ROOT, mixed
 from rules import LAYOUT, Geometry, Record, Vid, crc, dynamic_header, put_block, put_ec, put_table, put_vid
 
 # Each kind of volume with its number in a record, and how many times as long as `cp` it may take.
@@ -29,6 +29,8 @@ KINDS = {"dynamic": (1, 2), "static": (2, 4)}
 PEB, PAGE, ROOM = 131072, 2048, 8
 GEOMETRY = Geometry(PEB, PAGE, PAGE, 2 * PAGE, 2**20)
 EC = put_ec(GEOMETRY, 7, IMAGE_SEQ)
+# The words that give these sizes.
+WORDS = ["--peb", str(PEB), "--page", str(PAGE)]
 
 
 def static_header(number, count, data):
@@ -49,9 +51,7 @@ def tables(kind, reserved):
 def eraseblocks(kind, count):
     """The eraseblocks of the image of a volume, dynamic or static, one after the other."""
     yield from tables(kind, count - 2)
-    numbers = list(range(count - 2))
-    random.Random(count).shuffle(numbers)
-    for number in numbers:
+    for number in mixed(count - 2, seed=count):
         data = random.Random(number).randbytes(GEOMETRY.leb)
         if kind == "static":
             yield eraseblock(static_header(number, count - 2, data), data)
@@ -134,10 +134,9 @@ def over_images(place, count, runs):
 
 def main():
     place, count, tool = options(__doc__, "--blocks", 1024)
-    sizes = ["--peb", str(PEB), "--page", str(PAGE)]
 
     def runs(path, out):
-        return {"cp": ["cp", path, out], "normalise": [tool, "normalise", path, "--out", out, *sizes]}
+        return {"cp": ["cp", path, out], "normalise": [tool, "normalise", path, "--out", out, *WORDS]}
 
     above = False
     for kind, ran in over_images(place, count, runs):

@@ -17,7 +17,7 @@ of `check` is more than that of `cat`.
 import subprocess
 import sys
 
-from normalise import PAGE, PEB, ROOM, options, over_images
+from normalise import ROOM, WORDS, options, over_images
 
 MOST = 1
 SMALL = ("geometry", "check", "list", "same", "diff", "extract", "unpack", "build")
@@ -30,12 +30,12 @@ image={}
 """
 
 
-def built(tool, path, sizes):
+def built(tool, path):
     """Writes the contents of the volume of an image, and a config of it, beside the image. Returns both paths."""
     content, config = f"{path}.content", f"{path}.ini"
-    extract = [tool, "extract", path, "--id", "0", "--out", content, *sizes]
+    extract = [tool, "extract", path, "--id", "0", "--out", content, *WORDS]
     subprocess.run(extract, check=True, stdout=subprocess.DEVNULL)
-    listed = subprocess.run([tool, "list", path, *sizes], check=True, capture_output=True, text=True).stdout
+    listed = subprocess.run([tool, "list", path, *WORDS], check=True, capture_output=True, text=True).stdout
     with open(config, "w", encoding="ascii") as file:
         file.write(CONFIG.format("static" if " static " in listed else "dynamic", content))
     return content, config
@@ -43,24 +43,23 @@ def built(tool, path, sizes):
 
 def main():
     place, count, tool = options(__doc__, "--blocks", 1024)
-    sizes = ["--peb", str(PEB), "--page", str(PAGE)]
 
     def runs(path, out):
-        content, config = built(tool, path, sizes)
+        content, config = built(tool, path)
         volumes = f"{path}.volumes"
         return {
             "cat": ["cat", path],
             "geometry": [tool, "geometry", path],
-            "check": [tool, "check", path, *sizes],
-            "list": [tool, "list", path, *sizes],
+            "check": [tool, "check", path, *WORDS],
+            "list": [tool, "list", path, *WORDS],
             "cat of two": ["cat", path, path],
-            "same": [tool, "same", path, path, *sizes],
-            "diff": [tool, "diff", path, path, *sizes],
+            "same": [tool, "same", path, path, *WORDS],
+            "diff": [tool, "diff", path, path, *WORDS],
             "cp": ["cp", path, out],
-            "extract": [tool, "extract", path, "--id", "0", "--out", out, *sizes],
-            "unpack": ["sh", "-c", f"rm -rf {volumes} && exec {tool} unpack {path} --out {volumes} {' '.join(sizes)}"],
+            "extract": [tool, "extract", path, "--id", "0", "--out", out, *WORDS],
+            "unpack": ["sh", "-c", f"rm -rf {volumes} && exec {tool} unpack {path} --out {volumes} {' '.join(WORDS)}"],
             "cp of contents": ["cp", content, out],
-            "build": [tool, "build", config, "--out", out, *sizes],
+            "build": [tool, "build", config, "--out", out, *WORDS],
         }
 
     above = False

@@ -39,6 +39,7 @@ FAKES = ROOT / 'check/gate/fakes'
 DATA = ROOT / 'crates/ubi_tool/data'
 sys.path.insert(0, str(ROOT / 'check/second'))
 import rules  # noqa: E402
+from fuzz import Failure, expect  # noqa: E402
 from rules import LAYOUT, Geometry, Record, Vid  # noqa: E402
 
 # The names of shells, and the words before those of the script. busybox has a dd of its own, which it prefers to the
@@ -77,15 +78,6 @@ HARMLESS = ('fail', 'skip', 'loud', 'status')
 # The plans that end after each step and whose writes go wrong: those of the first in each way, those of the others in
 # one.
 STEPPED = ('peb 8192 used mapped', 'peb 512 clean rename', 'spare change')
-
-
-class Failure(Exception):
-    """What was expected, and what happened."""
-
-
-def expect(is_right, what):
-    if not is_right:
-        raise Failure(what)
 
 
 # Images, and plans for them.

@@ -19,14 +19,12 @@ default), which is removed afterwards. Without --tool the program is built first
 each cause. The last line is 'N passed, M failed', and the exit status is 0 if none failed; a config that failed can be
 made again by its number.
 """
-import collections
 import os
-import re
 
 import config
 import rules
 import text_rules
-from fuzz import ROOT, SIZES, Failure, Runner, built, far, finish, given, options, run_cases
+from fuzz import ROOT, SIZES, Failure, Runner, built, cased, far, finish, given, options, print_causes, run_cases
 from rules import Geometry, Meaning, Refused
 
 SEQS = (0, 1, 0x12345678, 0xFFFFFFFF)
@@ -41,10 +39,6 @@ LINES = (
     "image=v0", "vol_id=0", "vol_name=a", "vol_size=1", "vol_type=static", "vol_flags=autoresize", "vol_alignment=1",
     "vol_ids=1", "MODE=ubi", "a=b=c", "x\\",
 )
-
-
-def cased(rng, word):
-    return "".join(rng.choice((c, c, c.upper())) for c in word)
 
 
 class Writer:
@@ -314,9 +308,7 @@ def main():
         "": (lambda rng, folder: Case(rng, tool, folder).look(), words.count),
         "hostile": (lambda rng, folder: Hostile(tool, folder).look() or "hostile", 1),
     })
-    causes = collections.Counter(re.sub(r"=\d+", "", answer) for answer in answers)
-    for cause, count in sorted(causes.items()):
-        print(f"{count:>6} {cause}")
+    print_causes(answers)
     finish(len(answers), failed)
 
 

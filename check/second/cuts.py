@@ -28,7 +28,7 @@ import struct
 import subprocess
 
 import rules
-from fuzz import Failure, built, either, finish, listing, options, run_cases
+from fuzz import built, either, expect, finish, listing, options, run_cases
 from rules import LAYOUT, counter_header, crc, dynamic_header, sealed
 
 PEBS = 32
@@ -189,11 +189,6 @@ class Device:
     def meant(self, cut):
         """What a cut means by the second reading of the format."""
         return rules.Image(self.geometry(), cut, lambda p: p in self.bad).meaning()
-
-
-def expect(is_right, what):
-    if not is_right:
-        raise Failure(what)
 
 
 def listed(device, names, lebs):

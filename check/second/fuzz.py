@@ -32,9 +32,11 @@ passed, M failed', and the exit status is 0 if none failed; an image that failed
 to --first.
 """
 import argparse
+import collections
 import dataclasses
 import os
 import random
+import re
 import shutil
 import struct
 import subprocess
@@ -74,6 +76,11 @@ NO_LISTS = (
 
 class Failure(Exception):
     """What was expected of the program, and what it did."""
+
+
+def expect(is_right, what):
+    if not is_right:
+        raise Failure(what)
 
 
 def built(tool=None):
@@ -154,6 +161,11 @@ def name_in(word):
         return name_of(word.encode())
     except Fault:
         return None
+
+
+def cased(rng, digits):
+    """The same with some letters in upper case."""
+    return "".join(rng.choice((digit, digit, digit.upper())) for digit in digits)
 
 
 def spelled(rng, name):
@@ -1025,6 +1037,13 @@ def options(usage, count, **others):
     words.add_argument("--dir", default="/tmp")
     words.add_argument("--tool", help="the program; the one that ./ubi_tool starts by default")
     return words.parse_args()
+
+
+def print_causes(answers):
+    """Prints how often each answer was given, counting those that differ in a number as one."""
+    causes = collections.Counter(re.sub(r"=\d+", "", answer) for answer in answers)
+    for cause, count in sorted(causes.items()):
+        print(f"{count:>6} {cause}")
 
 
 def finish(passed, failed):

@@ -16,12 +16,11 @@ default), which is removed afterwards. Without --tool the program is built first
 each cause. The last line is 'N passed, M failed', and the exit status is 0 if none failed; a text that failed can be
 made again by its number.
 """
-import collections
 import re
 
 import rules
 import text_rules
-from fuzz import Failure, Maker, Runner, built, far, finish, given, options, run_cases
+from fuzz import Failure, Maker, Runner, built, cased, far, finish, given, options, print_causes, run_cases
 from rules import Refused
 from text_rules import Described
 
@@ -36,10 +35,6 @@ OTHERS = (
 )
 SEQS = (0, 1, 0x12345678, 0xFFFFFFFF)
 IN_NAMES = ("\\", "\\x", "\\x4", "\\x4g", "\\X41", "\\x00", "\\x01", "\\xaF", "\\\\", "\\n", "~", "!")
-
-
-def cased(rng, digits):
-    return "".join(rng.choice((digit, digit, digit.upper())) for digit in digits)
 
 
 def shown(rng, name):
@@ -329,9 +324,7 @@ def main():
     words = options(__doc__, 500)
     tool = built(words.tool)
     answers, failed = run_cases(words, {"": (lambda rng, folder: Case(rng, tool, folder).look(), words.count)})
-    causes = collections.Counter(re.sub(r"=\d+", "", answer) for answer in answers)
-    for cause, count in sorted(causes.items()):
-        print(f"{count:>6} {cause}")
+    print_causes(answers)
     finish(len(answers), failed)
 
 
