@@ -105,7 +105,7 @@ KEYS = {
 
 
 def is_remark(text):
-    """Nothing, or what begins with # or ;."""
+    """Whether a text is empty, or a remark, which begins with # or ;."""
     return text[:1] in (b"", b"#", b";")
 
 

@@ -290,7 +290,7 @@ def loader_and_junk(rng, image):
 
 
 def at_any_64(rng, image):
-    """An image at a multiple of 64 that is none of 512."""
+    """An image at a multiple of 64 that isn't one of 512."""
     file = whole(*image(SIZES))
     before = junk(rng, 64 * (8 * rng.randrange(99) + rng.randrange(1, 8)))
     return file.between(before, junk(rng, rng.randrange(len(file.data) + 2)))

@@ -164,7 +164,7 @@ def name_in(word):
 
 
 def cased(rng, digits):
-    """The same with some letters in upper case."""
+    """Digits, some of them in upper case."""
     return "".join(rng.choice((digit, digit, digit.upper())) for digit in digits)
 
 

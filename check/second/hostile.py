@@ -12,7 +12,7 @@ as `ubinize` writes it. The families, all of which are run by default:
   lengths   each length from 0 on: refused S1 Length if it isn't a number of whole eraseblocks, otherwise the LEBs that
             are left
   faults    each rule of each header and record broken, with a right CRC, in every place where it can be
-  pairs     each two of these: the cause of the lower eraseblock comes first, and those of the table last
+  pairs     each pair of these: the cause of the lower eraseblock comes first, and those of the table last
   carriers  the image, a free eraseblock and an erased one, with each subset of them carrying the number: they mean the
             image, without the number if none carries it; and changes of each LEB and a rename, whose plans don't touch
             a sole carrier
@@ -183,7 +183,7 @@ def faults():
 
 
 def pairs():
-    """Each two faults in different headers, and not both in the table's records."""
+    """Each pair of faults in different headers, not both of them in the table's records."""
     for (rank, places, line), (other, others, other_line) in itertools.combinations(all_faults(), 2):
         if rank[0] < 5 and rank != other:
             _, first_line = min((rank, line), (other, other_line))

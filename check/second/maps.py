@@ -85,7 +85,7 @@ class Case:
         return rows("".join(state[0] for state in states)), 0
 
     def page_data(self):
-        """The data of the page, whose frame is that of each other page."""
+        """The data of the page, whose frame has to be that of every other page."""
         with open(self.page, encoding="ascii") as file:
             before, _, rest = file.read().partition(BEFORE)
         data, _, after = rest.partition(AFTER)

@@ -783,7 +783,7 @@ class Rename(Plan):
 
 
 def do(geometry, image, step):
-    """Does a step to the bytes of an image. A program must set no bit."""
+    """Carries out a step on the bytes of an image. A program must set no bit."""
     word, p, *program = step
     page, data = program if word == "program" else (0, b"\xFF" * geometry.peb)
     at = p * geometry.peb + page * geometry.page
