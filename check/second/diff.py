@@ -18,7 +18,7 @@ import dataclasses
 import fuzz
 import rules
 from fuzz import REAL_SIZES, Maker, Mutator, Runner, built, finish, options, run_cases
-from rules import Image, Refused
+from rules import Refused
 
 KINDS = {1: "dynamic", 2: "static"}
 
