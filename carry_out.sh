@@ -1,26 +1,28 @@
 #!/bin/sh
 # carry_out.sh [-c] [-d DUMP] [-s N] [-e N] DEVICE PLAN PAGES PEB PAGE
 #
-# Carries out a plan of `ubi_tool change` or `ubi_tool rename` on a NAND chip, one step after the other. Each is read back.
+# Carries out a plan of `ubi_tool change` or `ubi_tool rename` on a NAND chip, one step after the other. Each is read
+# back.
 #   DEVICE   the MTD character device, as /dev/mtd0; UBI must not have it attached
 #   PLAN     a file with the lines that `change` or `rename` printed
 #   PAGES    the file that it wrote with --pages: the bytes of the pages that the plan programs, in the plan's order
 #   PEB      the bytes of an eraseblock, and
 #   PAGE     those of a page: --peb and --page of the plan
-#   -d DUMP  the dump that the plan was made from (nanddump --bb=padbad). The chip has to hold it still. Give it always
+#   -d DUMP  the dump that the plan was made from (nanddump --bb=padbad). The chip must still hold it. Always give it
 #   -s N     begin with step N: an earlier run did those before it
 #   -e N     end after step N. PAGES may then be just the pages up to there
 #   -c       check, and write nothing
 #
-# Exit status: 0 done; 1 a step failed, or was interrupted: a line says which. Those before it are done, and nothing behind it
-# was tried; 2 nothing was written.
-# Needs mtdinfo, nanddump and flash_erase of mtd-utils. All else may be busybox's.
+# Exit status: 0 done; 1 a step failed, or was interrupted: a line says which. Those before it are done, and nothing
+# after it was tried; 2 nothing was written. Needs mtdinfo, nanddump and flash_erase of mtd-utils. All else may be
+# busybox's.
 
-# Pages are programmed with dd. nandwrite goes on in the next eraseblock where one is bad, or a program fails.
-# For tests: where CARRY_OUT_ROOT names a folder, its sys and proc are read in place of /sys and /proc, and DEVICE may be a file.
+# Pages are programmed with dd, since nandwrite goes on in the next eraseblock if one is bad or a program fails. For
+# tests: if CARRY_OUT_ROOT names a folder, its sys and proc are read in place of /sys and /proc, and DEVICE may be a
+# file.
 root=${CARRY_OUT_ROOT-}
 
-# Prints a line; to standard error where standard output can't be written, so that a full log doesn't end a plan.
+# Prints a line; to standard error if standard output can't be written, so that a full log doesn't end a plan.
 say() {
   printf '%s\n' "$*" 2> /dev/null || warn "$*"
   return 0
@@ -96,7 +98,7 @@ look_for_tools() {
   flash_erase --help 2>&1 | grep -q noskipbad || refuse "this flash_erase has no -N: take that of mtd-utils"
 }
 
-# Makes the files that are blank: an eraseblock, a page and a sub-page of bytes 0xFF.
+# Makes the blank files: an eraseblock, a page and a sub-page of 0xFF bytes.
 make_blanks() {
   for bytes in "$peb" "$page" "$sub"; do
     dd if=/dev/zero bs="$bytes" count=1 2> /dev/null | tr '\000' '\377' > "$tmp/blank.$bytes"
@@ -104,12 +106,12 @@ make_blanks() {
   done
 }
 
-# Sets `told` to what the kernel says of the device.
-tell() { # NAME
-  { IFS= read -r told < "$class/$1"; } 2> /dev/null || refuse "$class/$1 can't be read"
+# Sets `value` to what the kernel says about the device.
+attribute() { # NAME
+  { IFS= read -r value < "$class/$1"; } 2> /dev/null || refuse "$class/$1 can't be read"
 }
 
-# Looks at the device: it is of NAND flash that can be written, with these sizes.
+# Looks at the device: it must be NAND flash that can be written, with these sizes.
 look_at_device() {
   real=$(readlink -f -- "$device") || refuse "$device isn't there"
   name=${real##*/}
@@ -119,26 +121,26 @@ look_at_device() {
   "$name" | '' | *[!0-9]*) refuse "$device isn't named as /dev/mtd0" ;;
   esac
   class=$root/sys/class/mtd/$name
-  tell type
-  [ "$told" = nand ] || refuse "$device is of type $told, not nand"
-  tell flags
-  case ${told#0x} in
-  '' | *[!0-9a-fA-F]*) refuse "$class/flags says '$told'" ;;
+  attribute type
+  [ "$value" = nand ] || refuse "$device is of type $value, not nand"
+  attribute flags
+  case ${value#0x} in
+  '' | *[!0-9a-fA-F]*) refuse "$class/flags says '$value'" ;;
   esac
-  [ $((0x${told#0x} & 0x400)) -ne 0 ] || refuse "$device is read only"
-  tell erasesize
-  [ "$told" = "$peb" ] || refuse "an eraseblock of $device has $told bytes, not $peb"
-  tell writesize
-  [ "$told" = "$page" ] || refuse "a page of $device has $told bytes, not $page"
-  tell numeraseregions
-  [ "$told" = 0 ] || refuse "$device has eraseblocks of several sizes"
-  tell subpagesize
-  sub=$told
+  [ $((0x${value#0x} & 0x400)) -ne 0 ] || refuse "$device is read only"
+  attribute erasesize
+  [ "$value" = "$peb" ] || refuse "an eraseblock of $device has $value bytes, not $peb"
+  attribute writesize
+  [ "$value" = "$page" ] || refuse "a page of $device has $value bytes, not $page"
+  attribute numeraseregions
+  [ "$value" = 0 ] || refuse "$device has eraseblocks of several sizes"
+  attribute subpagesize
+  sub=$value
   number "$class/subpagesize" "$sub"
   [ "$sub" -gt 0 ] || refuse "a sub-page of $device has no bytes"
   [ $((page % sub)) -eq 0 ] || refuse "a page of $device isn't whole sub-pages of $sub"
-  tell size
-  size=$told
+  attribute size
+  size=$value
   case $size in
   '' | *[!0-9]* | 0*) refuse "$class/size says '$size'" ;;
   esac
@@ -159,8 +161,8 @@ attached() {
 look_at_users() {
   ! attached || refuse "UBI has $device attached ($ubi): ubidetach -p $device"
   [ -r "$root/proc/mounts" ] || refuse "$root/proc/mounts can't be read"
-  tell name
-  label=$(printf '%s\n' "$told" | sed 's/ /\\040/g')
+  attribute name
+  label=$(printf '%s\n' "$value" | sed 's/ /\\040/g')
   while read -r source _; do
     case $source in
     "/dev/mtdblock${name#mtd}" | "$name" | "mtd:$label") refuse "$device is mounted" ;;
@@ -168,9 +170,9 @@ look_at_users() {
   done < "$root/proc/mounts"
 }
 
-# Makes $tmp/steps of the plan. A line is a step: its number, its word, the eraseblock, the page, which of PAGES that is, counted
-# from 0, and what the page holds before, as far as the steps from the first on say it: `chip`, what it holds now; `blank`, since
-# one of them erases it; or which of PAGES one of them has programmed.
+# Makes $tmp/steps from the plan. Each line is a step: its number, its word, the eraseblock, the page, which of PAGES it
+# programs, counted from 0, and what the page holds before it, going by the steps from the first on: `chip`, what it
+# holds now; `blank`, since one of them erases it; or which of PAGES one of them has programmed.
 read_plan() {
   file "$plan"
   cat < "$plan" > "$tmp/plan" || refuse "$plan can't be read"
@@ -217,10 +219,10 @@ read_plan() {
   [ "$first" -le $((steps + 1)) ] || refuse "-s $first: the plan has $steps steps"
   [ "$last" -ge 1 ] || refuse "-e $last: steps are counted from 1"
   [ "$last" -le "$steps" ] || refuse "-e $last: the plan has $steps steps"
-  [ "$first" -le $((last + 1)) ] || refuse "-s $first is behind -e $last"
+  [ "$first" -le $((last + 1)) ] || refuse "-s $first is after -e $last"
 }
 
-# Takes the bytes of the pages, into $tmp/pages, and sets `have` to how many they are.
+# Copies the bytes of the pages to $tmp/pages, and sets `have` to the number of pages.
 read_pages() {
   file "$pages"
   all=$(grep -c ' program ' "$tmp/steps")
@@ -240,9 +242,10 @@ touched_by() { # N
   head -n "$1" "$tmp/steps" | cut -d ' ' -f 3 | sort -nu
 }
 
-# Makes $tmp/marks, the eraseblocks that are bad or locked: lines of a number and BAD or RO. Refuses a plan that names one.
+# Makes $tmp/marks, the eraseblocks that are bad or locked: lines of a number and BAD or RO. Refuses a plan that names
+# one.
 look_at_marks() {
-  # Its status is 0 though it can't tell which eraseblocks are bad.
+  # Its status is 0 even if it can't find out which eraseblocks are bad.
   mtdinfo -M "$real" > "$tmp/map" 2> "$tmp/said" || refuse "mtdinfo -M $device failed: $(head -n 1 "$tmp/said")"
   [ ! -s "$tmp/said" ] || refuse "mtdinfo -M $device: $(head -n 1 "$tmp/said")"
   [ "$(head -n 1 "$tmp/map")" = "$name" ] || refuse "$device isn't $name, says mtdinfo"
@@ -259,7 +262,8 @@ look_at_marks() {
   done 3< "$tmp/touched"
 }
 
-# Reads bytes of the chip into a file. Fails where they aren't read whole, and for all that is said but bits that ECC corrected.
+# Reads bytes of the chip into a file. Fails if they aren't read whole, and on every message except those about bits
+# that ECC corrected.
 get() { # FILE OFFSET LENGTH
   : > "$1"
   : > "$tmp/fault"
@@ -276,17 +280,18 @@ reason() {
 get_block() { get "$1" $(($2 * peb)) "$peb"; } # FILE P
 get_page() { get "$1" $(($2 * peb + $3 * page)) "$page"; } # FILE P K
 
-# Takes one piece out of a file: a sub-page of a page, a page of PAGES, or an eraseblock of the dump.
+# Copies one piece out of a file: a sub-page of a page, a page of PAGES, or an eraseblock of the dump.
 piece() { # FILE FROM BYTES WHICH
   dd if="$2" of="$1" bs="$3" skip="$4" count=1 2> /dev/null
 }
 
-# Whether two files hold the same bytes, and whether one of so many bytes is blank. A file that isn't there never does.
+# Whether two files hold the same bytes, and whether a file of so many bytes is blank. Both are false for a file that
+# isn't there.
 same() { cmp -s "$1" "$2"; } # FILE FILE
 blank() { cmp -s "$1" "$tmp/blank.$2"; } # FILE BYTES
 
-# Whether a page can become another one by programs, that is, whether it is blank. With sub-pages, page 0 is programmed by those
-# alone that change, as UBI does it, and they have to be blank; `parts` is set to their numbers then.
+# Whether a page can become another one by programs, that is, whether it is blank. With sub-pages, only the sub-pages of
+# page 0 that change are programmed, as UBI does it, and those must be blank; `parts` is set to their numbers then.
 fits() { # OLD NEW K
   parts=''
   if [ "$3" -gt 0 ] || [ "$sub" -eq "$page" ]; then
@@ -305,7 +310,7 @@ fits() { # OLD NEW K
   done
 }
 
-# Whether some eraseblocks of the chip are those of the dump.
+# Whether some eraseblocks of the chip hold what the dump holds there.
 holds() { # P COUNT
   { nanddump -q --bb=dumpbad -s $(($1 * peb)) -l $(($2 * peb)) "$real" 2> "$tmp/said" || echo "nanddump failed" >> "$tmp/said"; } |
     sha256sum > "$tmp/held"
@@ -315,7 +320,7 @@ holds() { # P COUNT
   [ -s "$tmp/held" ] && same "$tmp/held" "$tmp/dumped"
 }
 
-# Compares the chip with the dump, but for eraseblocks that are bad, and those that steps up to the first have touched.
+# Compares the chip with the dump, except for bad eraseblocks and those that steps up to the first have touched.
 look_at_dump() {
   file "$dump"
   length=$(size_of "$dump")
@@ -339,7 +344,7 @@ look_at_dump() {
   done 3< "$tmp/runs"
 }
 
-# Makes $tmp/want, an eraseblock as it is once the steps before the first are done. Without a dump, what they don't set is taken
+# Makes $tmp/want, an eraseblock as it is after the steps before the first. Without a dump, what they don't set is taken
 # from the chip.
 want() ( # P
   if [ -n "$dump" ]; then piece "$tmp/want" "$dump" "$peb" "$1"; else cp "$tmp/here" "$tmp/want"; fi || refuse "$tmp can't be written"
@@ -354,8 +359,8 @@ want() ( # P
   done 4< "$tmp/steps"
 )
 
-# Whether a page of $tmp/here is that of $tmp/want, but that some of its sub-pages, or all of them, are those of one of PAGES.
-# Gives it to $tmp/want then.
+# Whether each sub-page of a page of $tmp/here is that of $tmp/want, or that of one of PAGES. Copies the page to
+# $tmp/want then.
 begun() { # K AT
   part=0
   while [ "$part" -lt $((page / sub)) ]; do
@@ -368,7 +373,8 @@ begun() { # K AT
   dd if="$tmp/here" of="$tmp/want" bs="$page" skip="$1" seek="$1" count=1 conv=notrunc 2> /dev/null
 }
 
-# Looks at the eraseblocks that steps up to the first touch: those before it are done. It itself may be done, or begun, or not.
+# Looks at the eraseblocks that steps up to the first touch: the steps before it must be done. It itself may be done,
+# begun, or neither.
 look_at_done() {
   read -r n word own k at _ << LINE
 $(sed -n "${first}p" "$tmp/steps")
@@ -390,7 +396,7 @@ LINE
   done 3< "$tmp/touched"
 }
 
-# Whether $tmp/new would be a second program of page 0, with the same header, where there are no sub-pages.
+# Whether $tmp/new would program page 0 a second time, with the same header, on a chip without sub-pages.
 twice() { # K
   [ "$1" -eq 0 ] && [ "$sub" -eq "$page" ] || return 1
   piece "$tmp/old.sub" "$tmp/here" 64 0
@@ -398,7 +404,7 @@ twice() { # K
   same "$tmp/old.sub" "$tmp/new.sub"
 }
 
-# Looks at the pages that are to be programmed, as each is by then.
+# Looks at each page that is to be programmed, as it will be at that step.
 look_at_rest() {
   while read -r n word p k at before <&3; do
     [ "$n" -ge "$first" ] || continue
@@ -418,7 +424,7 @@ look_at_rest() {
   done 3< "$tmp/steps"
 }
 
-# Refuses a plan that has been begun: the page that it programs first has bytes of the plan.
+# Refuses a plan that has been begun: the page that it programs first holds bytes of the plan.
 look_at_begun() {
   [ "$first" -eq 1 ] || return 0
   place=''
@@ -438,13 +444,13 @@ look_at_begun() {
 
 # Ends with status 1: the step that is carried out has failed.
 fail() {
-  warn "step $n of $steps ($what) failed: $*. Steps done: $((n - 1)); nothing behind them was tried"
+  warn "step $n of $steps ($what) failed: $*. Steps done: $((n - 1)); nothing after it was tried"
   exit 1
 }
 
 # Erases an eraseblock.
 erase() { # P
-  # Its status is 0 though the erase fails, or the eraseblock is left out.
+  # Its status is 0 even if the erase fails, or the eraseblock is skipped.
   flash_erase -q -N "$real" $(($1 * peb)) 1 > "$tmp/did" 2>&1 || fail "flash_erase ended with status $?"
   [ ! -s "$tmp/did" ] || fail "$(head -n 1 "$tmp/did")"
   get_block "$tmp/here" "$1" || fail "it can't be read back: $(reason)"
@@ -452,12 +458,13 @@ erase() { # P
   how=erased
 }
 
-# Writes a file to the chip, which is one page or sub-page.
+# Writes a file of one page or sub-page to the chip.
 put() { # FILE BYTES WHICH
   dd if="$1" of="$real" bs="$2" seek="$3" count=1 conv=notrunc 2> "$tmp/did" || fail "$(head -n 1 "$tmp/did")"
 }
 
-# Programs a page with one of PAGES. One that has its bytes isn't programmed: where those are all 0xFF, it would get ECC bytes.
+# Programs a page with one of PAGES. A page that has its bytes already isn't programmed: if those are all 0xFF, it would
+# get ECC bytes.
 program() { # P K AT
   piece "$tmp/new" "$tmp/pages" "$page" "$3" || fail "$tmp can't be written"
   get_page "$tmp/here" "$1" "$2" || fail "the page can't be read: $(reason)"
@@ -476,7 +483,7 @@ program() { # P K AT
   same "$tmp/here" "$tmp/new" || fail "it reads other bytes afterwards"
 }
 
-# Carries one step out, in a shell of its own, which no signal interrupts.
+# Carries out one step, in a shell of its own, which no signal interrupts.
 step() { # WORD P K AT
   trap '' HUP INT QUIT TERM
   ! attached || fail "UBI has $device attached by now"
@@ -484,7 +491,7 @@ step() { # WORD P K AT
   say "step $n: $what: $how"
 }
 
-# Carries the steps out.
+# Carries out the steps.
 carry_out() {
   interrupted=''
   trap 'interrupted=yes' HUP INT QUIT TERM
@@ -492,7 +499,7 @@ carry_out() {
     [ "$n" -ge "$first" ] || continue
     [ "$n" -le "$last" ] || break
     if [ -n "$interrupted" ]; then
-      warn "interrupted before step $n of $steps. Steps done: $((n - 1)); nothing behind them was tried"
+      warn "interrupted before step $n of $steps. Steps done: $((n - 1)); nothing after them was tried"
       exit 1
     fi
     what="$word block=$p"
@@ -505,7 +512,7 @@ carry_out() {
   if [ "$last" -lt "$steps" ]; then say "ended after step $last of $steps"; else say "done: $steps steps"; fi
 }
 
-# No file that is opened later takes the number of a closed input or output.
+# Keeps files that are opened later from taking the number of a closed input or output.
 (exec 3<&0) 2> /dev/null || exec < /dev/null
 (exec 3>&1) 2> /dev/null || exec > /dev/null
 (exec 3>&2) || exec 2> /dev/null

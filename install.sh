@@ -1,18 +1,19 @@
 #!/bin/sh
 # install.sh [--tool PROGRAM] PREFIX
 #
-# Puts ubi_tool below PREFIX, as /usr/local. It runs in a tree that is built, and in an unpacked release archive.
-#   PREFIX          an absolute path. Where DESTDIR is set in the environment, the files go to $DESTDIR$PREFIX
+# Installs ubi_tool below PREFIX, such as /usr/local. It runs in a built tree and in an unpacked release archive.
+#   PREFIX          an absolute path. If DESTDIR is set in the environment, the files go to $DESTDIR$PREFIX
 #   --tool PROGRAM  install PROGRAM in place of the program that ./ubi_tool has built
 #
+# It installs
 #   bin/ubi_tool, bin/ubi_tool-carry-out (carry_out.sh)
 #   share/man/man1/ubi_tool.1
 #   share/bash-completion/completions/ubi_tool, share/zsh/site-functions/_ubi_tool
-#   share/doc/ubi_tool/: README.md, CHANGELOG.md, docs/, and VERSION, which names the commit
-#   if c/build.sh has made the library: lib/libubi.a, lib/libubi.so, include/ubi.h, share/ubi_tool/ubi.py for Python, and
-#   share/doc/ubi_tool/examples/
+#   share/doc/ubi_tool/: README.md, CHANGELOG.md, docs/, and VERSION, which says the commit
+#   if c/build.sh has made the library: lib/libubi.a, lib/libubi.so, include/ubi.h, share/ubi_tool/ubi.py for Python,
+#   and share/doc/ubi_tool/examples/
 #
-# A file that is there is replaced. Exit status: 0 done; 1 refused, or a file can't be written; 2 bad arguments.
+# A file that exists is replaced. Exit status: 0 done; 1 refused, or a file can't be written; 2 bad arguments.
 
 set -u
 umask 022
@@ -23,7 +24,7 @@ usage() {
     sed -n '2,/^$/s/^# \{0,1\}//p' "$0"
 }
 
-# Ends with status 1. Each file is written aside and renamed, so that none is left half written.
+# Ends with status 1. Each file is written under another name and renamed, so that none is left half written.
 refuse() {
     echo "install.sh: $*" >&2
     exit 1
@@ -56,7 +57,7 @@ done
 [ -n "$prefix" ] || wrong "there is no PREFIX"
 to=${DESTDIR-}${prefix%/}
 
-# Which files are installed: those of a tree, or those of an archive, which has the program in the place of the launcher.
+# Which files are installed: those of a tree, or those of an archive, which has the program in place of the launcher.
 if [ -f "$here/VERSION" ]; then
     program=$here/ubi_tool
     library=$here/lib header=$here/include/ubi.h module=$here/share/ubi_tool/ubi.py examples=$here/examples
@@ -79,7 +80,7 @@ case $version in
     *) refuse "$program doesn't say which version of ubi_tool it is" ;;
 esac
 
-# Prints which version the program has and which commit the tree: the program itself can't name its commit.
+# Prints the version of the program and the commit of the tree: the program itself doesn't know its commit.
 version_lines() {
     if [ -f "$here/VERSION" ]; then
         cat "$here/VERSION"
@@ -98,8 +99,9 @@ version_lines() {
 # Copies a file to a place below the prefix.
 put() { # MODE FROM PLACE
     [ ! -d "$to/$3" ] || refuse "$to/$3 is a directory"
-    mkdir -p "$(dirname "$to/$3")" && cp "$2" "$to/$3.new.$$" && chmod "$1" "$to/$3.new.$$" && mv -f "$to/$3.new.$$" "$to/$3" || {
-        rm -f "$to/$3.new.$$"
+    new=$to/$3.new.$$
+    mkdir -p "$(dirname "$to/$3")" && cp "$2" "$new" && chmod "$1" "$new" && mv -f "$new" "$to/$3" || {
+        rm -f "$new"
         refuse "$to/$3 can't be written"
     }
 }
@@ -124,7 +126,7 @@ if [ -f "$library/libubi.a" ] && [ -f "$library/libubi.so" ] && [ -f "$header" ]
         put 644 "$example" "share/doc/ubi_tool/examples/${example##*/}"
     done
 fi
-# VERSION comes last: where it is, everything is.
+# VERSION comes last: if it is there, everything is.
 lines=$(mktemp) || refuse "there is no room for a temporary file"
 trap 'rm -f "$lines"' EXIT
 version_lines >"$lines"

@@ -1,12 +1,13 @@
 #!/bin/sh
 # release.sh [--tool PROGRAM] [FOLDER]
 #
-# Packs ubi_tool-VERSION-linux-x86_64.tar.gz into FOLDER (out/ of the repository where it is left out), from a tree that is built.
+# Packs ubi_tool-VERSION-linux-x86_64.tar.gz into FOLDER (by default out/ of the repository), from a tree that is built.
 #   --tool PROGRAM  pack PROGRAM in place of the program that ./ubi_tool has built
 #
-# The archive holds the program, carry_out.sh, install.sh, the documents, the manual page, the completions, the library with its header,
-# its Python module and its examples if c/build.sh has made it, a note on the licence, VERSION with the commit, and SHA256SUMS of all other files. The same commit and the
-# same built files give the same archive, byte for byte: names are sorted, times are the commit's, owners are numbers.
+# The archive holds the program, carry_out.sh, install.sh, the documents, the manual page, the completions, the library
+# with its header, its Python module and its examples if c/build.sh has made it, a note on the licence, VERSION with the
+# commit, and SHA256SUMS of all other files. The same commit and the same built files give the same archive, byte for
+# byte: names are sorted, times are the commit's, owners are numbers.
 # Needs GNU tar, gzip, git and sha256sum. Exit status: 0 done; 1 refused; 2 bad arguments.
 
 set -eu
@@ -32,7 +33,7 @@ room=$(mktemp -d)
 trap 'rm -rf "$room"' EXIT
 umask 022
 
-# install.sh looks whether all is there, and says which version and which commit it is.
+# install.sh checks that everything is there, and writes the version and the commit.
 DESTDIR=$room/installed "$top/install.sh" ${tool:+--tool "$tool"} /usr >/dev/null
 usr=$room/installed/usr
 version=$(sed -n 's/^ubi_tool //p' "$usr/share/doc/ubi_tool/VERSION")
@@ -61,6 +62,7 @@ mv "$room/SHA256SUMS" "$made/SHA256SUMS"
 find "$made" -type d -exec chmod 755 {} +
 
 mkdir -p "$folder"
-tar -C "$room" --sort=name --format=ustar --mtime="@$time" --owner=0 --group=0 --numeric-owner -cf - "$name" | gzip -n -9 >"$room/archive"
+tar -C "$room" --sort=name --format=ustar --mtime="@$time" --owner=0 --group=0 --numeric-owner -cf - "$name" |
+    gzip -n -9 >"$room/archive"
 mv "$room/archive" "$folder/$name.tar.gz"
 (cd "$folder" && sha256sum "$name.tar.gz")

@@ -1,15 +1,17 @@
 #!/usr/bin/env python3
-"""Measures the calls for C over an image in memory against the program's commands over the same file.
+"""Measures the calls for C on an image in memory against the program's commands on the same file.
 
 usage: calls.py [--dir FOLDER] [--blocks N] [--tool PROGRAM]
 
-The images are those of normalise.py, N eraseblocks (1,024, which is 128 MiB) of 128 KiB, of one dynamic or static volume, and for plans that
-of editing.py. They lie in a new folder below FOLDER (/tmp where it is left out), which is removed again. Without --tool the program is built first where it isn't yet. What
-c/build.sh has made is looked for in c/out. Each call has as much room as its answer needs, but one, which has none and so counts what the
-normal image has.
+The images are those of normalise.py, N eraseblocks (1,024, which is 128 MiB) of 128 KiB, of one dynamic or static
+volume, and for plans that of editing.py. They lie in a new folder below FOLDER (/tmp by default), which is removed
+afterwards. Without --tool the program is built first, unless it is built already. The library is the one that
+c/build.sh has put into c/out. Each call has as much room as its answer needs, except one, which has no room and so only
+counts the bytes of the normal image.
 
-It prints the seconds that pass in each call, and those of the command, which also starts, and reads and writes files: the least of five. It ends with
-status 1 where a call takes longer than its command. That without room is measured against `normalise`, and `map` against `check`.
+It prints the elapsed seconds of each call, and those of the command, which also starts, and reads and writes files: the
+least of five. It ends with status 1 if a call takes longer than its command. The call without room is measured against
+`normalise`, and `map` against `check`.
 """
 import os
 import subprocess
@@ -18,14 +20,11 @@ import tempfile
 import time
 
 from editing import put_files
-from normalise import KINDS, PAGE, PEB, options, put_image
+from image import ROOT
+from normalise import GEOMETRY, KINDS, PEB, WORDS, options, put_image
+from c_calls import Caller, sizes_of  # image.py has put check/second on the path
 
-ROOT = os.path.dirname(os.path.dirname(os.path.abspath(__file__)))
-sys.path.insert(0, f"{ROOT}/check/second")
-from c_calls import Caller  # noqa: E402
-
-SIZES = (PEB, PAGE, PAGE, 2 * PAGE, 1048576)
-WORDS = ["--peb", str(PEB), "--page", str(PAGE)]
+SIZES = sizes_of(GEOMETRY)
 
 
 def least(run):
@@ -34,7 +33,7 @@ def least(run):
 
 
 def command(tool, words, out):
-    """The seconds that a command takes, into a new file where it writes one."""
+    """The seconds that a command takes; if it writes a file, it writes a new one."""
     if os.path.exists(out):
         os.remove(out)
     start = time.monotonic()
@@ -43,7 +42,7 @@ def command(tool, words, out):
 
 
 def call(caller, name, room, paths, numbers):
-    """The seconds that a call takes, with so much room beyond what its answer has, or with none."""
+    """The seconds that a call takes, with so much room for its answer and its pages."""
     status, *_ = caller.call(name, SIZES, room, room, paths, numbers)
     if status != 0:
         sys.exit(f"ubi_{name} ended with {status}")
@@ -51,7 +50,7 @@ def call(caller, name, room, paths, numbers):
 
 
 def runs_of(path, out, room):
-    """Of each call over an image its name, the room that it has, its files and numbers, and the words of the command."""
+    """The calls on an image: the name of each, its room, its files and numbers, and the words of the command."""
     one, two, sized = [path], [path, path], [path, *WORDS]
     return {
         "geometry": ("geometry", 4096, one, [], ["geometry", path]),
@@ -68,15 +67,16 @@ def runs_of(path, out, room):
 
 
 def plans_of(path, new, name, out):
-    """The same of plans."""
+    """The calls for plans, likewise."""
+    common = [path, *WORDS, "--out", out, "--id", "0"]
     return {
-        "change": ("change", 4 * PEB, [path, new], [0, 0], ["change", path, *WORDS, "--id", "0", "--lnum", "0", "--from", new, "--out", out]),
-        "rename": ("rename", 4 * PEB, [path, name], [0], ["rename", path, *WORDS, "--id", "0", "--name", "other", "--out", out]),
+        "change": ("change", 4 * PEB, [path, new], [0, 0], ["change", *common, "--lnum", "0", "--from", new]),
+        "rename": ("rename", 4 * PEB, [path, name], [0], ["rename", *common, "--name", "other"]),
     }
 
 
 def measure(caller, tool, kind, runs, out):
-    """Prints what each run takes. Gives whether a call takes longer than its command."""
+    """Prints what each run takes. Returns whether a call takes longer than its command."""
     above = False
     for name, (what, room, paths, numbers, words) in runs.items():
         here = least(lambda: call(caller, what, room, paths, numbers))

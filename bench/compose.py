@@ -3,12 +3,13 @@
 
 usage: compose.py [--dir FOLDER] [--mib N] [--tool PROGRAM]
 
-The text has N MiB (64) of `leb` lines, once with whole LEBs of 126,976 bytes and once with LEBs of 384 bytes, each full of
-random bytes, in an order that looks random, after the line of their one dynamic volume. It lies in a new folder below FOLDER
-(/tmp where it is left out), which is removed again. Without --tool the program is built first where it isn't yet.
+The text has N MiB (64) of `leb` lines, once with whole LEBs of 126,976 bytes and once with LEBs of 384 bytes, each full
+of random bytes, in an order that looks random, after the line of their one dynamic volume. It lies in a new folder
+below FOLDER (/tmp by default), which is removed afterwards. Without --tool the program is built first, unless it is
+built already.
 
-It prints the seconds of each, as they pass and of the processor (user and system), the least of five runs, each into a new
-file, and ends with status 1 where `compose` takes more than six times as long as `cat` by either.
+It prints the seconds of each, elapsed and of the processor (user and system), the least of five runs, each into a new
+file, and ends with status 1 if `compose` takes more than six times as long as `cat` by either.
 """
 import os
 import random
@@ -16,6 +17,7 @@ import shutil
 import sys
 import tempfile
 
+from image import mixed
 from normalise import measure, options
 
 MOST = 6
@@ -27,9 +29,7 @@ def text(peb, page, size):
     leb = peb - 2 * page
     count = size // (2 * leb + 12) + 1
     yield f"volume 0 dynamic {count} 1 00 root\n"
-    numbers = list(range(count))
-    random.Random(count).shuffle(numbers)
-    for number in numbers:
+    for number in mixed(count):
         yield f"leb 0 {number} {random.Random(number).randbytes(leb).hex()}\n"
 
 
@@ -37,7 +37,7 @@ def main():
     place, mib, tool = options(__doc__, "--mib", 64)
     folder = tempfile.mkdtemp(dir=place)
     worst = 0
-    print(f"{'text':<38}  passed   of the processor")
+    print(f"{'text':<38} elapsed   of the processor")
     try:
         for peb, page in SHAPES:
             path, out = os.path.join(folder, "in.txt"), os.path.join(folder, "out.img")

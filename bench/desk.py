@@ -1,18 +1,22 @@
 #!/usr/bin/env python3
-"""Measures commands of files of which no number is typed, and of dumps with out-of-band bytes.
+"""Measures commands that are given no numbers, and commands on dumps with out-of-band bytes.
 
 usage: desk.py [--dir FOLDER] [--blocks N] [--tool PROGRAM]
 
-The image is the dynamic one of normalise.py: N eraseblocks (8,192, which is 1 GiB) of 128 KiB with pages of 2 KiB. Measured are:
-  plain   `geometry` and `list` of it, without a number, against `cat`
-  around  `geometry` of a file as large, of which one half is such an image, and a quarter before and one behind it random bytes, against `cat`
-  oob     `check` and `normalise` of it with 64 out-of-band bytes behind each page, by --oob, against the same of it without them
+The image is the dynamic one of normalise.py: N eraseblocks (8,192, which is 1 GiB) of 128 KiB with pages of 2 KiB. It
+measures:
+  plain   `geometry` and `list` of the image, without a number, against `cat`
+  around  `geometry` of a file of that size, half of which is such an image, with random bytes before and after it,
+          against `cat`
+  oob     `check` and `normalise` of the image with 64 out-of-band bytes after each page, by --oob, against the same
+          without them
   sparse  `geometry` of a sparse file of 5 GiB with an image of nine eraseblocks at 3 GiB, in seconds
-They lie in a new folder below FOLDER (/tmp where it is left out), which is removed again; some 4 GiB have to be free there for 8,192 eraseblocks.
-Without --tool the program is built first where it isn't yet.
+The files lie in a new folder below FOLDER (/tmp by default), which is removed afterwards; for 8,192 eraseblocks it
+needs some 4 GiB there. Without --tool the program is built first, unless it is built already.
 
-It prints a table: how many times as long each takes as what it is measured against, by the seconds that pass, the least of five runs of a file that was
-read before; and the peak of memory, which needs GNU time. It ends with status 1 where one is above its target, or takes more than 16 MiB.
+It prints a table: how many times as long each takes as what it is measured against, in elapsed seconds, the least of
+five runs on a file that was read before; and the peak of memory, which needs GNU time. It ends with status 1 if one is
+above its target, or takes more than 16 MiB.
 """
 import os
 import random
@@ -20,13 +24,12 @@ import shutil
 import sys
 import tempfile
 
-from normalise import PAGE, PEB, eraseblocks, measure, options
+from normalise import PAGE, PEB, WORDS, eraseblocks, measure, options
 
 MIB, GIB = 2**20, 2**30
 OOB, ROOM = 64, 16
-SIZES = ["--peb", str(PEB), "--page", str(PAGE)]
 SPARSE_SIZE, SPARSE_PLACE, SPARSE_BLOCKS = 5 * GIB, 3 * GIB, 9
-# Of each measurement the most times as long as what it is measured against; of the last one the most seconds.
+# The greatest ratio of each measurement to what it is measured against; for the last one the most seconds.
 TARGETS = {
     "`geometry`, plain": 0.2,
     "`list` without a number, plain": 0.3,
@@ -51,14 +54,15 @@ def noise(seed, size):
 
 
 def around(count):
-    """An image of half of the eraseblocks, with random bytes before and behind it, which are a quarter each."""
+    """An image of half of the eraseblocks, with random bytes before and after it, a quarter each."""
     yield from noise(1, count // 4 * PEB)
     yield from eraseblocks("dynamic", count // 2)
     yield from noise(2, count // 4 * PEB)
 
 
 def with_more(count):
-    """An image with out-of-band bytes behind each page: a code behind one that holds anything, 0xFF behind others."""
+    """An image with out-of-band bytes after each page: a code after a page that holds something, 0xFF after a blank
+    one."""
     blank = b"\xFF" * PAGE
     code, none = b"\xFF" * (OOB - 24) + bytes(range(24)), b"\xFF" * OOB
     for block in eraseblocks("dynamic", count):
@@ -75,14 +79,15 @@ def put_sparse(path):
 
 
 class Measured:
-    """What was measured, as it is printed, and whether anything is above its target."""
+    """Prints what was measured, and notes whether anything is above its target."""
 
     def __init__(self):
         self.is_above = False
-        print("| what | against | times as long | target | seconds | MiB at the peak |\n|---|---|---|---|---|---|", flush=True)
+        print("| what | against | times as long | target | seconds | MiB at the peak |")
+        print("|---|---|---|---|---|---|", flush=True)
 
     def add(self, what, against, seconds, run):
-        """A run, and of what it is measured against the seconds that this takes."""
+        """Adds a run, with what it is measured against and the seconds that this takes."""
         passed, _, most = run
         times, target = passed / seconds, TARGETS[what]
         self.is_above |= times > target or most > ROOM
@@ -100,12 +105,13 @@ def main():
         cat = measure(["cat", path], out)[0]
         measured.add("`geometry`, plain", "`cat`", cat, measure([tool, "geometry", path], out))
         measured.add("`list` without a number, plain", "`cat`", cat, measure([tool, "list", path], out))
-        check = measure([tool, "check", path, *SIZES], out)[0]
-        normalise = measure([tool, "normalise", path, "--out", out, *SIZES], out)[0]
+        check = measure([tool, "check", path, *WORDS], out)[0]
+        normalise = measure([tool, "normalise", path, "--out", out, *WORDS], out)[0]
         put(path, with_more(count))
-        more = [*SIZES, "--oob", str(OOB)]
+        more = [*WORDS, "--oob", str(OOB)]
         measured.add(f"`check --oob {OOB}`", "`check` without", check, measure([tool, "check", path, *more], out))
-        measured.add(f"`normalise --oob {OOB}`", "`normalise` without", normalise, measure([tool, "normalise", path, "--out", out, *more], out))
+        run = measure([tool, "normalise", path, "--out", out, *more], out)
+        measured.add(f"`normalise --oob {OOB}`", "`normalise` without", normalise, run)
         put(path, around(count))
         cat = measure(["cat", path], out)[0]
         measured.add("`geometry`, random bytes around", "`cat`", cat, measure([tool, "geometry", path], out))

@@ -1,21 +1,21 @@
 #!/usr/bin/env python3
-"""Measures the scan: its memory and its time, over images that image.py makes.
+"""Measures the memory and the time of the scan, with images that image.py makes.
 
 usage: scan.py [--dir FOLDER] [--quick] [PROGRAM WORD ..]
 
-Without PROGRAM it measures `ubi_tool check` (built first where it isn't yet). The images have no table of volumes,
-so all that is done is to read them, to scan them and to refuse them. With PROGRAM it measures that one, called with
-the words; the word IMAGE stands for the image's path. Images are made in a new folder below FOLDER (/tmp where it is
-left out), up to 512 MiB each, and removed again. --quick leaves out the images of 1,048,576 eraseblocks.
+Without PROGRAM it measures `ubi_tool check`, which is built first, unless it is built already. The images have no table
+of volumes, so the program only reads, scans and refuses them. With PROGRAM it measures that program, called with the
+words; the word IMAGE stands for the image's path. Images are made in a new folder below FOLDER (/tmp by default), up to
+512 MiB each, and removed afterwards. --quick leaves out the images of 1,048,576 eraseblocks.
 
-It prints a table, and ends with status 1 where a figure is above one of these limits:
-  memory   at most 128 bytes an eraseblock, at the peak
-  cksum    262,144 eraseblocks in at most six times the time of `cksum` over the same file, in the same run; where all
-           data are copies that meet another, in at most twenty times, since each is read apart then
-  growth   from a quarter of the eraseblocks on, time grows as n log n does, and by half as much again at most: memory is
-           slower where a processor's caches don't hold it
-Times are processor times (user and system), the least of three runs, so that other work on the machine counts little.
-Memory is the peak less that of a run over one eraseblock. It needs GNU time.
+It prints a table, and ends with status 1 if a figure is above one of these limits:
+  memory   at most 128 bytes per eraseblock, at the peak
+  cksum    262,144 eraseblocks in at most six times the time of `cksum` on the same file, in the same run; if all data
+           are copies with a second member of their LEB, in at most twenty times, since each is read separately then
+  growth   from a quarter of the eraseblocks on, time grows like n log n, and at most half as much again: memory is
+           slower when a processor's caches don't hold it
+Times are processor times (user and system), the least of three runs, so other work on the machine counts little.
+Memory is the peak minus that of a run on one eraseblock. It needs GNU time.
 """
 import math
 import os
@@ -25,9 +25,8 @@ import sys
 import tempfile
 
 import image
+from image import ROOT
 
-HERE = os.path.dirname(os.path.abspath(__file__))
-ROOT = os.path.dirname(HERE)
 TIME = "/usr/bin/time"
 # As ./ubi_tool runs the program.
 ENVIRONMENT = {"GLIBC_TUNABLES": "glibc.malloc.hugetlb=1", **os.environ}
@@ -37,21 +36,21 @@ SIZES = (2 ** 16, 2 ** 18, 2 ** 20)
 
 
 def run(words, folder, runs=3):
-    """The processor seconds of a program, the least of some runs, and the peak of memory, in bytes, the greatest.
+    """The processor seconds of a program, the least of some runs, and the greatest peak of memory, in bytes.
 
     GNU time starts it, since a program that Python starts has Python's own memory in its peak.
     """
     seconds, peaks = [], []
-    told = os.path.join(folder, "peak")
+    report = os.path.join(folder, "peak")
     for _ in range(runs):
         quiet = {"stdout": subprocess.DEVNULL, "stderr": subprocess.DEVNULL}
-        child = subprocess.Popen([TIME, "--quiet", "-f", "%M", "-o", told, *words], env=ENVIRONMENT, **quiet)
+        child = subprocess.Popen([TIME, "--quiet", "-f", "%M", "-o", report, *words], env=ENVIRONMENT, **quiet)
         _, status, usage = os.wait4(child.pid, 0)
         child.returncode = os.waitstatus_to_exitcode(status)
         if child.returncode not in (0, 1):
             sys.exit(f"{words} ended with {child.returncode}")
         seconds.append(usage.ru_utime + usage.ru_stime)
-        with open(told, encoding="ascii") as it:
+        with open(report, encoding="ascii") as it:
             peaks.append(int(it.read()) * 1024)
     return min(seconds), max(peaks)
 
@@ -83,10 +82,10 @@ def is_scanning(folder):
 
 
 def measure(folder, program, sizes):
-    """Prints the table, and gives what is above a limit."""
+    """Prints the table, and returns what is above a limit."""
     above = []
     _, base = run(words_of(program, folder, make(folder, "rising", 1)), folder)
-    print("kind         eraseblocks  seconds   memory an eraseblock   times cksum   growth over n log n")
+    print("kind         eraseblocks  seconds  memory per eraseblock   times cksum   growth over n log n")
     for kind in image.KINDS:
         before = None
         for count in sizes:

@@ -3,10 +3,11 @@
 
 usage: slow.py CRATE [N]
 
-`rt check` saves each part of what it checks below crates/CRATE/out/incremental. A part is slow where a long time passes before it
-is saved in which no other is, and it is large where there was much to check. N of each are listed (20). Of two jobs that work
-side by side each hides the other's time. The last check begins where nothing was saved for five minutes; what it took from an
-earlier one isn't listed. To time a whole crate, remove its folder out/ and check it anew.
+`rt check` saves each part of what it checks below crates/CRATE/out/incremental. A part is slow if a long time passes
+before it is saved in which no other part is, and it is large if there was much to check. It lists N of each (20). If
+two jobs run at the same time, each hides the other's time. The last check begins after a pause of five minutes in which
+nothing was saved; the parts that it took from an earlier one aren't listed. To time a whole crate, remove its folder
+out/ and check it anew.
 """
 import re
 import sys
@@ -17,7 +18,7 @@ PAUSE = 300
 
 
 def parts(crate):
-    """The parts that were saved: when, their names, and their sizes in kB, the last first."""
+    """The parts that were saved: when, their names, and their sizes in kB, the latest first."""
     files = (CRATES / crate / "out" / "incremental").glob(f"*/Rattle-{crate}-*.oantt")
     found = []
     for file in files:
@@ -29,7 +30,7 @@ def parts(crate):
 
 
 def last_check(saved):
-    """Of these the ones that the last check saved, in the order of time."""
+    """Those of the parts that the last check saved, in the order of time."""
     for here, (later, earlier) in enumerate(zip(saved, saved[1:])):
         if later[0] - earlier[0] > PAUSE:
             return saved[here::-1]

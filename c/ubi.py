@@ -1,4 +1,4 @@
-"""UBI images in memory: the proved core of ubi_tool, over ctypes.
+"""UBI images in memory: the proved core of ubi_tool, through ctypes.
 
     import ubi
 
@@ -8,10 +8,10 @@
     print(library.list(sizes, image))
     kernel = library.read(sizes, image, 0)
 
-`c/build.sh` makes the shared object that this loads, and install.sh installs both. An image is any object whose bytes lie in one
-piece, as bytes, a bytearray or an mmap; it is not copied, and must not be written while a call runs. A call raises Refused with the
-cause, where ubi_tool would print a line with `refused`; Limit where the sizes are no geometry; and MemoryError where memory ran out.
-ubi.h and docs/C.md say more.
+`c/build.sh` makes the shared object that this module loads, and install.sh installs both. An image is any object whose
+bytes lie in one piece, such as bytes, a bytearray or an mmap; it is not copied, and must not be written while a call
+runs. A call raises Refused with the cause if ubi_tool would print a line with `refused`; Limit if the sizes are no
+geometry; and MemoryError if memory runs out. ubi.h and docs/C.md say more.
 """
 import contextlib
 import ctypes
@@ -19,18 +19,18 @@ import os
 import re
 from dataclasses import dataclass
 
-# The greatest number of eraseblocks that a device has: for Sizes, where it isn't known.
+# The greatest number of eraseblocks that a device can have: for Sizes, if the number isn't known.
 MOST_PEBS = 1048576
 DONE, REFUSED, LIMIT, NO_MEMORY = range(4)
 # The room that most answers in lines need.
 ROOM = 4096
-# An answer that is a refusal: the side, of two images, and the cause.
+# An answer that is a refusal: the side, for two images, and the cause.
 REFUSAL = re.compile(rb"(?:(left|right) )?refused (.*)\n")
 
 
 class Refused(ValueError):
-    """An image, a volume or an edit is refused. `cause` is the cause, as 'S8 SameSqnum block=57 earlier=12', and `side` is 'left' or
-    'right', where one of two images is refused."""
+    """An image, a volume or an edit is refused. `cause` is the cause, such as 'S8 SameSqnum block=57 earlier=12', and
+    `side` is 'left' or 'right' if one of two images is refused."""
 
     def __init__(self, cause, side=None):
         self.cause, self.side = cause, side
@@ -38,7 +38,7 @@ class Refused(ValueError):
 
 
 class Limit(ValueError):
-    """The sizes are no geometry. `cause` is the first limit that they break, as 'G2 Page'."""
+    """The sizes are no geometry. `cause` is the first limit that they break, such as 'G2 Page'."""
 
     def __init__(self, cause):
         self.cause = cause
@@ -46,8 +46,8 @@ class Limit(ValueError):
 
 
 class Sizes(ctypes.Structure):
-    """The numbers of a geometry: the bytes of an eraseblock and of a page, where the volume-identifier header and the data stand in an
-    eraseblock, and how many eraseblocks the device has."""
+    """The numbers of a geometry: the bytes of an eraseblock and of a page, the offsets of the volume-identifier header
+    and of the data in an eraseblock, and the number of eraseblocks of the device."""
 
     _fields_ = [(name, ctypes.c_uint32) for name in ("peb_size", "page", "vid_offset", "data_offset", "pebs")]
 
@@ -60,8 +60,8 @@ class Sizes(ctypes.Structure):
 
 @dataclass(frozen=True)
 class Found:
-    """A geometry that a dump's own headers give: its sizes, how many out-of-band bytes lie behind each page, and which part of the
-    bytes is the image."""
+    """A geometry that a dump's own headers give: its sizes, the number of out-of-band bytes after each page, and the
+    part of the bytes that is the image."""
 
     sizes: Sizes
     oob: int
@@ -71,7 +71,8 @@ class Found:
 
 @dataclass(frozen=True)
 class Step:
-    """A step of a plan: of an erase `page` and `data` are None, and else `data` are the bytes that page `page` of `block` gets."""
+    """A step of a plan: for an erase `page` and `data` are None; otherwise `data` are the bytes that page `page` of
+    `block` gets."""
 
     block: int
     page: int | None = None
@@ -81,18 +82,21 @@ class Step:
 class _Buffer(ctypes.Structure):
     """A Py_buffer of CPython."""
 
-    _fields_ = [("buf", ctypes.c_void_p), ("obj", ctypes.py_object), ("len", ctypes.c_ssize_t), ("itemsize", ctypes.c_ssize_t),
-        ("readonly", ctypes.c_int), ("ndim", ctypes.c_int), ("format", ctypes.c_char_p), ("shape", ctypes.c_void_p),
-        ("strides", ctypes.c_void_p), ("suboffsets", ctypes.c_void_p), ("internal", ctypes.c_void_p)]
+    _fields_ = [
+        ("buf", ctypes.c_void_p), ("obj", ctypes.py_object), ("len", ctypes.c_ssize_t),
+        ("itemsize", ctypes.c_ssize_t), ("readonly", ctypes.c_int), ("ndim", ctypes.c_int),
+        ("format", ctypes.c_char_p), ("shape", ctypes.c_void_p), ("strides", ctypes.c_void_p),
+        ("suboffsets", ctypes.c_void_p), ("internal", ctypes.c_void_p),
+    ]
 
 
-# What stands for the place of no bytes.
+# The address that is passed for no bytes.
 _NOTHING = ctypes.create_string_buffer(1)
 
 
 @contextlib.contextmanager
 def _bytes_of(data):
-    """The place and the number of an object's bytes, while it is held."""
+    """The address and the number of an object's bytes, while the object is held."""
     view = _Buffer()
     ctypes.pythonapi.PyObject_GetBuffer(ctypes.py_object(data), ctypes.byref(view), 0)
     try:
@@ -126,27 +130,32 @@ class _Room:
 
 
 def _path():
-    """Where the shared object is: where c/build.sh puts it, if it is there; else where install.sh does, seen from share/ubi_tool."""
+    """The path of the shared object: where c/build.sh puts it, if it is there; otherwise where install.sh does, from
+    share/ubi_tool."""
     here = os.path.dirname(os.path.realpath(__file__))
     built = os.path.join(here, "out", "libubi.so")
     return built if os.path.isfile(built) else os.path.normpath(os.path.join(here, "..", "..", "lib", "libubi.so"))
 
 
 class Library:
-    """The calls, of a shared object that c/build.sh has made. If no path is given, that is the one in c/out, or the installed one."""
+    """The calls of a shared object that c/build.sh has made. If no path is given, that is the one in c/out, or the
+    installed one."""
 
     def __init__(self, path=None):
         self._library = ctypes.CDLL(path or _path())
 
     def _call(self, name, sizes, images, numbers, given, rooms):
-        """The status, with the answers in rooms: once more where one of them is too small. Raises Limit and MemoryError."""
+        """The status, with the answers in rooms; calls once more if one of them is too small. Raises Limit and
+        MemoryError."""
         call = getattr(self._library, f"ubi_{name}")
         call.restype = ctypes.c_uint32
         with contextlib.ExitStack() as held:
-            before, behind = ([word for data in some for word in held.enter_context(_bytes_of(data))] for some in (images, given))
-            first = ([ctypes.byref(sizes)] if sizes else []) + before + [ctypes.c_uint32(_number(n)) for n in numbers] + behind
+            before, after = (
+                [word for data in some for word in held.enter_context(_bytes_of(data))] for some in (images, given))
+            words = [ctypes.byref(sizes)] if sizes else []
+            words += before + [ctypes.c_uint32(_number(n)) for n in numbers] + after
             while True:
-                status = call(*first, *(word for room in rooms for word in room.words()))
+                status = call(*words, *(word for room in rooms for word in room.words()))
                 if status == NO_MEMORY:
                     raise MemoryError(f"ubi_{name}")
                 if all(room.has_all() for room in rooms):
@@ -157,7 +166,7 @@ class Library:
                 rooms = [room if room.has_all() else _Room(room.len.value) for room in rooms]
 
     def _answer(self, name, sizes, images, numbers=(), given=(), rooms=None):
-        """The answers, where the call is done; raises what is refused."""
+        """The answers of a call that is done; raises Refused if it is refused."""
         status, answers = self._call(name, sizes, images, numbers, given, rooms or [_Room(ROOM)])
         refusal = REFUSAL.fullmatch(answers[0]) if status == REFUSED else None
         if refusal:
@@ -166,16 +175,18 @@ class Library:
         return answers
 
     def geometry(self, image):
-        """The geometries that the headers of a dump give, most likely one: a list of Found. Raises Refused where none can be told."""
+        """The geometries that the headers of a dump give, most likely one: a list of Found. Raises Refused if none can
+        be found."""
         found = []
         for line in self._answer("geometry", None, [image])[0].decode("ascii").splitlines():
-            told = {name: int(number) for name, number in re.findall(r"--(\w+) (\d+)", line)}
-            sizes = Sizes(told["peb"], told["page"], told["vid"], told["data"])
-            found.append(Found(sizes, told.get("oob", 0), told.get("start", 0), told.get("length", len(image))))
+            values = {name: int(number) for name, number in re.findall(r"--(\w+) (\d+)", line)}
+            sizes = Sizes(values["peb"], values["page"], values["vid"], values["data"])
+            found.append(Found(sizes, values.get("oob", 0), values.get("start", 0), values.get("length", len(image))))
         return found
 
     def check(self, sizes, image):
-        """The lines that `ubi_tool check` prints: how many eraseblocks are in which state, and the numbers of the image."""
+        """The lines that `ubi_tool check` prints: the number of eraseblocks in each state, and the numbers of the
+        image."""
         return self._answer("check", sizes, [image])[0].decode("ascii")
 
     def list(self, sizes, image):
@@ -187,7 +198,8 @@ class Library:
         return self._answer("show", sizes, [image], [block])[0].decode("ascii")
 
     def map(self, sizes, image):
-        """The lines that `ubi_tool map` prints: a letter for each eraseblock. Of an image that is refused too, whose cause stands last."""
+        """The lines that `ubi_tool map` prints: a letter for each eraseblock. An image that is refused has them too,
+        and then the cause."""
         return self._call("map", sizes, [image], (), (), [_Room(ROOM)])[1][0].decode("ascii")
 
     def read(self, sizes, image, number):
@@ -203,15 +215,18 @@ class Library:
         return self._answer("same", sizes, [left, right])[0] == b"same\n"
 
     def diff(self, sizes, left, right):
-        """In what two images differ: the lines that `ubi_tool diff` prints but the last; none where they mean the same."""
+        """The differences of two images: the lines that `ubi_tool diff` prints without the last; none if the images
+        mean the same."""
         return self._answer("diff", sizes, [left, right])[0].decode("ascii").splitlines()[:-1]
 
     def change(self, sizes, image, number, lnum, data):
-        """The steps that give the logical eraseblock `lnum` of the dynamic volume `number` new bytes: a list of Step."""
+        """The steps that give the logical eraseblock `lnum` of the dynamic volume `number` new bytes: a list of
+        Step."""
         return self._plan("change", sizes, image, [number, lnum], data)
 
     def rename(self, sizes, image, number, name):
-        """The steps that give the volume `number` a new name, which is bytes, or text as `list` shows names: a list of Step."""
+        """The steps that give the volume `number` a new name, which is bytes, or a string as `list` shows names: a list
+        of Step."""
         word = name.encode("ascii") if isinstance(name, str) else "".join(rf"\x{byte:02x}" for byte in name).encode()
         return self._plan("rename", sizes, image, [number], word)
 

@@ -1,5 +1,5 @@
-/* volumes DUMP FOLDER: finds the image in a dump and its geometry, lists its volumes, and writes the contents of each to
- * FOLDER/volume_N.bin. The dump has no out-of-band bytes.
+/* volumes DUMP FOLDER: finds the image in a dump and its geometry, lists its volumes, and writes the contents of each
+ * to FOLDER/volume_N.bin. The dump has no out-of-band bytes.
  *
  *     c/build.sh
  *     cc -Ic/out -o volumes c/examples/volumes.c c/out/libubi.a
@@ -10,7 +10,7 @@
 #include <stdlib.h>
 #include <string.h>
 
-/* All bytes of a file, with one more than they are, so that they are never none. */
+/* All bytes of a file, in a buffer of one byte more, so that it is never empty. */
 static uint8_t *load(const char *path, size_t *len) {
     FILE *file = fopen(path, "rb");
     if (!file || fseek(file, 0, SEEK_END)) return NULL;
@@ -22,25 +22,27 @@ static uint8_t *load(const char *path, size_t *len) {
     return data;
 }
 
-/* Prints an answer of `len` bytes, of which `room` at most stand in `text`, that says why there is no other. */
+/* Prints an answer of `len` bytes, at most `room` of which are in `text`, that says why there is no other answer. */
 static int refused(uint32_t status, const uint8_t *text, size_t room, size_t len) {
     if (status == UBI_NO_MEMORY) fprintf(stderr, "out of memory\n");
     else fwrite(text, 1, len < room ? len : room, stderr);
     return 1;
 }
 
-/* The number behind a word in the first line of an answer, or another number where the word isn't there. */
+/* The number after a word in the first line of an answer, or another number if the word isn't there. */
 static size_t number_of(const char *text, const char *word, size_t other) {
     const char *end = strchr(text, '\n'), *at = strstr(text, word);
     return at && end && at < end ? (size_t)strtoull(at + strlen(word), NULL, 10) : other;
 }
 
-/* Writes the contents of a volume: it is asked for their length first, and then for their bytes. */
-static int write_volume(const struct ubi_sizes *sizes, const uint8_t *image, size_t image_len, unsigned number, const char *folder) {
+/* Writes the contents of a volume: it asks for their length first, and then for their bytes. */
+static int write_volume(const struct ubi_sizes *sizes, const uint8_t *image, size_t image_len, unsigned number,
+                        const char *folder) {
     uint8_t nothing, *bytes;
     size_t len, again;
     char path[4096];
-    if (ubi_read(sizes, image, image_len, number, &nothing, 0, &len) == UBI_NO_MEMORY || !(bytes = malloc(len + 1))) return 1;
+    if (ubi_read(sizes, image, image_len, number, &nothing, 0, &len) == UBI_NO_MEMORY) return 1;
+    if (!(bytes = malloc(len + 1))) return 1;
     uint32_t status = ubi_read(sizes, image, image_len, number, bytes, len, &again);
     int failed = status != UBI_DONE && refused(status, bytes, len, again);
     if (!failed) {
@@ -62,7 +64,8 @@ static int write_volumes(const uint8_t *dump, size_t dump_len, const char *folde
     text[len < room ? len : room] = 0;
     const char *line = (char *)text;
     struct ubi_sizes sizes = {.pebs = UBI_MOST_PEBS};
-    if (sscanf(line, "--peb %u --page %u --vid %u --data %u", &sizes.peb_size, &sizes.page, &sizes.vid_offset, &sizes.data_offset) != 4)
+    if (sscanf(line, "--peb %u --page %u --vid %u --data %u", &sizes.peb_size, &sizes.page, &sizes.vid_offset,
+               &sizes.data_offset) != 4)
         return 1;
     if (number_of(line, " --oob ", 0)) {
         fprintf(stderr, "the dump has out-of-band bytes\n");

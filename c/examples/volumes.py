@@ -1,6 +1,6 @@
 #!/usr/bin/env python3
-"""volumes.py DUMP FOLDER: finds the image in a dump and its geometry, lists its volumes, and writes the contents of each to
-FOLDER/volume_N.bin. The dump has no out-of-band bytes.
+"""volumes.py DUMP FOLDER: finds the image in a dump and its geometry, lists its volumes, and writes the contents of
+each to FOLDER/volume_N.bin. The dump has no out-of-band bytes.
 
     PYTHONPATH=c python3 c/examples/volumes.py dump.bin folder
 """

@@ -1,9 +1,10 @@
 #!/usr/bin/env python3
-"""Makes c/out, the library for C and Python, over the libraries that `rt ci` built: `c/build.sh` would build these again.
+"""Makes c/out, the library for C and Python, from the libraries that `rt ci` built: `c/build.sh` would build these
+again.
 
 usage: c_library.py
 
-The crate of the exports is proved once more, as `rt ci` keeps no archive of it.
+The crate of the exports is proved once more, since `rt ci` keeps no archive of it.
 """
 import subprocess
 import sys
@@ -17,7 +18,8 @@ def main():
     (CRATE / "out").mkdir(exist_ok=True)
     words = rattle("build", CRATE, "--toolchain", kit() / "toolchain", "--backend", "llvm", "-o", "out/libubi_c.a")
     for command, folder in ((words, CRATE), ([ROOT / "c/build.sh", "--link"], ROOT)):
-        made = subprocess.run(command, cwd=folder, stdin=subprocess.DEVNULL, stdout=subprocess.PIPE, stderr=subprocess.STDOUT, text=True)
+        made = subprocess.run(
+            command, cwd=folder, stdin=subprocess.DEVNULL, stdout=subprocess.PIPE, stderr=subprocess.STDOUT, text=True)
         if made.returncode:
             print("\n".join(made.stdout.splitlines()[-20:]))
             return 1

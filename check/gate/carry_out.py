@@ -1,24 +1,25 @@
 #!/usr/bin/env python3
-"""Carries plans out with carry_out.sh, on a chip that a file plays, and looks at what it does, tells and leaves.
+"""Carries out plans with carry_out.sh, on a chip that a file simulates, and checks what the script does, prints and
+leaves.
 
 usage: carry_out.py [--tool PROGRAM] [--script PATH] [--only WORD]
 
-The tools that the script calls are those of check/gate/fakes, which behave as mtd-utils and dd do on NAND flash. They can be told
-what goes wrong: an erase that fails, that does nothing or half of it, a program that fails, that is torn, that can't be read back,
-an eraseblock that is bad. Images are small, with pages that have sub-pages and pages that have none, and with eraseblocks that are
-bad. Of each image a LEB that is mapped is changed, and one that isn't, and a volume is renamed:
+The tools that the script calls are those of check/gate/fakes, which behave as mtd-utils and dd do on NAND flash. They
+can be made to fail: an erase that fails, or does nothing or half of its work; a program that fails, is torn, or can't
+be read back; an eraseblock that is bad. Images are small, with sub-pages and without, and with bad eraseblocks. In each
+image one mapped LEB and one unmapped LEB are changed, and a volume is renamed. The cases are
 
 - the whole plan, with a dump and without; `-c`, which writes nothing
-- ended after each step (`-e`), and gone on with (`-s`)
-- each write gone wrong, in each way: the step that is named, that nothing behind it was written, what the chip holds, and that
-  the plan can be gone on with where nothing was torn
-- each refusal: its line, and that not a byte is another
+- plans that end after each step (`-e`) and are continued (`-s`)
+- each write going wrong, in each way: the script must name the step and write nothing after it; the chip must hold the
+  right bytes; and the plan can be continued if nothing was torn
+- each refusal: its line, and that no byte has changed
 - interrupts, outputs that are closed or full, offsets beyond 4 GiB
 
-What the chip holds has to be the image after the steps that are done, and to mean the old or the new. Plans, pages and meanings
-are those of check/second/rules.py. With --tool the plans and the pages are those of PROGRAM too, which have to be the same, and
-the meaning is what its `list` and `extract` say. The script is run by dash, bash and busybox in turn, as far as they are there.
---only runs the cases whose names have WORD. The last line is 'N passed, M failed', and the exit status is 0 where none failed.
+The chip must hold the image after the steps that are done, and mean the old or the new. Plans, pages and meanings are
+those of check/second/rules.py. With --tool the plans and the pages of PROGRAM must be the same, and the meaning is what
+its `list` and `extract` say. The script is run by dash, bash and busybox in turn, if they are installed. --only runs
+the cases whose names contain WORD. The last line is 'N passed, M failed', and the exit status is 0 if none failed.
 """
 import argparse
 import itertools
@@ -38,53 +39,55 @@ FAKES = ROOT / 'check/gate/fakes'
 DATA = ROOT / 'crates/ubi_tool/data'
 sys.path.insert(0, str(ROOT / 'check/second'))
 import rules  # noqa: E402
+from fuzz import Failure, expect  # noqa: E402
 from rules import LAYOUT, Geometry, Record, Vid  # noqa: E402
 
-# The names of shells, and the words before those of the script. busybox has a dd of its own, which it takes before the fake one.
+# The names of shells, and the words before those of the script. busybox has a dd of its own, which it prefers to the
+# fake one.
 SHELLS = {
     'dash': ['dash'],
     'bash': ['bash'],
     'busybox': ['busybox', 'sh', '-c', 'dd() { "$FAKES/dd" "$@"; }; . "$0"'],
 }
-# Of each size the bytes of a sub-page. In the second the VID header lies in page 0, in a sub-page of its own.
+# Geometries, each with the bytes of a sub-page. In the second the VID header lies in page 0, in a sub-page of its own.
 SIZES = (
     (Geometry(512, 64, 64, 128, 32), 64),
     (Geometry(8192, 2048, 512, 2048, 32), 512),
     (Geometry(2048, 256, 320, 512, 32), 64),
 )
-# What may go wrong with an erase and with a program, and what the script tells of it.
+# What may go wrong with an erase and with a program, and what the script says then.
 ERASES = {
-    'fail': 'libmtd: error!: MEMERASE64 ioctl failed', 'skip': "it isn't blank afterwards", 'most': "it isn't blank afterwards",
-    'loud': 'flash_erase: warning!', 'status': 'flash_erase ended with status 1', 'unread': "it can't be read back: ECC: 1 uncorrectable",
+    'fail': 'libmtd: error!: MEMERASE64 ioctl failed',
+    'skip': "it isn't blank afterwards",
+    'most': "it isn't blank afterwards",
+    'loud': 'flash_erase: warning!',
+    'status': 'flash_erase ended with status 1',
+    'unread': "it can't be read back: ECC: 1 uncorrectable",
 }
 PROGRAMS = {
-    'fail': 'Input/output error', 'skip': 'it reads other bytes afterwards', 'torn': 'it reads other bytes afterwards',
-    'broken': 'Input/output error', 'flip': 'it reads other bytes afterwards', 'unread': "it can't be read back: ECC: 1 uncorrectable",
+    'fail': 'Input/output error',
+    'skip': 'it reads other bytes afterwards',
+    'torn': 'it reads other bytes afterwards',
+    'broken': 'Input/output error',
+    'flip': 'it reads other bytes afterwards',
+    'unread': "it can't be read back: ECC: 1 uncorrectable",
     'killed': 'it was broken off with status 137',
 }
 # Those after which the chip holds what it held before the step, or after which the erase is done.
 HARMLESS = ('fail', 'skip', 'loud', 'status')
-# The plans that are ended after each step and of which each write goes wrong: of the first in each way, of the others in one.
+# The plans that end after each step and whose writes go wrong: those of the first in each way, those of the others in
+# one.
 STEPPED = ('peb 8192 used mapped', 'peb 512 clean rename', 'spare change')
 
 
-class Failure(Exception):
-    """What was expected, and what came."""
-
-
-def expect(is_right, what):
-    if not is_right:
-        raise Failure(what)
-
-
-# Images, and plans of them.
+# Images, and plans for them.
 
 
 def image_of(geometry, layout):
-    """An image of eraseblocks that a layout names."""
+    """An image of the eraseblocks that a layout names."""
     rng = random.Random(f'{geometry} {layout}')
     records = {0: Record(6, 1, 1, 0, b'root', 0), 1: Record(2, 1, 2, 0, b'kernel', 0)}
-    table, text, sqnums = rules.put_table(geometry, records), rng.randbytes(100), itertools.count(1)
+    table, contents, sqnums = rules.put_table(geometry, records), rng.randbytes(100), itertools.count(1)
 
     def member(volume, lnum, data, kind=1, compat=0, size=0, used=0, right=0):
         ec = rules.put_ec(geometry, rng.randrange(50), 7)
@@ -97,7 +100,7 @@ def image_of(geometry, layout):
         'leb0': lambda: member(0, 0, rng.randbytes(geometry.leb)),
         'leb1': lambda: member(0, 1, rng.randbytes(geometry.page)),
         'old1': lambda: member(0, 1, rng.randbytes(geometry.leb)),
-        'static': lambda: member(1, 0, text, 2, 0, len(text), 1, rules.check(text)),
+        'static': lambda: member(1, 0, contents, 2, 0, len(contents), 1, rules.crc(contents)),
         'clean': lambda: rules.put_block(geometry, rules.put_ec(geometry, 3, 7)),
         'free': lambda: rules.put_block(geometry, rules.put_ec(geometry, 4, 7), data=bytes(9)),
         'blank': lambda: b'\xFF' * geometry.peb,
@@ -106,7 +109,7 @@ def image_of(geometry, layout):
     return b''.join(made[word]() for word in layout.split())
 
 
-# The first has two eraseblocks that are clean, the second none; and each has bad ones.
+# The first has two clean eraseblocks, the second none; both have bad ones.
 LAYOUTS = {
     'clean': 'bad table0 old1 leb0 clean bad leb1 table1 static clean blank',
     'used': 'table0 free leb0 old1 leb1 static table1 bad free bad',
@@ -114,7 +117,7 @@ LAYOUTS = {
 
 
 class Plan:
-    """A plan of an image: its steps, its pages, and the image after each number of steps."""
+    """A plan for an image: its steps, its pages, and the image after each number of steps."""
 
     def __init__(self, name, geometry, sub, image, made, words, files=(), bad=()):
         self.name, self.geometry, self.sub, self.image, self.bad = name, geometry, sub, image, bad
@@ -133,7 +136,7 @@ class Plan:
         return b''.join(self.pages[: sum(step[0] == 'program' for step in self.steps[:n])])
 
     def writes(self, n):
-        """What step N writes, as the fakes note it: of page 0, where there are sub-pages, those alone that change."""
+        """What step N writes, as the fakes log it: in page 0, if there are sub-pages, only those that change."""
         word, p, *rest = self.steps[n - 1]
         if word == 'erase':
             return [f'erase {p}']
@@ -143,14 +146,15 @@ class Plan:
         if old == new:
             return []
         size = self.sub if rest[0] == 0 else page
-        return [f'program {at + part} {size}' for part in range(0, page, size) if old[part : part + size] != new[part : part + size]]
+        changed = [part for part in range(0, page, size) if old[part : part + size] != new[part : part + size]]
+        return [f'program {at + part} {size}' for part in changed]
 
     def all_writes(self, first=1, last=None):
-        """Of each write of some steps the step and the line."""
+        """The step and the line of each write of some steps."""
         return [(n, line) for n in range(first, (self.count if last is None else last) + 1) for line in self.writes(n)]
 
     def with_bad(self, data):
-        """The bytes of a chip where bad eraseblocks hold something."""
+        """The bytes of a chip whose bad eraseblocks hold something."""
         data, peb = bytearray(data), self.geometry.peb
         for p in self.bad:
             data[p * peb : (p + 1) * peb] = b'bad?' * (peb // 4)
@@ -177,7 +181,7 @@ def plans():
             ['rename', '--id', '1', '--name', 'kernel_old'], (), bad)
 
 
-# What an image means: by the rules, or by the program.
+# What an image means: by the rules, or to the program.
 
 
 def by_rules(plan, data):
@@ -202,7 +206,7 @@ class Program:
         return name
 
     def meaning(self, plan, data):
-        """What `list` says of an image, and the bytes of each volume that can be extracted."""
+        """What `list` says about an image, and the bytes of each volume that can be extracted."""
         key = plan.geometry, data
         if key not in self.known:
             self.put('cut.img', data)
@@ -217,7 +221,7 @@ class Program:
         return self.known[key]
 
     def compare(self, plan):
-        """Whether the plan and the pages of the program are those of the rules."""
+        """Checks that the plan and the pages of the program are those of the rules."""
         for name, data in plan.files.items():
             self.put(name, data)
         command, *rest = plan.words
@@ -229,23 +233,24 @@ class Program:
         if status == 2:
             # it has no --pages
             text, status = self.run(*words)
-            pages = b''.join(self.page_after(plan, words, k) for k, step in enumerate(plan.steps, 1) if step[0] == 'program')
+            programs = [k for k, step in enumerate(plan.steps, 1) if step[0] == 'program']
+            pages = b''.join(self.page_after(plan, words, k) for k in programs)
         expect((text, status) == (plan.text, 0), f'the program plans {text!r} with status {status}')
-        expect(pages == plan.pages_of(plan.count), "the program's pages are others")
+        expect(pages == plan.pages_of(plan.count), "the program's pages differ")
 
     def page_after(self, plan, words, k):
-        """The page that step K programs, of the image after it."""
+        """The page that step K programs, taken from the image after it."""
         self.run(*words, '--stop', str(k))
         _, p, page, _ = plan.steps[k - 1]
         at = p * plan.geometry.peb + page * plan.geometry.page
         return (self.folder / 'out.img').read_bytes()[at : at + plan.geometry.page]
 
 
-# The chip that a file plays.
+# The chip that a file simulates.
 
 
 class Ran:
-    """What a run has told, and what it has written."""
+    """What a run has printed, and what it has written."""
 
     def __init__(self, status, out, err, log):
         self.status, self.out, self.err, self.log = status, out, err, log
@@ -255,7 +260,7 @@ class Ran:
 
 
 class Chip:
-    """The folder of a chip, what the kernel says of it, and the script that works on it."""
+    """The folder of a chip, what the kernel says about it, and the script that works on it."""
 
     turns = itertools.count()
 
@@ -267,11 +272,14 @@ class Chip:
         for made in (self.chip, self.mtd, self.scratch, self.root / 'proc', self.root / 'sys/class/ubi'):
             made.mkdir(parents=True)
         geometry = plan.geometry
-        said = {'type': 'nand', 'size': len(plan.image), 'erasesize': geometry.peb, 'writesize': geometry.page, 'subpagesize': plan.sub,
-            'flags': '0x400', 'numeraseregions': 0, 'name': 'a chip'}
+        said = {
+            'type': 'nand', 'flags': '0x400', 'numeraseregions': 0, 'name': 'a chip', 'size': len(plan.image),
+            'erasesize': geometry.peb, 'writesize': geometry.page, 'subpagesize': plan.sub,
+        }
         for name, value in said.items():
             self.say(name, value)
-        (self.root / 'proc/mounts').write_text('proc /proc proc rw 0 0\n/dev/mtdblock1 /mnt ext4 rw 0 0\nmtd1 /a jffs2 rw 0 0\n')
+        mounts = 'proc /proc proc rw 0 0', '/dev/mtdblock1 /mnt ext4 rw 0 0', 'mtd1 /a jffs2 rw 0 0'
+        (self.root / 'proc/mounts').write_text(''.join(f'{line}\n' for line in mounts))
         (self.root / 'sys/class/ubi/version').write_text('1\n')
         (self.chip / 'blank').write_bytes(b'\xFF' * geometry.peb)
         self.device = self.chip / 'mtd0'
@@ -289,7 +297,7 @@ class Chip:
         return path
 
     def fill(self, image):
-        """Puts an image on the chip, of which nothing goes wrong. Bad eraseblocks hold something else."""
+        """Puts an image on the chip, with no faults set. Bad eraseblocks hold something else."""
         self.held = self.plan.with_bad(image)
         self.device.write_bytes(self.held)
         self.set('bad', *self.plan.bad)
@@ -305,18 +313,23 @@ class Chip:
         return self.device.read_bytes()
 
     def words(self, *options, **others):
-        named = {'device': self.device, 'plan': self.folder / 'plan', 'pages': self.folder / 'pages', 'peb': self.plan.geometry.peb,
-            'page': self.plan.geometry.page} | others
+        named = {
+            'device': self.device, 'plan': self.folder / 'plan', 'pages': self.folder / 'pages',
+            'peb': self.plan.geometry.peb, 'page': self.plan.geometry.page,
+        } | others
         return [*map(str, options), *map(str, named.values())]
 
     def start(self, words, shell=None, environment=(), **how):
         shell = shell or SHELLS_THERE[next(self.turns) % len(SHELLS_THERE)]
         path = f'{self.folder / "stubs"}:{FAKES}:{os.environ["PATH"]}'
-        variables = {**os.environ, 'PATH': path, 'FAKES': str(FAKES), 'FAKE_CHIP': str(self.chip),
-            'FAKE_DD': REAL_DD, 'FAKE_PYTHON': sys.executable, 'CARRY_OUT_ROOT': str(self.root), 'TMPDIR': str(self.scratch),
-            **dict(environment)}
+        variables = {
+            **os.environ, 'PATH': path, 'FAKES': str(FAKES), 'FAKE_CHIP': str(self.chip), 'FAKE_DD': REAL_DD,
+            'FAKE_PYTHON': sys.executable, 'CARRY_OUT_ROOT': str(self.root), 'TMPDIR': str(self.scratch),
+            **dict(environment),
+        }
         how = {'stdout': subprocess.PIPE, 'stderr': subprocess.PIPE, 'stdin': subprocess.DEVNULL} | how
-        return subprocess.Popen([*SHELLS[shell], self.script, *words], cwd=self.folder, env=variables, start_new_session=True, **how)
+        command = [*SHELLS[shell], self.script, *words]
+        return subprocess.Popen(command, cwd=self.folder, env=variables, start_new_session=True, **how)
 
     def end(self, child):
         try:
@@ -333,19 +346,21 @@ class Chip:
         return self.end(self.start(self.words(*options, **others)))
 
     def expect(self, ran, status, image, log, err=''):
-        """Compares a run with what it is to do: its status, the chip after it, what it wrote, and its line to standard error."""
+        """Compares a run with what it has to do: its status, the chip after it, its writes, and its line to standard
+        error."""
         expect(ran.status == status, f'not status {status} but {ran}')
         expect(self.data() == self.plan.with_bad(image), f'the chip holds something else: {ran}')
         expect(ran.log == log, f'it writes {ran.log} and not {log}')
         expect(ran.err == '' if err == '' else err in ran.err and ran.err.count('\n') == 1, f'not {err!r} but {ran}')
 
     def expect_refused(self, line, *options, words=None, start=()):
-        """Runs the script, which is to refuse with a line, and to write nothing."""
+        """Runs the script, which has to refuse with a line, and to write nothing."""
         before = self.data()
         ran = self.end(self.start(self.words(*options) if words is None else words, **dict(start)))
         expect(ran.status == 2, f'not status 2 but {ran}')
         expect(self.data() == before and not ran.log, f'something was written: {ran}')
-        expect(re.fullmatch(f'carry_out: .*{re.escape(line)}.*; nothing was written\n', ran.err) and not ran.out, f'not {line!r} but {ran}')
+        wanted = f'carry_out: .*{re.escape(line)}.*; nothing was written\n'
+        expect(re.fullmatch(wanted, ran.err) and not ran.out, f'not {line!r} but {ran}')
 
 
 SHELLS_THERE = [name for name, words in SHELLS.items() if shutil.which(words[0])]
@@ -353,7 +368,7 @@ REAL_DD = shutil.which('dd')
 
 
 class Cases:
-    """The cases: each is a name, and a call that raises where something is wrong."""
+    """The cases: each is a name, and a call that raises Failure if something is wrong."""
 
     def __init__(self, folder, script, tool):
         self.folder, self.script = folder, script
@@ -367,7 +382,7 @@ class Cases:
         return self.program.meaning(plan, data) if self.program else by_rules(plan, data)
 
     def look(self, plan, data, what):
-        """Whether an image means the old or the new."""
+        """Checks that an image means the old or the new. Returns whether it means the new."""
         old, new, now = (self.meaning(plan, of) for of in (plan.image, plan.after[-1], data))
         expect(old != new and now in (old, new), f'{what}: the chip means neither the old nor the new')
         return now == new
@@ -397,19 +412,22 @@ class Cases:
         chip = Chip(self.folder / 'a chip', self.script, plan)
         ran = chip.run('-c', '-d', 'dump')
         chip.expect(ran, 0, plan.image, [])
-        first = f'checked: {chip.device}, {len(plan.image) // plan.geometry.peb} eraseblocks, {len(plan.bad)} bad; ' \
-            f'{plan.count} steps, {len(plan.pages)} pages\n'
+        blocks = len(plan.image) // plan.geometry.peb
+        first = (f'checked: {chip.device}, {blocks} eraseblocks, {len(plan.bad)} bad; '
+                 f'{plan.count} steps, {len(plan.pages)} pages\n')
         expect(ran.out == first, f'-c prints {ran.out!r}')
         ran = chip.run(*(('-d', 'dump') if 'clean' in plan.name else ()))
         chip.expect(ran, 0, plan.after[-1], [line for _, line in plan.all_writes()])
         lines = ran.out.splitlines(True)
-        expect(len(lines) == plan.count + 2 and lines[0] == first and lines[-1] == f'done: {plan.count} steps\n', f'it prints {ran.out!r}')
+        expect(len(lines) == plan.count + 2, f'it prints {ran.out!r}')
+        expect(lines[0] == first and lines[-1] == f'done: {plan.count} steps\n', f'it prints {ran.out!r}')
         for n in range(1, plan.count + 1):
             expect(lines[n].startswith(f'step {n}: {plan.line(n)}: '), f'step {n} prints {lines[n]!r}')
             expect((': has its bytes' in lines[n]) == (not plan.writes(n)), f'step {n} prints {lines[n]!r}')
 
     def one_by_one(self, plan):
-        """Ends after each step, and goes on with the next, where PAGES may be the pages of the first steps alone."""
+        """Ends after each step, and goes on with the next. Now and then PAGES has only the pages of the steps up to
+        there."""
         chip = Chip(self.folder / 'a chip', self.script, plan)
         meant = []
         for k in range(1, plan.count + 1):
@@ -422,7 +440,7 @@ class Cases:
         expect(meant == sorted(meant) and meant[-1], f'the steps mean the new: {meant}')
 
     def fault(self, plan, n, number, how):
-        """Begins with step N, of which a write goes wrong. Where nothing was torn, the plan is gone on with."""
+        """Begins with step N, in which a write goes wrong. If nothing was torn, goes on with the plan."""
         chip = Chip(self.folder / 'a chip', self.script, plan)
         chip.fill(plan.after[n - 1])
         chip.set('fault', f'{number} {how}')
@@ -430,9 +448,10 @@ class Cases:
         ran = chip.run(*options)
         word, p, *page = plan.steps[n - 1]
         what = (ERASES if word == 'erase' else PROGRAMS)[how]
-        named = rf'carry_out: step {n} of {plan.count} \({plan.line(n)}\) failed: .*{re.escape(what)}.*\. Steps done: {n - 1}; nothing'
+        named = (rf'carry_out: step {n} of {plan.count} \({plan.line(n)}\) failed: .*{re.escape(what)}.*'
+                 rf'\. Steps done: {n - 1}; nothing after it was tried\n')
         expect(ran.status == 1, f'not status 1 but {ran}')
-        # of a shell that was killed another shell says so
+        # if a shell was killed, the shell that started it says so
         lines = ran.err.count('\n') - (how == 'killed'), ran.out.count('\n')
         expect(re.search(named, ran.err) and lines == (1, 1), f'not {what!r} but {ran}')
         expect(ran.log == plan.writes(n)[:number], f'it writes {ran.log} and not {plan.writes(n)[:number]}')
@@ -454,7 +473,7 @@ class Cases:
     # Refusals.
 
     def refusals(self):
-        """Each refusal: its name, and the test of it."""
+        """Each refusal: its name, and its test."""
         def of(line, *options, change=None, of_plan='peb 8192 used mapped', start=(), **others):
             def test():
                 chip = self.chip(of_plan)
@@ -479,7 +498,8 @@ class Cases:
             return change
 
         def mount(source):
-            return lambda chip: (chip.root / 'proc/mounts').write_text(f'proc /proc proc rw 0 0\n{source} /mnt jffs2 ro 0 0\n')
+            mounts = f'proc /proc proc rw 0 0\n{source} /mnt jffs2 ro 0 0\n'
+            return lambda chip: (chip.root / 'proc/mounts').write_text(mounts)
 
         def attach(number):
             def change(chip):
@@ -488,15 +508,15 @@ class Cases:
             return change
 
         def byte(p, at=1000):
-            """Another byte in an eraseblock of the chip."""
+            """Changes a byte in an eraseblock of the chip."""
             def change(chip):
-                data, at_all = bytearray(chip.data()), p * chip.plan.geometry.peb + at
-                data[at_all] ^= 1
+                data = bytearray(chip.data())
+                data[p * chip.plan.geometry.peb + at] ^= 1
                 chip.device.write_bytes(data)
             return change
 
         def done(k, *more):
-            """A chip that has the image after K steps."""
+            """Fills the chip with the image after K steps."""
             def change(chip):
                 chip.fill(chip.plan.after[k])
                 for one in more:
@@ -506,8 +526,13 @@ class Cases:
         name = 'peb 8192 used mapped'
         plan = self.plans[name]
         taken, given_up = plan.steps[0][1], plan.steps[-1][1]
-        text, lines, pages = plan.text, plan.text.splitlines(), len(plan.pages)
+        text, lines = plan.text, plan.text.splitlines()
+        no_pages = f'not {len(plan.pages)} pages of 2048'
         other = next(p for p in range(10) if p not in (taken, given_up, *plan.bad))
+
+        def first_step(words):
+            """Puts other words in the place of the first step of the plan."""
+            return plan_text(text.replace(lines[1], words))
 
         yield 'no plan', of('is no ordinary file', change=lambda chip: (chip.folder / 'plan').unlink())
         yield 'a plan that is a pipe', of('is no ordinary file', change=pipe('plan'))
@@ -517,28 +542,31 @@ class Cases:
         yield 'an empty plan', of('is empty', change=plan_text(''))
         yield 'line ends of DOS', of('line ends of DOS', change=plan_text(text.replace('\n', '\r\n')))
         yield 'a zero byte', of('bytes that no plan has', change=plan_text(text.replace('=', '=\0', 1)))
-        yield 'lines behind the last step', of(f'has {plan.count + 1} steps, not {plan.count}', change=plan_text(text + 'erase block=0\n'))
-        yield 'too few lines', of(f'has {plan.count - 1} steps, not {plan.count}', change=plan_text('\n'.join(lines[:-1]) + '\n'))
-        yield 'a line behind the last step', of('no step: ', change=plan_text(text + '\n'))
+        yield 'lines after the last step', of(f'has {plan.count + 1} steps, not {plan.count}',
+            change=plan_text(text + 'erase block=0\n'))
+        yield 'too few lines', of(f'has {plan.count - 1} steps, not {plan.count}',
+            change=plan_text('\n'.join(lines[:-1]) + '\n'))
+        yield 'an empty line after the last step', of('no step: ', change=plan_text(text + '\n'))
         yield 'the last line cut short', of('was cut short', change=plan_text(text[:-1]))
         yield 'no steps', of('the plan has no steps', change=plan_text('steps 0\n'))
         yield 'no first line', of('line 1 of the plan: not `steps N`', change=plan_text('\n'.join(lines[1:]) + '\n'))
-        yield 'a number of steps with a zero', of('line 1 of the plan: not `steps N`', change=plan_text('steps 0' + text[6:]))
+        yield 'a number of steps with a zero', of('line 1 of the plan: not `steps N`',
+            change=plan_text('steps 0' + text[6:]))
         for word in ('00', '01', '', 'x', '1x', '0x1', '1 ', '1e0', '1 page=1'):
-            yield f'erase block={word}', of('line 2 of the plan: no step', change=plan_text(text.replace(lines[1], f'erase block={word}')))
+            yield f'erase block={word}', of('line 2 of the plan: no step', change=first_step(f'erase block={word}'))
         for word in ('-1', '+1', '1;', 'A'):
-            yield f'erase block={word}', of('bytes that no plan has', change=plan_text(text.replace(lines[1], f'erase block={word}')))
+            yield f'erase block={word}', of('bytes that no plan has', change=first_step(f'erase block={word}'))
         for word in ('10', '2147483649', '4294967296', '4294967297', '18446744073709551617', '9' * 400):
             yield f'eraseblock {word[:30]}', of('the device has 10 eraseblocks',
-                change=plan_text(text.replace(lines[1], f'erase block={word}')))
+                change=first_step(f'erase block={word}'))
         for word in ('4', '4294967296', '9' * 400):
             yield f'page {word[:30]}', of('an eraseblock has 4 pages',
                 change=plan_text(text.replace(lines[2], f'{lines[2].rpartition("=")[0]}={word}')))
-        yield 'a page more', of(f'not {pages} pages of 2048', change=with_pages(lambda data: data + data[:2048]))
-        yield 'a byte more', of(f'not {pages} pages of 2048', change=with_pages(lambda data: data + b'x'))
-        yield 'a page less', of(f'not {pages} pages of 2048', change=with_pages(lambda data: data[:-2048]))
-        yield 'no bytes of pages', of(f'not {pages} pages of 2048', change=with_pages(lambda data: b''))
-        yield 'a page less than -e wants', of(f'not {pages} pages of 2048', '-e', 4, change=with_pages(lambda data: data[: 2 * 2048]))
+        yield 'a page more', of(no_pages, change=with_pages(lambda data: data + data[:2048]))
+        yield 'a byte more', of(no_pages, change=with_pages(lambda data: data + b'x'))
+        yield 'a page less', of(no_pages, change=with_pages(lambda data: data[:-2048]))
+        yield 'no bytes of pages', of(no_pages, change=with_pages(lambda data: b''))
+        yield 'a page less than -e wants', of(no_pages, '-e', 4, change=with_pages(lambda data: data[: 2 * 2048]))
         for word in ('', 'x', '-1', '01', ' 1', '99999999999'):
             yield f'-s {word!r}', of("-s isn't a number", '-s', word)
             yield f'-e {word!r}', of("-e isn't a number", '-e', word)
@@ -548,7 +576,7 @@ class Cases:
         yield '-e 0', of('-e 0: steps are counted from 1', '-e', 0)
         yield '-s too large', of(f'the plan has {plan.count} steps', '-s', plan.count + 2)
         yield '-e too large', of(f'the plan has {plan.count} steps', '-e', plan.count + 1)
-        yield '-s behind -e', of('-s 4 is behind -e 2', '-s', 4, '-e', 2)
+        yield '-s after -e', of('-s 4 is after -e 2', '-s', 4, '-e', 2)
         yield 'PAGE 0', of('a page has no bytes', page=0)
         yield 'PEB 0', of('an eraseblock has no bytes', peb=0)
         yield 'pages that are no part of an eraseblock', of("isn't whole pages", peb=8193)
@@ -556,8 +584,8 @@ class Cases:
         yield 'pages of another size', of('has 2048 bytes, not 1024', page=1024)
         yield 'no device', of('nowhere', device='/nowhere/mtd0')
         yield 'a device of another name', of("isn't named as /dev/mtd0", device='/dev/null')
-        yield 'a device for reading alone', of("isn't named as /dev/mtd0", change=lambda chip: (chip.chip / 'mtd0ro').write_bytes(b''),
-            device=self.folder / 'a chip/the chip/mtd0ro')
+        yield 'a device for reading only', of("isn't named as /dev/mtd0",
+            change=lambda chip: (chip.chip / 'mtd0ro').write_bytes(b''), device=self.folder / 'a chip/the chip/mtd0ro')
         yield 'a file', of('is no character device', start={'environment': {'CARRY_OUT_ROOT': ''}})
         yield 'a device that the kernel does not know', of("mtd1/type can't be read",
             change=lambda chip: (chip.chip / 'mtd1').write_bytes(b''), device=self.folder / 'a chip/the chip/mtd1')
@@ -567,7 +595,7 @@ class Cases:
         yield 'a device with other flags', of('is read only', change=said('flags', '0x800'))
         yield 'flags that are none', of("/flags says 'x'", change=said('flags', 'x'))
         yield 'eraseblocks of several sizes', of('eraseblocks of several sizes', change=said('numeraseregions', 2))
-        yield 'no sub-pages told', of('subpagesize', change=lambda chip: (chip.mtd / 'subpagesize').unlink())
+        yield 'no size of a sub-page', of('subpagesize', change=lambda chip: (chip.mtd / 'subpagesize').unlink())
         yield 'sub-pages of no bytes', of('has no bytes', change=said('subpagesize', 0))
         yield 'sub-pages that are no part of a page', of("isn't whole sub-pages", change=said('subpagesize', 600))
         yield 'a size that is none', of("/size says ''", change=said('size', ''))
@@ -575,11 +603,15 @@ class Cases:
         for source in ('/dev/mtdblock0', 'mtd0', 'mtd:a\\040chip'):
             yield f'mounted as {source}', of('is mounted', change=mount(source))
         yield 'no list of mounts', of("mounts can't be read", change=lambda chip: (chip.root / 'proc/mounts').unlink())
-        for word, line in (('fail', 'mtdinfo -M'), ('blind', 'could not read bad block info'), ('short', "doesn't show 10 eraseblocks"),
-                ('other', "isn't mtd0, says mtdinfo")):
+        faults = {
+            'fail': 'mtdinfo -M', 'blind': 'could not read bad block info', 'short': "doesn't show 10 eraseblocks",
+            'other': "isn't mtd0, says mtdinfo",
+        }
+        for word, line in faults.items():
             yield f'mtdinfo: {word}', of(line, change=lambda chip, word=word: chip.set('mtdinfo', word))
         for p in (taken, given_up):
-            yield f'eraseblock {p} is bad', of(f'the plan names eraseblock {p}, which is BAD', change=lambda chip, p=p: chip.set('bad', p))
+            yield f'eraseblock {p} is bad', of(f'the plan names eraseblock {p}, which is BAD',
+                change=lambda chip, p=p: chip.set('bad', p))
             yield f'eraseblock {p} is locked', of(f'the plan names eraseblock {p}, which is RO',
                 change=lambda chip, p=p: chip.set('locked', p))
         yield 'no dump', of('is no ordinary file', '-d', 'nowhere')
@@ -598,28 +630,34 @@ class Cases:
             yield f'begun up to step {k}, with the dump', of('take a new dump', '-d', 'dump', change=done(k))
         for k in range(2, plan.count + 1):
             yield f'begun up to step {k}, without it', of('has been begun already', change=done(k))
-        yield 'begun, and the first page not blank', of('has been begun already', change=done(1), of_plan='peb 512 clean mapped')
+        yield 'begun, and the first page not blank', of('has been begun already',
+            change=done(1), of_plan='peb 512 clean mapped')
         unused = self.plans['peb 512 clean mapped']
-        yield 'a page that is not blank', of('that it can\'t keep', of_plan='peb 512 clean mapped', change=byte(unused.steps[1][1], 128))
-        yield 'a sub-page that is not blank', of('that it can\'t keep', of_plan='peb 8192 clean mapped',
-            change=byte(self.plans['peb 8192 clean mapped'].steps[0][1], 600))
-        yield 'a page that cannot be read', of('can\'t be read: ECC: 1 uncorrectable', of_plan='peb 512 clean mapped',
+        yield 'a page that is not blank', of("that it can't keep",
+            change=byte(unused.steps[1][1], 128), of_plan='peb 512 clean mapped')
+        yield 'a sub-page that is not blank', of("that it can't keep",
+            change=byte(self.plans['peb 8192 clean mapped'].steps[0][1], 600), of_plan='peb 8192 clean mapped')
+        yield 'a page that cannot be read', of("can't be read: ECC: 1 uncorrectable", of_plan='peb 512 clean mapped',
             change=lambda chip: chip.set('unread', unused.steps[1][1] * 8 + unused.steps[1][2]))
         for k in range(1, plan.count):
             if plan.writes(k + 1):
-                yield f'-s {k + 2} after step {k}', of("isn't as the steps before step", '-s', k + 2, *(('-d', 'dump') if k % 2 else ()),
-                    change=done(k))
-        yield 'a plan that is not finished', of("isn't as the steps before step", '-s', plan.count + 1, change=done(plan.count - 1))
-        yield 'gone on with, and another byte elsewhere', of(f'eraseblock {other} of', '-s', 3, '-d', 'dump', change=done(2, byte(other)))
-        yield 'gone on with, and another byte where a later step is', of(f'eraseblock {given_up} of', '-s', 3, '-d', 'dump',
-            change=done(2, byte(given_up)))
-        yield 'gone on with, and another byte where a step was', of(f'eraseblock {taken} of', '-s', 3, change=done(2, byte(taken, 0)))
-        yield 'gone on with, and another byte where steps have blanked', of(f'eraseblock {taken} of', '-s', 4, '-d', 'dump',
-            change=done(3, byte(taken, 8191)))
-        yield 'gone on with at an erase of what is not the dump\'s', of(f'eraseblock {given_up} of', '-s', plan.count - 1, '-d', 'dump',
-            change=done(plan.count - 2, byte(given_up)))
+                yield f'-s {k + 2} after step {k}', of("isn't as the steps before step",
+                    '-s', k + 2, *(('-d', 'dump') if k % 2 else ()), change=done(k))
+        yield 'a plan that is not finished', of("isn't as the steps before step",
+            '-s', plan.count + 1, change=done(plan.count - 1))
+        yield 'continued, and another byte elsewhere', of(f'eraseblock {other} of',
+            '-s', 3, '-d', 'dump', change=done(2, byte(other)))
+        yield 'continued, and another byte where a later step is', of(f'eraseblock {given_up} of',
+            '-s', 3, '-d', 'dump', change=done(2, byte(given_up)))
+        yield 'continued, and another byte where a step was', of(f'eraseblock {taken} of',
+            '-s', 3, change=done(2, byte(taken, 0)))
+        yield 'continued, and another byte where steps have erased', of(f'eraseblock {taken} of',
+            '-s', 4, '-d', 'dump', change=done(3, byte(taken, 8191)))
+        yield "continued with an erase of an eraseblock that isn't the dump's", of(f'eraseblock {given_up} of',
+            '-s', plan.count - 1, '-d', 'dump', change=done(plan.count - 2, byte(given_up)))
         yield 'page 0 programmed twice without sub-pages', of('which needs sub-pages', change=said('subpagesize', 2048))
-        yield 'no folder for scratch files', of('no folder for scratch files', start={'environment': {'TMPDIR': '/nowhere'}})
+        yield 'no folder for scratch files', of('no folder for scratch files',
+            start={'environment': {'TMPDIR': '/nowhere'}})
         yield 'a nanddump that is too old', of('no --bb=dumpbad', change=lambda chip: stub(chip, 'nanddump'))
         yield 'a flash_erase that is too old', of('has no -N', change=lambda chip: stub(chip, 'flash_erase'))
 
@@ -627,10 +665,11 @@ class Cases:
 
     def try_wrong_words(self):
         chip = self.chip()
-        for words in ((), ('-h',), ('--help',), ('-x', *chip.words()), chip.words()[:-1], (*chip.words(), 'more'), ('-d',), ('-s',)):
+        right = chip.words()
+        for words in ((), ('-h',), ('--help',), ('-x', *right), right[:-1], (*right, 'more'), ('-d',), ('-s',)):
             ran = chip.end(chip.start(list(words)))
-            expect(ran.status == 2 and '\nExit status: 0 done' in ran.err and ran.err.rstrip().endswith("busybox's.") and not ran.out,
-                f'of {words} comes {ran}')
+            is_usage = '\nExit status: 0 done' in ran.err and ran.err.rstrip().endswith("busybox's.")
+            expect(ran.status == 2 and is_usage and not ran.out, f'{words} give {ran}')
             expect(chip.data() == chip.held and not ran.log, f'{words} write something')
 
     def try_links_and_blanks(self):
@@ -641,7 +680,7 @@ class Cases:
             for name in ('dump', 'plan', 'pages'):
                 (chip.folder / name).rename(chip.folder / f'-e a=b *{name}')
             words = chip.words('-d', '-e a=b *dump', device='a link', plan='-e a=b *plan', pages='-e a=b *pages')
-            # behind -- they are no options
+            # after -- they are no options
             ran = chip.end(chip.start([*words[:2], '--', *words[2:]], shell))
             chip.expect(ran, 0, chip.plan.after[-1], [line for _, line in chip.plan.all_writes()])
 
@@ -659,7 +698,7 @@ class Cases:
         chip.expect(ran, 0, chip.plan.after[-1], [line for _, line in chip.plan.all_writes()])
 
     def try_bits_of_bad_ones(self):
-        """What a bad eraseblock holds isn't read."""
+        """The contents of a bad eraseblock aren't read."""
         chip = self.chip()
         chip.set('unread', *(p * 4 for p in chip.plan.bad))
         ran = chip.run('-d', 'dump')
@@ -675,7 +714,7 @@ class Cases:
             chip.expect(ran, 0, plan.after[n], plan.writes(n) if plan.steps[n - 1][0] == 'erase' else [])
 
     def try_the_half_of_a_page(self):
-        """Going on with a step of page 0, of which one sub-page has been programmed."""
+        """Going on with a step that programs page 0, after one sub-page of it has been programmed."""
         (geometry, sub), rng = SIZES[1], random.Random(1)
         image = image_of(geometry, LAYOUTS['clean'])
         made = rules.Plan(rules.Image(geometry, image))
@@ -715,11 +754,15 @@ class Cases:
         chip = self.chip()
         chip.set('fault', '1 attach')
         ran = chip.run('-d', 'dump')
-        chip.expect(ran, 1, chip.plan.after[1], chip.plan.writes(1), f'step 2 of {chip.plan.count} ({chip.plan.line(2)}) failed: UBI has')
+        failed = f'step 2 of {chip.plan.count} ({chip.plan.line(2)}) failed: UBI has'
+        chip.expect(ran, 1, chip.plan.after[1], chip.plan.writes(1), failed)
 
     def try_interrupts(self):
-        """A signal ends the plan behind the step that is at work, whoever gets it; and nothing is left."""
-        ways = ((signal.SIGINT, os.killpg), (signal.SIGTERM, os.kill), (signal.SIGHUP, os.killpg), (signal.SIGTERM, os.killpg))
+        """A signal ends the plan after the current step, whoever gets it; and no scratch file is left."""
+        ways = (
+            (signal.SIGINT, os.killpg), (signal.SIGTERM, os.kill), (signal.SIGHUP, os.killpg),
+            (signal.SIGTERM, os.killpg),
+        )
         for shell, (sign, kill) in zip((*SHELLS_THERE, 'dash'), ways):
             chip = self.chip()
             chip.set('fault', '2 slow')
@@ -728,7 +771,8 @@ class Cases:
             kill(child.pid, sign)
             ran = chip.end(child)
             n = chip.plan.all_writes()[1][0]
-            chip.expect(ran, 1, chip.plan.after[n], [line for _, line in chip.plan.all_writes(1, n)], f'interrupted before step {n + 1} of')
+            writes = [line for _, line in chip.plan.all_writes(1, n)]
+            chip.expect(ran, 1, chip.plan.after[n], writes, f'interrupted before step {n + 1} of')
 
     def try_interrupts_of_checks(self):
         for shell, kill in zip(SHELLS_THERE, (os.kill, os.killpg, os.killpg)):
@@ -738,11 +782,12 @@ class Cases:
             wait_for(chip.chip / 'reached')
             kill(child.pid, signal.SIGTERM)
             ran = chip.end(child)
-            expect(ran.status == 2 and ran.err.endswith('carry_out: interrupted; nothing was written\n'), f'{shell}: {ran}')
+            is_said = ran.err.endswith('carry_out: interrupted; nothing was written\n')
+            expect(ran.status == 2 and is_said, f'{shell}: {ran}')
             expect(chip.data() == chip.held and not ran.log, 'something was written')
 
     def try_outputs(self):
-        """An output that is closed, full or broken ends no plan, and is no step that fails."""
+        """An output that is closed, full or broken doesn't end a plan or make a step fail."""
         for shell in SHELLS_THERE:
             for kind in ('full', 'closed', 'broken', 'no error', 'nothing'):
                 if shell == 'bash' and kind != 'full':
@@ -762,13 +807,15 @@ class Cases:
                     closed = {'closed': (1,), 'no error': (2,), 'nothing': (0, 1, 2)}[kind]
                     child = chip.start(words, shell, preexec_fn=lambda closed=closed: [os.close(fd) for fd in closed])
                     ran = chip.end(child)
-                expect(ran.status == 0 and ran.log == [line for _, line in chip.plan.all_writes(1, 2)], f'{kind} in {shell}: {ran}')
-                expect(chip.data() == chip.plan.with_bad(chip.plan.after[2]), f'{kind} in {shell}: the chip holds something else')
+                name = f'{kind} in {shell}'
+                writes = [line for _, line in chip.plan.all_writes(1, 2)]
+                expect(ran.status == 0 and ran.log == writes, f'{name}: {ran}')
+                expect(chip.data() == chip.plan.with_bad(chip.plan.after[2]), f'{name}: the chip holds something else')
                 if kind in ('full', 'broken'):
-                    expect(f'carry_out: ended after step 2 of {chip.plan.count}\n' in ran.err, f'{kind} in {shell}: {ran}')
+                    expect(f'carry_out: ended after step 2 of {chip.plan.count}\n' in ran.err, f'{name}: {ran}')
 
     def try_outputs_of_a_fault(self):
-        """And a step that fails fails, though no line can be told."""
+        """A step that fails ends the plan even if no line can be printed."""
         for shell in SHELLS_THERE:
             chip = self.chip()
             chip.set('fault', '3 fail')
@@ -781,60 +828,71 @@ class Cases:
         peb, page, blocks, p = 2**22, 2**15, 1100, 1050
         for shell in SHELLS_THERE:
             chip = self.chip()
-            for name, value in (('size', peb * blocks), ('erasesize', peb), ('writesize', page), ('subpagesize', page)):
+            sizes = {'size': peb * blocks, 'erasesize': peb, 'writesize': page, 'subpagesize': page}
+            for name, value in sizes.items():
                 chip.say(name, value)
             chip.set('bad', 3)
             (chip.chip / 'blank').write_bytes(b'\xFF' * peb)
             chip.device.write_bytes(b'')
             os.truncate(chip.device, peb * blocks)
             data = [random.Random(k).randbytes(page) for k in range(2)]
-            chip.put('plan', f'steps 3\nerase block={p}\nprogram block={p} page=1\nprogram block={p} page=127\n'.encode())
+            steps = f'erase block={p}', f'program block={p} page=1', f'program block={p} page=127'
+            chip.put('plan', ''.join(f'{line}\n' for line in ('steps 3', *steps)).encode())
             chip.put('pages', b''.join(data))
             ran = chip.end(chip.start(chip.words(peb=peb, page=page), shell))
             writes = [f'erase {p}', *(f'program {p * peb + k * page} {page}' for k in (1, 127))]
             expect(ran.status == 0 and ran.log == writes, f'{ran}')
             with open(chip.device, 'rb') as file:
                 file.seek(p * peb)
-                expect(file.read(peb) == b'\xFF' * page + data[0] + b'\xFF' * 125 * page + data[1], 'the eraseblock is another')
+                blank = b'\xFF' * page
+                expect(file.read(peb) == blank + data[0] + 125 * blank + data[1], 'the eraseblock is wrong')
                 file.seek(p * peb % 2**32)
                 expect(file.read(peb) == bytes(peb), 'another eraseblock was written')
             ran = chip.end(chip.start(chip.words('-s', 4, peb=peb, page=page), shell))
             expect(ran.status == 0, f'{ran}')
 
     def try_the_tools(self):
-        """The fakes are as the tools are: which is why the script checks, reads back, and takes dd."""
+        """The fakes behave like the real tools, which is why the script checks, reads back, and uses dd."""
         chip = self.chip()
         bad, page = chip.plan.bad[0], chip.plan.geometry.page
-        environment = {**os.environ, 'PATH': f'{FAKES}:{os.environ["PATH"]}', 'FAKE_CHIP': str(chip.chip), 'FAKE_DD': REAL_DD,
-            'FAKE_PYTHON': sys.executable, 'CARRY_OUT_ROOT': str(chip.root)}
+        environment = {
+            **os.environ, 'PATH': f'{FAKES}:{os.environ["PATH"]}', 'FAKE_CHIP': str(chip.chip), 'FAKE_DD': REAL_DD,
+            'FAKE_PYTHON': sys.executable, 'CARRY_OUT_ROOT': str(chip.root),
+        }
 
         def run(*words):
             done = subprocess.run([str(FAKES / words[0]), *map(str, words[1:])], env=environment, capture_output=True)
             return done.returncode, done.stdout, done.stderr.decode()
 
         peb, device = chip.plan.geometry.peb, chip.device
-        expect(run('flash_erase', '-q', device, bad * peb, 1) == (0, b'', '') and chip.data() == chip.held, 'flash_erase erases a bad one')
+        ran = run('flash_erase', '-q', device, bad * peb, 1)
+        expect(ran == (0, b'', '') and chip.data() == chip.held, 'flash_erase erases a bad eraseblock')
         status, _, err = run('flash_erase', '-q', '-N', device, bad * peb, 1)
-        expect(status == 0 and 'MTD Erase failure' in err and chip.data() == chip.held, 'flash_erase -N tells nothing')
-        sizes = {'dumpbad': len(chip.held), 'padbad': len(chip.held), 'skipbad': len(chip.held) - len(chip.plan.bad) * peb}
+        is_said = status == 0 and 'MTD Erase failure' in err
+        expect(is_said and chip.data() == chip.held, 'flash_erase -N prints no failure')
+        whole = len(chip.held)
+        sizes = {'dumpbad': whole, 'padbad': whole, 'skipbad': whole - len(chip.plan.bad) * peb}
         wanted = {'dumpbad': chip.held, 'padbad': chip.plan.image}
         for method, size in sizes.items():
             status, out, err = run('nanddump', '-q', f'--bb={method}', device)
-            expect((status, len(out), err) == (0, size, '') and out == wanted.get(method, out), f'nanddump --bb={method} gives others')
+            is_right = (status, len(out), err) == (0, size, '') and out == wanted.get(method, out)
+            expect(is_right, f'nanddump --bb={method} gives other bytes')
         chip.set('unread', 5)
         status, out, err = run('nanddump', '-q', '--bb=dumpbad', '-s', 5 * page, '-l', page, device)
-        told = f'ECC: 1 uncorrectable bitflip(s) at offset 0x{5 * page:08x}\n'
-        expect((status, len(out), err) == (0, page, told), 'nanddump tells no bits')
+        line = f'ECC: 1 uncorrectable bitflip(s) at offset 0x{5 * page:08x}\n'
+        expect((status, len(out), err) == (0, page, line), 'nanddump prints no uncorrectable bits')
         chip.fill(chip.plan.after[1])
         chip.put('new', b'x' * page)
         at = chip.plan.steps[0][1] * peb // page
-        words = ('dd', f'if={chip.folder / "new"}', f'of={device}', f'bs={page}', f'seek={at + 1}', 'count=1', 'conv=notrunc')
+        place = slice((at + 1) * page, (at + 2) * page)
+        files = f'if={chip.folder / "new"}', f'of={device}'
+        words = ('dd', *files, f'bs={page}', f'seek={at + 1}', 'count=1', 'conv=notrunc')
         chip.set('fault', '1 fail')
         before = chip.data()
         expect(run(*words)[0] == 1 and chip.data() == before, 'dd fails with another status')
-        expect(run(*words)[0] == 0 and chip.data()[(at + 1) * page : (at + 2) * page] == b'x' * page, 'dd writes nothing')
+        expect(run(*words)[0] == 0 and chip.data()[place] == b'x' * page, 'dd writes nothing')
         chip.put('new', b'y' * page)
-        expect(run(*words)[0] == 0 and chip.data()[(at + 1) * page : (at + 2) * page] == b'x' * page, 'a program sets bits')
+        expect(run(*words)[0] == 0 and chip.data()[place] == b'x' * page, 'a program sets bits')
         status, out, err = run('nanddump', '-q', '--bb=dumpbad', '-s', (at + 1) * page, '-l', page, device)
         expect('uncorrectable' in err, 'a second program can be read')
 
@@ -844,11 +902,11 @@ def wait_for(path):
         if path.exists():
             return
         time.sleep(0.01)
-    raise Failure(f'{path} never comes')
+    raise Failure(f'{path} never appears')
 
 
 def stub(chip, name):
-    """Puts a tool that knows nothing before the fake one."""
+    """Puts a tool without options before the fake one on the PATH."""
     (chip.folder / 'stubs').mkdir()
     (chip.folder / 'stubs' / name).write_text('#!/bin/sh\necho "usage"\n')
     (chip.folder / 'stubs' / name).chmod(0o755)
@@ -857,7 +915,7 @@ def stub(chip, name):
 def main():
     words = argparse.ArgumentParser(description=__doc__, formatter_class=argparse.RawDescriptionHelpFormatter)
     words.add_argument('--tool', help='the program, whose plans are compared, and which says what a chip means')
-    words.add_argument('--script', default=str(ROOT / 'carry_out.sh'), help='the script; ./carry_out.sh where it is left out')
+    words.add_argument('--script', default=str(ROOT / 'carry_out.sh'), help='the script; ./carry_out.sh by default')
     words.add_argument('--only', default='', help='run the cases whose names have this word')
     words = words.parse_args()
     for name in SHELLS:
@@ -865,7 +923,8 @@ def main():
             print(f'not tried: there is no {name}')
     passed = failed = 0
     with tempfile.TemporaryDirectory() as folder:
-        for name, test in Cases(Path(folder).resolve(), str(Path(words.script).resolve()), words.tool).all():
+        cases = Cases(Path(folder).resolve(), str(Path(words.script).resolve()), words.tool)
+        for name, test in cases.all():
             if words.only not in name:
                 continue
             try:
@@ -874,7 +933,7 @@ def main():
             except Failure as failure:
                 failed += 1
                 print(f'failed: {name}: {failure}', flush=True)
-            except Exception as error:  # such as a file that isn't there
+            except Exception as error:  # such as a missing file
                 failed += 1
                 print(f'failed: {name}: {error!r}', flush=True)
     print(f'{passed} passed, {failed} failed')

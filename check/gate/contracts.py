@@ -1,7 +1,8 @@
 """Reads which names the contracts of a crate's public items hold, as rt fmt lays the items out.
 
-Public is what src/lib.rt exports, with the methods and the ghost lines of exported types and traits, but those of a trait that
-the crate keeps to itself. A program exports nothing: there it is what has the word `pub`.
+An item is public if src/lib.rt exports it, with the methods and the ghost lines of exported types and traits, except
+those of a trait that the crate keeps to itself. A program exports nothing: there an item is public if it has the word
+`pub`.
 """
 import os
 import re
@@ -12,7 +13,7 @@ IMPL = re.compile(r"^(?:unsafe )?impl(?:<.*?>)? (?:(?P<trait>[^{]*?) for )?&?(?P
 
 
 def exports(folder):
-    """The modules that a library exports, and the names, each behind its module; None for a program."""
+    """The modules that a library exports, and the names, each after its module; None for a program."""
     path = os.path.join(folder, "lib.rt")
     if not os.path.exists(path):
         return None
@@ -37,7 +38,7 @@ def end_of(lines, start, indent):
 
 
 def contract_end(lines, start, indent):
-    """The line that opens a function's body, or ends it where it has none."""
+    """The line that opens a function's body, or that ends the function if it has none."""
     for at in range(start, len(lines)):
         line = lines[at].rstrip()
         if indent_of(line) <= indent and line.endswith(("{", "{}")) or line.endswith(";"):
@@ -46,7 +47,8 @@ def contract_end(lines, start, indent):
 
 
 def members(block):
-    """The functions of an impl or a trait, each with its word `pub` and its contract, and the other lines."""
+    """The functions of an impl or a trait, each with whether it has `pub` and with its contract, and the other
+    lines."""
     functions, rest, at = [], [block[0]], 1
     while at < len(block):
         start = FN.match(block[at])
@@ -67,12 +69,13 @@ def own_traits(folder, exported):
         if name.endswith(".rt"):
             with open(os.path.join(folder, name), encoding="utf-8") as file:
                 found = re.findall(r"^(?:pub )?trait (\w+)", file.read(), re.M)
-            names.update(word for word in found if name[:-3] not in exported[0] and (name[:-3], word) not in exported[1])
+            if name[:-3] not in exported[0]:
+                names.update(word for word in found if (name[:-3], word) not in exported[1])
     return names
 
 
 def public_parts(lines, module, exported, hidden):
-    """The texts of the public contracts of a file, each with the `ghost use` lines that it stands under."""
+    """The texts of the public contracts of a file, each with the `ghost use` lines that apply to it."""
     own = {item["name"] for item in map(TYPE.match, lines) if item and item["pub"]}
 
     def is_public(name, module=module):
@@ -103,7 +106,8 @@ def public_parts(lines, module, exported, hidden):
 
 
 def public_contracts(root, crate, module=None):
-    """The texts of the public contracts of a crate, or of one module, each with the `ghost use` lines that it stands under."""
+    """The texts of the public contracts of a crate, or of one module, each with the `ghost use` lines that apply to
+    it."""
     folder = os.path.join(root, "crates", crate, "src")
     exported = exports(folder)
     hidden = own_traits(folder, exported)

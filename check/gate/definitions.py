@@ -1,24 +1,26 @@
 #!/usr/bin/env python3
-"""Prints the definitions that the promise rests on, each once, those below before those above, and the contracts of its calls.
+"""Prints the definitions that the promise rests on, each once and after those that it uses, and the contracts of its
+calls.
 
 usage: definitions.py [--files] [--down] [LAW ..]
        definitions.py --calls
        definitions.py --check
 
-A law is named by crate, file and name, such as ubi_change.Planned.SurvivesCutsOf; without one it is the headline
-(ubi_commands.Headline.Headline) with the contracts of the calls that compute what it speaks of, which are printed last. What a
-definition names is followed through the `use` lines of its file, as far as it lies in a folder specs/ of this repository; what
-the standard library defines isn't printed. Then, and with --files only, the files are listed, each behind those that it uses,
-with the number of lines of these definitions of all its lines; then the files of src/ with the structs and enums that they
-name. With --down each file stands before those that it uses. The exit status is 1 where a name can't be followed.
+A law is named by crate, file and name, such as ubi_change.Planned.SurvivesCutsOf; the default is the headline
+(ubi_commands.Headline.Headline) with the contracts of the calls that compute what it speaks of, which are printed last.
+The script follows the names in a definition through the `use` lines of its file, as far as they lie in a folder specs/
+of this repository; it doesn't print what the standard library defines. Then it lists the files, each after those that
+it uses, with the number of lines of these definitions and of all its lines; then the files of src/ with the structs and
+enums that the definitions name. With --files it prints these lists only. With --down each file comes before those that
+it uses. The exit status is 1 if a name can't be followed.
 
-With --calls contracts alone are printed: those of these calls, and then of the calls that the program makes in their place, over files
-that it reads and writes piece by piece, with the call that `main` makes.
+With --calls it prints contracts only: those of these calls, and then those of the calls that the program makes in their
+place, over files that it reads and writes piece by piece, with the call that `main` makes.
 
-With --check the files that the promise rests on are listed, and those that all public contracts rest on. What only private
-functions' contracts and proofs of one crate cite lies in specs/inner/. The exit status is 1 if a public contract, a file above that
-folder or another crate reaches into it, if no public contract reaches a definition above it and no other crate cites that, and if
-a definition has no sentence before it.
+With --check it lists the files that the promise rests on, and those that all public contracts rest on. Definitions that
+only private functions' contracts and proofs of one crate cite lie in specs/inner/. The exit status is 1 if a public
+contract, a file above that folder or another crate reaches into it, if no public contract reaches a definition above it
+and no other crate cites that, or if a definition has no sentence before it.
 """
 import os
 import re
@@ -27,7 +29,11 @@ import sys
 import contracts
 
 ROOT = os.path.dirname(os.path.dirname(os.path.dirname(os.path.abspath(__file__))))
-CRATES = ("ubi_words", "ubi_media", "ubi_config", "ubi_scan", "ubi_detect", "ubi_files", "ubi_table", "ubi_volume", "ubi_compose", "ubi_compare", "ubi_change", "ubi_probe", "ubi_json", "ubi_map", "ubi_commands", "ubi_calls", "ubi_tool")
+CRATES = (
+    "ubi_words", "ubi_media", "ubi_config", "ubi_scan", "ubi_detect", "ubi_files", "ubi_table", "ubi_volume",
+    "ubi_compose", "ubi_compare", "ubi_change", "ubi_probe", "ubi_json", "ubi_map", "ubi_commands", "ubi_calls",
+    "ubi_tool",
+)
 HEADLINE = ("ubi_commands", "Headline", "Headline")
 # The calls that compute what the headline speaks of, by their files.
 CALLS = (
@@ -38,8 +44,8 @@ CALLS = (
     ("ubi_change", "change", "plan_change"),
     ("ubi_change", "rename", "plan_rename"),
 )
-# The calls that the program makes of the libraries, over sources and writers, and the one that `main` makes. What `show`, `compose` and
-# `build` read first is in docs/PROVED.md.
+# The calls of the libraries that the program makes, over sources and writers, and the one that `main` makes.
+# docs/PROVED.md says what `show`, `compose` and `build` read first.
 PROGRAM_CALLS = (
     ("ubi_detect", "detect", "detect_from"),
     ("ubi_volume", "places", "attach_places"),
@@ -58,14 +64,15 @@ NAME = r"[^\s(){}.,;:λ→←∷≡×⊎]+"
 # What a `use` line takes from a file of definitions: the crate, the file, and the names.
 CITED = re.compile(r"\bRattle\.(ubi_\w+)\.specs\.([\w.]+)\.\{([^}]*)\}")
 # The first line of a definition: its modifiers, and then its name with a colon, or a record or a family with its own. A
-# level may stand before the colon.
+# level may come before the colon.
 START = re.compile(
-    rf"^\s*(?:abbrev |unfoldable )?(?:pub )?(?:(?:record|data) (?P<kind>{NAME})|(?P<name>{NAME})(?: {NAME})*(?: \{{ℓ\}})? :(?!:))")
+    r"^\s*(?:abbrev |unfoldable )?(?:pub )?"
+    rf"(?:(?:record|data) (?P<kind>{NAME})|(?P<name>{NAME})(?: {NAME})*(?: \{{ℓ\}})? :(?!:))")
 USE = re.compile(r"^(?:ghost )?use Rattle\.(ubi_\w+)\.specs\.([\w.]+?)(?:\.\{(.*)\}| as ([^\s;]+))?;?$")
 
 
 def is_named(name, words, text):
-    """Whether a text names a definition: by its word, an operator by its signs, and `>>=` by the word `do` too."""
+    """Whether a text names a definition: by its word, or an operator by its signs, and `>>=` also by the word `do`."""
     if "◌" not in name:
         return name in words
     return all(part in text for part in name.split("◌")) or (name == "◌>>=◌" and "do" in words)
@@ -126,7 +133,7 @@ class File(Uses):
                 comment = []
 
     def take_line(self, line, item, comment, head):
-        """Adds a line to the definition that it begins or goes on with. Gives the name of that."""
+        """Adds a line to the definition that it begins or continues. Returns the name of that definition."""
         indent = len(line) - len(line.lstrip())
         start = START.match(line)
         begins = start and (indent == 0 or (head and indent == 2 and item not in self.items_open(item)))
@@ -141,7 +148,8 @@ class File(Uses):
     def items_open(self, item):
         """The definition whose fields or cases come next, if it has any."""
         lines = self.items.get(item, [])
-        return {item} if any(re.search(r"(record|data) .* where$", line) for line in lines) or self.is_family(lines) else set()
+        is_open = any(re.search(r"(record|data) .* where$", line) for line in lines) or self.is_family(lines)
+        return {item} if is_open else set()
 
     @staticmethod
     def is_family(lines):
@@ -170,19 +178,20 @@ def file_of(crate, name):
 
 
 def is_ours(crate, name):
-    """Whether a file is one of definitions, and not what is made of the program's types and contracts."""
+    """Whether a file is one of definitions, and not one that is generated from the program's types and contracts."""
     return crate in CRATES and not name.startswith(("declared", "contracts"))
 
 
 def follow(crate, name, item, seen, missing):
-    """Puts a definition behind all that it names."""
+    """Puts a definition after all that it names."""
     if (crate, name, item) in seen or not is_ours(crate, name):
         return
     seen[crate, name, item] = False
     file = file_of(crate, name)
     if item not in file.items:
         # A case of a family, or a field of a record, is part of it.
-        owners = [owner for owner, lines in file.items.items() if any(re.match(rf"^\s+(pub )?{re.escape(item)} :", line) for line in lines)]
+        part = re.compile(rf"^\s+(pub )?{re.escape(item)} :")
+        owners = [owner for owner, lines in file.items.items() if any(map(part.match, lines))]
         del seen[crate, name, item]
         if not owners:
             missing.append(f"{crate}.{name}.{item}")
@@ -196,7 +205,7 @@ def follow(crate, name, item, seen, missing):
 
 
 def rests_on(names):
-    """The definitions that some rest on, those below before those above, and the names that can't be followed."""
+    """The definitions that some rest on, each after those that it uses, and the names that can't be followed."""
     seen, missing = {}, []
     for name in names:
         follow(*name, seen, missing)
@@ -204,7 +213,7 @@ def rests_on(names):
 
 
 def in_order(files):
-    """Files, each behind those of them that it uses."""
+    """Files, each after those of them that it uses."""
     done = []
 
     def put(key):
@@ -221,19 +230,19 @@ def in_order(files):
 
 
 def ordered(seen, down):
-    """The files of definitions, each behind those of them that it uses, or before them."""
+    """The files of definitions, each after those of them that it uses, or before them."""
     files = in_order({name[:2] for name in seen})
     return files[::-1] if down else files
 
 
 def texts_of(key, seen):
-    """The texts of a file's definitions that were seen."""
+    """The texts of those definitions of a file that were seen."""
     file = FILES[key]
     return [text for item, text in file.items.items() if (*key, item) in seen]
 
 
 def contract_of(crate, module, name):
-    """The `use` lines that the contract of a public function stands under, and its lines."""
+    """The `use` lines that apply to the contract of a public function, and its lines."""
     for uses, lines in contracts.public_contracts(ROOT, crate, module):
         if re.match(rf"pub fn {name}\b", lines[0]):
             return uses, lines
@@ -246,7 +255,7 @@ def named_by(uses, lines):
 
 
 def promise():
-    """The headline, and what the contracts of the calls name."""
+    """The headline, and the definitions that the contracts of the calls name."""
     return [HEADLINE, *sorted(set().union(*(named_by(*contract_of(*call)) for call in CALLS)))]
 
 
@@ -317,7 +326,7 @@ def cited_beyond():
 
 
 def misplaced(public):
-    """What lies in the wrong folder, by the definitions that public contracts reach, and those that other crates cite."""
+    """The definitions that lie in the wrong folder, given those that public contracts reach."""
     beyond = cited_beyond()
     for crate, name, item in public:
         if is_inner(name):
@@ -338,7 +347,7 @@ def misplaced(public):
 
 
 def unsaid():
-    """The definitions that no sentence stands before."""
+    """The definitions that have no sentence before them."""
     for crate in CRATES:
         for name in all_files(crate):
             for item, lines in file_of(crate, name).items.items():
@@ -347,7 +356,7 @@ def unsaid():
 
 
 def check():
-    """Prints what the promise and all public contracts rest on. Gives what is wrong with that."""
+    """Prints what the promise and all public contracts rest on. Returns what is wrong with that."""
     promised, missing = rests_on(promise())
     cited = set()
     for crate in CRATES:
@@ -361,8 +370,8 @@ def check():
     return [f"{name} can't be followed" for name in missing + more] + list(misplaced(public)) + list(unsaid())
 
 
-def tell(words):
-    """Prints what laws rest on, or the promise. Gives what is wrong with that."""
+def print_laws(words):
+    """Prints what laws, or the promise, rest on. Returns what is wrong with that."""
     laws = [tuple(re.match(r"(\w+)\.(.*)\.(\S+)$", word).groups()) for word in words if not word.startswith("--")]
     seen, missing = rests_on(laws or promise())
     if "--files" not in words:
@@ -382,7 +391,7 @@ def main():
     elif words == ["--calls"]:
         print_contracts(CALLS + PROGRAM_CALLS)
     else:
-        wrong = tell(words)
+        wrong = print_laws(words)
     for line in wrong:
         print(line, file=sys.stderr)
     sys.exit(1 if wrong else 0)

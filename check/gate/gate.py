@@ -1,16 +1,16 @@
 #!/usr/bin/env python3
-"""Runs the gate's proofs, and tells what they took of the processor, crate by crate.
+"""Runs the gate's proofs, and prints how much processor time they took, crate by crate.
 
 usage: gate.py COMMAND .. [-- COMMAND ..]
 
-`.ci/run` calls it with `rt ci`, and with `attacks/run --gate`, which plants bugs in what `rt ci` has proved. While the commands run,
-the processes below are looked at each second, so what a process took is known but for its last second. It prints minutes of the
-processor: of each crate what its own proof took, its proof with tests, and the checks of its bugs; what everything took, as the
-system counts it; and how many times that is what the proof of ubi_table took. 90 times is the budget of the gate. The exit status
-is that of the first command that fails, and those behind it aren't run.
+`.ci/run` calls it with `rt ci`, and with `attacks/run --gate`, which plants bugs in what `rt ci` has proved. While the
+commands run, it looks at their processes each second, so it knows what a process took except for its last second. It
+prints processor minutes: for each crate those of its own proof, of its proof with tests, and of the checks of its bugs;
+those of everything, as the system counts them; and the ratio of that to the proof of ubi_table. A ratio of 90 is the
+budget of the gate. The exit status is that of the first command that fails; those after it aren't run.
 
-What `rt ci` passed before on the machine it doesn't do again, so a ratio holds only where everything was proved anew, and best on
-a machine that does nothing else.
+`rt ci` doesn't repeat what it has passed on the machine before, so a ratio is valid only if everything was proved anew,
+and it is most exact on a machine that does nothing else.
 """
 import os
 import re
@@ -25,7 +25,7 @@ KINDS = ("proof", "tests", "bugs")
 
 
 def read(*path):
-    """What a file of a process says; nothing where the process is gone."""
+    """What a file of a process says; nothing if the process is gone."""
     try:
         with open(os.path.join("/proc", *path), "rb") as file:
             return file.read()
@@ -42,7 +42,7 @@ def place(pid):
 
 
 def work_of(pid):
-    """The crate that a process checks, and what of it; None where it does something else."""
+    """The crate that a process checks, and which part of it; None if it does something else."""
     words = read(pid, "cmdline").decode(errors="replace").split("\0")
     if "--crate-name" not in words[:-1]:
         return None
@@ -53,7 +53,7 @@ def work_of(pid):
 
 
 def look(seen, top):
-    """Notes what each process below TOP has taken so far. A process keeps the work that it was seen at first."""
+    """Notes what each process below TOP has taken so far. A process keeps the work that it was first seen with."""
     parents, used = {}, {}
     for pid in filter(str.isdigit, os.listdir("/proc")):
         fields = read(pid, "stat").rpartition(b") ")[2].split()
@@ -70,7 +70,7 @@ def look(seen, top):
 
 
 def measure(words, seen):
-    """Runs a command, and notes what each process below it took, in seconds of the processor. Gives its status."""
+    """Runs a command, and notes what each process below it took, in processor seconds. Returns its status."""
     child = subprocess.Popen(words, cwd=ROOT, stdin=subprocess.DEVNULL)
     while child.poll() is None:
         look(seen, str(child.pid))
@@ -79,7 +79,7 @@ def measure(words, seen):
 
 
 def commands():
-    """The commands that the words name."""
+    """The commands that the arguments name."""
     found = [[]]
     for word in sys.argv[1:]:
         if word == "--":

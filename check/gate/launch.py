@@ -1,12 +1,13 @@
 #!/usr/bin/env python3
-"""What a shell gets of the program and of its launcher: the status, and what comes on each output.
+"""Checks what a shell gets from the program and from its launcher: the status, and the bytes on each output.
 
 usage: launch.py [--tool PROGRAM]
 
-The program is run with words that are right, wrong, no text, or refused; with a terminal for standard error, which is told how far
-long work is, and with a pipe, which isn't; and through `./ubi_tool`, called by links, in folders and with words that have blanks. With
-an `rt` that builds another program it has to run just that where a source is newer, and nothing where the build fails.
-Ends with 'N passed, M failed', and with status 1 where some failed.
+It runs the program with words that are right, wrong, not UTF-8, or refused; with a terminal for standard error, which
+has to show how far long work is, and with a pipe, which has to get nothing; and through `./ubi_tool`, called by links,
+in folders and with words that have blanks. With an `rt` that builds another program, the launcher has to run that
+program if a source is newer, and nothing if the build fails. Ends with 'N passed, M failed', and with status 1 if some
+failed.
 """
 import argparse
 import os
@@ -24,11 +25,17 @@ CHIP = ['--peb', '131072', '--page', '2048']
 # How many eraseblocks of 128 KiB are long work: 256 MiB.
 LONG = 2048
 
-# What the launcher builds, in this order, and where the program lies that it runs.
-CRATES = ('ubi_words', 'ubi_media', 'ubi_config', 'ubi_scan', 'ubi_files', 'ubi_detect', 'ubi_table', 'ubi_volume', 'ubi_change', 'ubi_compose', 'ubi_compare', 'ubi_json', 'ubi_map', 'ubi_commands', 'ubi_tool')
+# The crates that the launcher builds, in this order, and the program that it runs.
+CRATES = (
+    'ubi_words', 'ubi_media', 'ubi_config', 'ubi_scan', 'ubi_files', 'ubi_detect', 'ubi_table', 'ubi_volume',
+    'ubi_change', 'ubi_compose', 'ubi_compare', 'ubi_json', 'ubi_map', 'ubi_commands', 'ubi_tool',
+)
 PROGRAM = 'crates/ubi_tool/out/launched/ubi_tool'
 
-# Words, the status, and the beginning of what comes on standard output and on standard error.
+# The words of a change and of a rename, without their image.
+CHANGE = ['--id', '0', '--lnum', '0', '--from', IMAGE, '--out', '/dev/null', *SMALL]
+RENAME = ['--id', '0', '--name', 'a', '--out', '/dev/null', *SMALL]
+# Words, the status, and the beginnings of standard output and of standard error.
 CASES = [
     ([], 2, b'', b'error: '),
     (['nonsense'], 2, b'', b'error: '),
@@ -39,12 +46,11 @@ CASES = [
     (['list', '/nonexistent', *SMALL], 1, b'cannot read /nonexistent\n', b''),
     (['extract', IMAGE, '--id', '7', '--out', '/dev/null', *SMALL], 1, b'refused L1 NoVolume\n', b''),
     (['list', IMAGE, *SMALL, '--bad', '3,,4'], 2, b'', b"error: '--bad <LIST>'"),
-    (['change', '/dev/zero', '--id', '0', '--lnum', '0', '--from', IMAGE, '--out', '/dev/null', *SMALL], 2, b'', b"error: '--bad <LIST>' is needed"),
-    (['change', '/dev/zero', '--id', '0', '--lnum', '0', '--from', IMAGE, '--out', '/dev/null', *SMALL, '--pebs', '8'], 2, b'',
-        b"error: '--bad <LIST>' is needed"),
-    (['rename', '/dev/zero', '--id', '0', '--name', 'a', '--out', '/dev/null', *SMALL], 2, b'', b"error: '--bad <LIST>' is needed"),
+    (['change', '/dev/zero', *CHANGE], 2, b'', b"error: '--bad <LIST>' is needed"),
+    (['change', '/dev/zero', *CHANGE, '--pebs', '8'], 2, b'', b"error: '--bad <LIST>' is needed"),
+    (['rename', '/dev/zero', *RENAME], 2, b'', b"error: '--bad <LIST>' is needed"),
     (['list', '/dev/zero', *SMALL, '--pebs', '64'], 1, b'cannot read /dev/zero\n', b''),
-    (['change', IMAGE, '--id', '0', '--lnum', '0', '--from', IMAGE, '--out', '/dev/null', *SMALL, '--blank', 'no'], 2, b'', b"error: '--blank' takes"),
+    (['change', IMAGE, *CHANGE, '--blank', 'no'], 2, b'', b"error: '--blank' takes"),
     (['same', IMAGE, IMAGE, *SMALL], 0, b'same\n', b''),
     (['same', IMAGE, ROOT / 'crates/ubi_tool/data/spare.img', *SMALL], 0, b'same\n', b''),
     (['check', IMAGE, *SMALL], 0, b'blocks 5\n', b''),
@@ -52,29 +58,29 @@ CASES = [
 
 
 def run(program, words, **more):
-    """What a run ends with: the status and both outputs. Nothing comes on standard input, unless some is given."""
+    """The status and both outputs of a run. Its standard input is empty, unless one is given."""
     if not {'stdin', 'input'} & more.keys():
         more['stdin'] = subprocess.DEVNULL
     done = subprocess.run([program, *words], stdout=subprocess.PIPE, stderr=subprocess.PIPE, check=False, **more)
     return done.returncode, done.stdout, done.stderr
 
 
-def fits(came, status, out, error):
-    """Whether it is what was wanted. Where nothing is wanted on an output, nothing may come."""
+def fits(ran, status, out, error):
+    """Whether a run ended as wanted. If nothing is wanted on an output, it has to be empty."""
     def begins(text, wanted):
         return text.startswith(wanted) if wanted else not text
-    return came[0] == status and begins(came[1], out) and begins(came[2], error)
+    return ran[0] == status and begins(ran[1], out) and begins(ran[2], error)
 
 
 def statuses(tool):
-    """Each case, by whether it fits."""
+    """Each case, and whether it fits."""
     for words, status, out, error in CASES:
-        came = run(tool, words)
-        yield f'{words}: {came}'[:300], fits(came, status, out, error)
+        ran = run(tool, words)
+        yield f'{words}: {ran}'[:300], fits(ran, status, out, error)
 
 
 def on_terminal(words):
-    """What a run shows on a terminal that standard error is."""
+    """What a run shows if its standard error is a terminal."""
     ours, theirs = pty.openpty()
     with subprocess.Popen(words, stdin=subprocess.DEVNULL, stdout=subprocess.DEVNULL, stderr=theirs) as child:
         os.close(theirs)
@@ -93,25 +99,25 @@ def on_terminal(words):
 
 
 def watching(tool, folder):
-    """That long work is told to a terminal, and to nothing else."""
+    """Long work is shown on a terminal, and nowhere else."""
     text, image = folder / 'long.txt', folder / 'long.img'
     lebs = ''.join(f'leb 0 {lnum} 61\n' for lnum in range(LONG))
     text.write_text(f'volume 0 dynamic {LONG} 1 00 long\n{lebs}')
-    came = run(tool, ['compose', text, '--out', image, *CHIP])
-    yield f'compose: {came}', came == (0, f'blocks {LONG + 2}\n'.encode(), b'')
+    ran = run(tool, ['compose', text, '--out', image, *CHIP])
+    yield f'compose: {ran}', ran == (0, f'blocks {LONG + 2}\n'.encode(), b'')
     words = ['normalise', image, '--out', '/dev/null', *CHIP]
-    came = run(tool, words)
-    yield f'with a pipe: {came}', came == (0, f'blocks {LONG + 2}\n'.encode(), b'')
+    ran = run(tool, words)
+    yield f'with a pipe: {ran}', ran == (0, f'blocks {LONG + 2}\n'.encode(), b'')
     shown = on_terminal([tool, *words])
     yield f'with a terminal: {shown[-80:]}', b'%' in shown
-    # Of 8 GiB a hundredth is 85,899,345 bytes, and the normal image has 2050 * 131,072 = 268,697,600.
+    # A hundredth of 8 GiB is 85,899,345 bytes, and the normal image has 2050 * 131,072 = 268,697,600.
     os.truncate(image, 2**33)
     shown = on_terminal([tool, *words])
     yield f'of 8 GiB: {shown[-80:]}', b'\r3 %' in shown and b'\r4 %' not in shown
 
 
 def launched(tool, folder):
-    """That the launcher runs the program that is built, by links, with the words as they were given and the status that it has."""
+    """The launcher runs the built program, also by links, passes the words on as they are, and ends with its status."""
     home = house(folder)
     shutil.copy(tool, home / PROGRAM)
     (folder / 'link').symlink_to(f'{home.name}/ubi_tool')
@@ -123,15 +129,15 @@ def launched(tool, folder):
                                    (['list', 'no image', *SMALL], 1, b'cannot read no image\n'),
                                    (['list', 'a * b', *SMALL], 1, b'cannot read a * b\n'),
                                    (['nonsense word'], 2, b'')):
-            came = run(folder / name, words, cwd=folder)
-            yield f'{name} {words}: {came}'[:300], fits(came, status, out, b'' if status < 2 else b'error: ')
+            ran = run(folder / name, words, cwd=folder)
+            yield f'{name} {words}: {ran}'[:300], fits(ran, status, out, b'' if status < 2 else b'error: ')
     with open(IMAGE, 'rb') as image:
-        came = run(folder / 'link', ['list', '/dev/stdin', *SMALL], stdin=image)
-    yield f'of standard input: {came}'[:300], fits(came, 0, b'geometry peb=512 ', b'')
+        ran = run(folder / 'link', ['list', '/dev/stdin', *SMALL], stdin=image)
+    yield f'with standard input: {ran}'[:300], fits(ran, 0, b'geometry peb=512 ', b'')
     # A pipe gives its bytes once: it is read once, to find the geometry and to answer.
     for words in (SMALL, []):
-        came = run(folder / 'link', ['list', '/dev/stdin', *words], input=IMAGE.read_bytes())
-        yield f'of a pipe {words}: {came}'[:300], fits(came, 0, b'geometry peb=512 ', b'')
+        ran = run(folder / 'link', ['list', '/dev/stdin', *words], input=IMAGE.read_bytes())
+        yield f'with a pipe as input {words}: {ran}'[:300], fits(ran, 0, b'geometry peb=512 ', b'')
 
 
 def house(folder):
@@ -153,40 +159,60 @@ def sources(home):
 
 
 def kit(folder):
-    """A folder with an `rt` that builds a program which prints its words; not where there is a file `broken` beside it."""
+    """A folder with an `rt` that builds a program which prints its words, unless there is a file `broken` beside it."""
     place = folder / 'kit'
     place.mkdir()
     (place / 'program').write_text('#!/bin/sh\necho "new $1"\nexit 7\n')
-    (place / 'rt').write_text(f'#!/bin/sh\necho "$1" >>{place}/calls\ncase $1 in\n    version) echo rattle-kit-13b ;;\n'
-                              f'    run) [ ! -e {place}/broken ] && cp {place}/program out/ubi_tool ;;\nesac\n')
+    (place / 'rt').write_text(f"""#!/bin/sh
+echo "$1" >>{place}/calls
+case $1 in
+    version) echo rattle-kit-13b ;;
+    run) [ ! -e {place}/broken ] && cp {place}/program out/ubi_tool ;;
+esac
+""")
     for name in ('program', 'rt'):
         (place / name).chmod(0o755)
     return place
 
 
 def rebuilt(tool, folder):
-    """That the launcher builds where a source is newer than the program, runs what was built, and nothing where the build fails."""
+    """The launcher builds if a source is newer than the program, and runs what it built, or nothing if the build
+    fails."""
     (folder / 'again').mkdir()
     home, tools = house(folder / 'again'), kit(folder)
     path = {'PATH': f'{tools}:/usr/bin:/bin'}
     for source in sources(home):
         shutil.copy(tool, home / PROGRAM)
         os.utime(home / PROGRAM, (2, 2))
-        came = run(home / 'ubi_tool', ['--version'], env=path)
-        yield f'before {source.name} is newer: {came}', fits(came, 2, b'', b'ubi_tool 0.1.0\n') and not (tools / 'calls').exists()
+        calls = tools / 'calls'
+        ran = run(home / 'ubi_tool', ['--version'], env=path)
+        is_right = fits(ran, 2, b'', b'ubi_tool 0.1.0\n') and not calls.exists()
+        yield f'before {source.name} is newer: {ran}', is_right
         os.utime(source, (3, 3))
-        came = run(home / 'ubi_tool', ['a word'], env=path)
-        yield f'{source} is newer: {came}', fits(came, 7, b'new a word\n', b'ubi_tool: building, once') and (tools / 'calls').exists()
-        (tools / 'calls').unlink(missing_ok=True)
-        came = run(home / 'ubi_tool', ['a word'], env=path)
-        yield f'again: {came}', came == (7, b'new a word\n', b'') and not (tools / 'calls').exists()
+        ran = run(home / 'ubi_tool', ['a word'], env=path)
+        is_right = fits(ran, 7, b'new a word\n', b'ubi_tool: building, once') and calls.exists()
+        yield f'{source} is newer: {ran}', is_right
+        calls.unlink(missing_ok=True)
+        ran = run(home / 'ubi_tool', ['a word'], env=path)
+        yield f'again: {ran}', ran == (7, b'new a word\n', b'') and not calls.exists()
         os.utime(source, (1, 1))
     os.utime(home / PROGRAM, (0, 0))
     (tools / 'broken').write_text('')
-    came = run(home / 'ubi_tool', ['a word'], env=path)
-    yield f'a build that fails: {came}', fits(came, 1, b'', b'ubi_tool: building, once')
-    came = run(home / 'ubi_tool', ['a word'], env={'PATH': '/usr/bin:/bin'})
-    yield f'without rt: {came}', fits(came, 1, b'', b'ubi_tool: not built yet')
+    ran = run(home / 'ubi_tool', ['a word'], env=path)
+    yield f'a build that fails: {ran}', fits(ran, 1, b'', b'ubi_tool: building, once')
+    ran = run(home / 'ubi_tool', ['a word'], env={'PATH': '/usr/bin:/bin'})
+    yield f'without rt: {ran}', fits(ran, 1, b'', b'ubi_tool: not built yet')
+
+
+def report(cases):
+    """Prints each case that isn't so, and how many are. Returns the exit status."""
+    passed = failed = 0
+    for name, is_so in cases:
+        passed, failed = passed + is_so, failed + (not is_so)
+        if not is_so:
+            print(f'failed: {name}')
+    print(f'{passed} passed, {failed} failed')
+    return 1 if failed else 0
 
 
 def main():
@@ -194,14 +220,10 @@ def main():
     parser.add_argument('--tool', type=Path, default=ROOT / 'crates/ubi_tool/out/ubi_tool')
     tool = parser.parse_args().tool.resolve()
     with tempfile.TemporaryDirectory(prefix='ubi-launch-') as room:
-        shutil.copy(tool, Path(room) / 'ubi_tool')
-        tool, passed, failed = Path(room) / 'ubi_tool', 0, 0
-        for told, is_so in (*statuses(tool), *watching(tool, Path(room)), *launched(tool, Path(room)), *rebuilt(tool, Path(room))):
-            passed, failed = passed + is_so, failed + (not is_so)
-            if not is_so:
-                print(f'failed: {told}')
-    print(f'{passed} passed, {failed} failed')
-    return 1 if failed else 0
+        room = Path(room)
+        shutil.copy(tool, room / 'ubi_tool')
+        tool = room / 'ubi_tool'
+        return report((*statuses(tool), *watching(tool, room), *launched(tool, room), *rebuilt(tool, room)))
 
 
 if __name__ == '__main__':

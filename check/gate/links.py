@@ -1,17 +1,19 @@
 #!/usr/bin/env python3
-"""Whether the links of the documents lead somewhere, and whether the paths that they name are there.
+"""Checks that the links of the documents lead somewhere, and that the paths in them exist.
 
 usage: links.py [FOLDER]
 
-All *.md files below FOLDER, which is this repository where it is left out, are read without their blocks of code. Looked at are
+It reads all *.md files below FOLDER, by default this repository, without their blocks of code, and checks
 
-- each link and picture that names no other site: its file has to be there, and its anchor has to be that of a heading, by GitHub's rule;
-- each word in backticks that begins with the name of a folder at the top, as docs/FORMAT.md: the path has to be there, seen from the top
-  or from the document. One with a * has to match a file. What a build makes (out/) isn't looked at, nor is what stands for a name: a part
-  in capitals without an ending, or with other characters than those of names;
-- each src/PATH in backticks right after the name of a crate, as `ubi_x`' `src/a.rt`, or right before it, as `src/a.rt` of `ubi_x`.
+- each link and picture within the repository: its file has to exist, and its anchor has to be that of a heading, by
+  GitHub's rule;
+- each word in backticks that begins with the name of a folder at the top, such as docs/FORMAT.md: the path has to
+  exist, relative to the top or to the document. A path with a * has to match a file. It skips what a build makes
+  (out/), and placeholders: a part in capitals without an ending, or with other characters than those of names;
+- each src/PATH in backticks right after the name of a crate, as `ubi_x`' `src/a.rt`, or right before it, as `src/a.rt`
+  of `ubi_x`.
 
-Each that leads nowhere is printed with its line. Ends with 'N passed, M failed', and with status 1 where some failed.
+It prints each one that leads nowhere with its line. Ends with 'N passed, M failed', and with status 1 if some failed.
 """
 import argparse
 import re
@@ -22,17 +24,19 @@ from urllib.parse import unquote
 ROOT = Path(__file__).resolve().parents[2]
 TOP = ('.ci', 'attacks', 'bench', 'c', 'check', 'completions', 'crates', 'docs', 'examples')
 CODE = re.compile(r'(?<!`)(`+)(?!`)(.+?)(?<!`)\1(?!`)', re.DOTALL)
-OF_CRATE = re.compile(r"`(?P<crate>ubi_\w+)`(?:'s?)?\s+`(?P<path>src/[\w./-]+)`|`(?P<first>src/[\w./-]+)` of `(?P<then>ubi_\w+)`")
+OF_CRATE = re.compile(
+    r"`(?P<crate>ubi_\w+)`(?:'s?)?\s+`(?P<path>src/[\w./-]+)`"
+    r"|`(?P<first>src/[\w./-]+)` of `(?P<then>ubi_\w+)`")
 LINK = re.compile(r'\]\(\s*<?([^\s)>]+)>?(?:\s+"[^"]*")?\s*\)|^\s*\[[^\]]+\]:\s+(\S+)', re.MULTILINE)
 
 
 def pages(top):
-    """The documents, without those of folders that a build or git makes."""
+    """The documents, except those in folders that a build or git makes."""
     return sorted(path for path in top.rglob('*.md') if not {'out', '.git'} & set(path.relative_to(top).parts))
 
 
 def without_blocks(text):
-    """The lines of a document, those of blocks of code empty."""
+    """The lines of a document, with empty lines for those of blocks of code."""
     fence, lines = '', []
     for line in text.splitlines():
         mark = re.match(r' {0,3}(`{3,}|~{3,})', line)
@@ -45,7 +49,8 @@ def without_blocks(text):
 
 
 def anchors(path, known={}):
-    """The anchors of a document: of each heading its words in lower case, joined by hyphens, and a number where one comes again."""
+    """The anchors of a document: for each heading its words in lower case, joined by hyphens, and a number if it is
+    repeated."""
     if path not in known:
         found = set(re.findall(r'<a (?:id|name)="([^"]+)"', path.read_text()))
         for line in without_blocks(path.read_text()):
@@ -80,7 +85,7 @@ def paragraphs(lines):
 
 
 def links(path, text):
-    """Each link of a paragraph that names no other site, and whether it leads somewhere."""
+    """Each link of a paragraph within the repository, and whether it leads somewhere."""
     hidden = CODE.sub(lambda code: re.sub(r'[^\n]', '.', code[0]), text)
     for link in LINK.finditer(hidden):
         target = link[1] or link[2]
@@ -93,12 +98,17 @@ def links(path, text):
 
 
 def is_there(top, path, word):
-    """Whether a path is there, seen from the top or from a document."""
+    """Whether a path exists, relative to the top or to a document."""
     return any(any(folder.glob(word)) if '*' in word else (folder / word).exists() for folder in (top, path.parent))
 
 
+def is_placeholder(part):
+    """Whether a part of a path stands for a name."""
+    return not re.fullmatch(r'[\w.*-]+', part) or re.fullmatch(r'[A-Z_]{2,}', part)
+
+
 def paths(top, path, text):
-    """Each path in backticks of a paragraph, and whether it is there."""
+    """Each path in backticks of a paragraph, and whether it exists."""
     for found in OF_CRATE.finditer(text):
         crate, name = found['crate'] or found['then'], found['path'] or found['first']
         yield found.start(), f'the path {name} of {crate}', (top / 'crates' / crate / name).exists()
@@ -106,8 +116,7 @@ def paths(top, path, text):
         for word in re.sub(r'(\.\w+):\d+(?:-\d+)?\b', r'\1', code[2]).split():
             word = word.rstrip('/,;')
             parts = word.removeprefix('./').split('/')
-            if len(parts) < 2 or 'out' in parts or '..' in parts or not all(re.fullmatch(r'[\w.*-]+', part) for part in parts) \
-                    or any(re.fullmatch(r'[A-Z_]{2,}', part) for part in parts):
+            if len(parts) < 2 or 'out' in parts or '..' in parts or any(map(is_placeholder, parts)):
                 continue
             if parts[0] in TOP:
                 yield code.start(), f'the path {word}', is_there(top, path, '/'.join(parts))
@@ -123,7 +132,8 @@ def main():
             for place, what, good in (*links(path, text), *paths(top, path, text)):
                 passed, failed = passed + good, failed + (not good)
                 if not good:
-                    print(f'failed: {path.relative_to(top)}:{start + text.count(chr(10), 0, place)}: {what} leads nowhere')
+                    line = start + text.count('\n', 0, place)
+                    print(f'failed: {path.relative_to(top)}:{line}: {what} leads nowhere')
     print(f'{passed} passed, {failed} failed')
     return 1 if failed or not passed else 0
 

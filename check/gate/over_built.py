@@ -1,4 +1,5 @@
-"""Calls of `rattle` over the libraries that `rt ci` built. No stamp says of what those were built, so `rt` would build them again."""
+"""Calls of `rattle` with the libraries that `rt ci` built. No stamp says what those were built from, so `rt` would
+build them again."""
 import subprocess
 from pathlib import Path
 
@@ -6,9 +7,9 @@ ROOT = Path(__file__).resolve().parents[2]
 
 
 def printed(words, folder):
-    """What a command prints that runs in a folder."""
-    return subprocess.run(words, cwd=folder, stdin=subprocess.DEVNULL, stdout=subprocess.PIPE, stderr=subprocess.STDOUT, text=True,
-                          errors='replace').stdout
+    """What a command that runs in a folder prints."""
+    return subprocess.run(words, cwd=folder, stdin=subprocess.DEVNULL, stdout=subprocess.PIPE,
+                          stderr=subprocess.STDOUT, text=True, errors='replace').stdout
 
 
 def kit():
@@ -17,10 +18,10 @@ def kit():
 
 
 def below(name):
-    """The libraries that crates.txt names for a crate: those of the repository, and those of the kit; and what sort of crate it is, if the
-    line says so."""
-    head, _, libraries = next(row for row in (line.partition(':') for line in (ROOT / 'crates.txt').read_text().splitlines())
-                              if row[0].split(' ')[0] == name)
+    """The libraries that crates.txt names for a crate: those of the repository, and those of the kit; and what sort of
+    crate it is, if the line says so."""
+    rows = (line.partition(':') for line in (ROOT / 'crates.txt').read_text().splitlines())
+    head, _, libraries = next(row for row in rows if row[0].split(' ')[0] == name)
     ours = [it for it in libraries.split() if (ROOT / 'crates' / it).is_dir()]
     return ours, [it for it in libraries.split() if it not in ours], head.split(' ')[1:]
 
@@ -39,5 +40,5 @@ def rattle(verb, crate, *flags):
         words += ['--extern', f'{name}={ROOT}/crates/{name}/out/rlib/{name}.rlib']
     for library in sorted((ROOT / 'crates').glob('*/out/rlib')):
         words += ['-L', f'dependency={library}']
-    words += ['--antt-project', place / 'rattle/logic/antt-project.json', '--logic-built', place / 'logic_built', '--jobs', '1']
-    return [*words, *flags]
+    words += ['--antt-project', place / 'rattle/logic/antt-project.json', '--logic-built', place / 'logic_built']
+    return [*words, '--jobs', '1', *flags]

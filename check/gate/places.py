@@ -1,19 +1,21 @@
 #!/usr/bin/env python3
-"""Looks where failures are made and where files are opened: only at the places that are listed here.
+"""Checks that failures are made and files are opened only at the places that are listed here.
 
 usage: places.py
 
-That memory ran out, or that a read or a write failed, is something that no clause can tell from the outside: a body that answers so
-above some size meets each contract. So this looks at the source. A failure may be made in three ways: by `impl From<AllocError>`, which
-`?` uses on an allocation; out of a failure of the same kind, in an arm of a `match`; and at one of the places in check/gate/places.txt,
-each the call that reads or writes, or an arm that is told why there. A file of the system may be opened at the places in there too.
+No clause can say from the outside that memory ran out, or that a read or a write failed: a body that answers so above
+some size meets each contract. So this script looks at the source. A failure may be made in three ways: by `impl
+From<AllocError>`, which `?` uses on an allocation; from a failure of the same kind, in an arm of a `match`; and at one
+of the places in check/gate/places.txt, each of which is a call that reads or writes, or an arm with its reason there. A
+file of the system may be opened only at the places in there, too.
 
-A line of check/gate/places.txt is a file below crates/, a colon, and the text of a line of it, as often as it stands there.
+A line of check/gate/places.txt is a file below crates/, a colon, and the text of a line of it, as often as it is found
+there.
 
-It also looks which functions are proved by hand, without the steps that Rattle writes of the code: those two that note the reads of a
-source, and no other, since one more could note reads that weren't made.
+It also checks which functions are proved by hand, without the steps that Rattle writes for the code: the two that note
+the reads of a source, and no other, since another one could note reads that weren't made.
 
-Ends with 'N passed, M failed', and with status 1 where a place isn't listed, or one that is listed isn't there.
+Ends with 'N passed, M failed', and with status 1 if a place isn't listed, or a listed one isn't there.
 """
 import re
 import sys
@@ -21,7 +23,10 @@ from collections import Counter
 from pathlib import Path
 
 ROOT = Path(__file__).resolve().parents[2]
-CRATES = ('ubi_words', 'ubi_media', 'ubi_config', 'ubi_scan', 'ubi_detect', 'ubi_files', 'ubi_table', 'ubi_volume', 'ubi_change', 'ubi_compose', 'ubi_compare', 'ubi_json', 'ubi_map', 'ubi_commands', 'ubi_calls', 'ubi_tool')
+CRATES = (
+    'ubi_words', 'ubi_media', 'ubi_config', 'ubi_scan', 'ubi_detect', 'ubi_files', 'ubi_table', 'ubi_volume',
+    'ubi_change', 'ubi_compose', 'ubi_compare', 'ubi_json', 'ubi_map', 'ubi_commands', 'ubi_calls', 'ubi_tool',
+)
 LISTED = Path(__file__).resolve().with_name('places.txt')
 # The proofs by hand.
 BY_HAND = ('crates/ubi_scan/proofs/trace/Trace/new/Proof.antt', 'crates/ubi_scan/proofs/trace/Trace/note/Proof.antt')
@@ -32,13 +37,17 @@ KINDS = {
     'write': re.compile(r'\b\w+::Write\b'),
 }
 # What opens, makes or removes a file.
-OPENS = re.compile(r'\bFile::\w+\(|\bfs::(open|write|copy|rename|create\w*|remove\w*)\(|\bOpenOptions\b|\.(open_file|create_dir)\(')
-# Lines that make nothing: of types, contracts and imports.
-MAKES_NOTHING = re.compile(r'^(pub(\(crate\))? )?(use|fn|struct|enum|impl|trait|type|ghost|requires|ensures)\b|^\) -> |^\w+: (&(mut )?)?Result<')
+OPENS = re.compile(
+    r'\bFile::\w+\(|\bfs::(open|write|copy|rename|create\w*|remove\w*)\('
+    r'|\bOpenOptions\b|\.(open_file|create_dir)\(')
+# Lines that make nothing: those of types, contracts and imports.
+MAKES_NOTHING = re.compile(
+    r'^(pub(\(crate\))? )?(use|fn|struct|enum|impl|trait|type|ghost|requires|ensures)\b'
+    r'|^\) -> |^\w+: (&(mut )?)?Result<')
 
 
 def statements(path):
-    """The lines of a file without comments, each with whether it stands in `impl From<AllocError>`."""
+    """The lines of a file without comments, each with whether it is part of `impl From<AllocError>`."""
     from_memory = False
     for line in path.read_text().splitlines():
         text = line.split('//')[0].strip()
@@ -79,7 +88,8 @@ def by_hand():
 
 
 def main():
-    listed = Counter(line for line in LISTED.read_text().splitlines() if line and not line.startswith('#')) + Counter(BY_HAND)
+    lines = LISTED.read_text().splitlines()
+    listed = Counter(line for line in lines if line and not line.startswith('#')) + Counter(BY_HAND)
     found = places() + by_hand()
     for place in found - listed:
         print(f'not listed: {place}')

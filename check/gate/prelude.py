@@ -3,13 +3,14 @@
 
 usage: prelude.py [--write] [CRATE ..]
 
-The module names what the proofs of its crate take from the standard library, from the crates below and from the crate's own specs/,
-and each file of proofs/ takes it from there, by one line. What a name means in two modules alike stays with the module that most
-files take it from, and the others name theirs themselves. So do imports of whole modules, and of the crate's own lemmas.
+The module names what the proofs of its crate take from the standard library, from the crates below and from the crate's
+own specs/, and each file of proofs/ takes it from there, by one line. If two modules have the same name, the prelude
+has the one that most files take, and the other files import theirs themselves. Files also import whole modules, and the
+crate's own lemmas, themselves.
 
-Without --write it lists the files that import a name past their prelude or one that they don't use, and those preludes that have
-names which no file takes. The exit status
-is 1 where one is listed. With --write it mends them; `rt fmt` and `rt check` come after it.
+Without --write it lists the files that import a name without their prelude or one that they don't use, and those
+preludes that have names which no file takes. The exit status is 1 if one is listed. With --write it mends them; run `rt
+fmt` and `rt check` after it.
 """
 import argparse
 import collections
@@ -26,28 +27,32 @@ FEW = 12
 
 
 def files_of(crate):
-    """The files of a crate's proofs but those that name modules."""
-    return [path for path in sorted((crate / "proofs").rglob("*.antt")) if path.name not in ("Lib.antt", "Prelude.antt")]
+    """The files of a crate's proofs, except those that declare modules."""
+    paths = sorted((crate / "proofs").rglob("*.antt"))
+    return [path for path in paths if path.name not in ("Lib.antt", "Prelude.antt")]
 
 
 def is_shared(module, crate):
-    """Whether names of a module go through the prelude: no lemmas of the crate's own, and no contract's keys."""
+    """Whether the names of a module go through the prelude: all but the crate's own lemmas and the keys of
+    contracts."""
     return not module.startswith((f"Rattle.{crate.name}.proofs.", f"Rattle.{crate.name}.specs.contracts."))
 
 
 def is_used(name, body):
-    """Whether a text has a name, or each part of an operator's."""
+    """Whether a text has a name, or each part of the name of an operator."""
     return all(part in body for part in name.rpartition(" as ")[2].split("◌"))
 
 
 def wanted(crate, given):
-    """How many files take each name from each module, their own prelude counted as the module that it has the name of."""
+    """How many files take each name from each module. For a name of their own prelude that is the module where it comes
+    from."""
     takes = collections.defaultdict(collections.Counter)
     for path in files_of(crate):
         body = body_of(path.read_text())
         for module, names in imports(path):
+            is_prelude = module == f"Rattle.{crate.name}.proofs.Prelude"
             for name in filter(lambda name: is_used(name, body), names):
-                at = given.get(name.partition(" as ")[0]) if module == f"Rattle.{crate.name}.proofs.Prelude" else module
+                at = given.get(name.partition(" as ")[0]) if is_prelude else module
                 if at and " as " not in name and is_shared(at, crate):
                     takes[name][at] += 1
     return takes
@@ -59,7 +64,7 @@ def body_of(text):
 
 
 def imports(path):
-    """The modules that a file imports names of, with the names."""
+    """The modules from which a file imports names, with the names."""
     for line in path.read_text().split("\n"):
         found = IMPORT.match(line)
         if found:
@@ -75,7 +80,7 @@ def prelude_of(crate):
 
 
 def sources_of(module, kit):
-    """The texts that a module may have: std passes modules of core on under its own name."""
+    """The texts that a module may have: std re-exports modules of core under its own name."""
     _, library, *parts = module.split(".")
     of_crate = ROOT / "crates" / library
     folders = [of_crate] if of_crate.is_dir() else [kit / library, kit / "core"]
@@ -84,7 +89,7 @@ def sources_of(module, kit):
 
 
 def can_be_opened(name, module, kit):
-    """Whether a module lets proofs open a definition."""
+    """Whether a module lets proofs unfold a definition."""
     form = re.compile(r"^unfoldable pub (use .*\b)?" + re.escape(name) + r"(?= |,|\})", re.M)
     return any(form.search(text) for text in sources_of(module, kit))
 
@@ -94,7 +99,11 @@ def text_of(crate, chosen, kit):
     groups = collections.defaultdict(list)
     for name, module in chosen.items():
         groups[module, can_be_opened(name, module, kit)].append(name)
-    order = lambda item: (not item[0][0].startswith("Rattle.std"), item[0][0].startswith(f"Rattle.{crate.name}."), item[0])
+
+    def order(item):
+        (module, _), _ = item
+        return not module.startswith("Rattle.std"), module.startswith(f"Rattle.{crate.name}."), item[0]
+
     lines = [HEADER]
     for (module, is_open), names in sorted(groups.items(), key=order):
         lines.append(f"{'unfoldable ' if is_open else ''}pub use {module}.{{{', '.join(sorted(names))}}}")
@@ -129,7 +138,7 @@ def rewritten(path, crate, chosen, given):
 
 
 def mend(crate, kit):
-    """Writes a crate's prelude and its files anew. Gives the files that changed."""
+    """A crate's prelude and its files, written anew: the texts of those files that change."""
     given = {name: module for module, names in prelude_of(crate) for name in names}
     takes = wanted(crate, given)
     chosen = {name: max(sorted(at), key=at.__getitem__) for name, at in takes.items()}
@@ -146,7 +155,8 @@ def main():
     words.add_argument("--write", action="store_true")
     words.add_argument("crates", nargs="*")
     asked = words.parse_args()
-    kit = pathlib.Path(subprocess.run(["rt", "doc"], capture_output=True, text=True, check=True).stdout.strip()).parent / "rattle"
+    doc = subprocess.run(["rt", "doc"], capture_output=True, text=True, check=True).stdout.strip()
+    kit = pathlib.Path(doc).parent / "rattle"
     changed = {}
     for node in sorted((ROOT / "crates").glob("*/proofs/Lib.antt")):
         crate = node.parent.parent

@@ -1,14 +1,14 @@
 #!/usr/bin/env python3
-"""Runs the examples of README.md and of the documents that go on from it, and compares what they print. And compares the callers
-on the crates' front pages with those that are proved.
+"""Runs the examples of README.md and of the documents that it leads to, and compares what they print. It also compares
+the callers on the crates' front pages with those that are proved.
 
 usage: readme.py [--tool PROGRAM]
 
-An example is a line that begins with '$ ' in a block without a language, and the lines up to the next one or the end of the
-block are what it prints. Those of a page run in their order, by the shell, at the top of the repository. Without --tool the
-program is built first where it isn't yet; with it, PROGRAM stands in the place of `./ubi_tool` in each example. A front page is
-the comment at the head of a library's src/lib.rt, and the block in it has to be what stands in crates/ubi_uses/src below the
-lines `ghost use`. Ends with 'N passed, M failed', and with status 1 where some failed.
+An example is a line that begins with '$ ' in a block without a language, and the lines up to the next example or the
+end of the block are what it prints. The shell runs the examples of a page in their order, at the top of the repository.
+Without --tool the program is built first, unless it is built already; with it, PROGRAM replaces `./ubi_tool` in each
+example. A front page is the comment at the head of a library's src/lib.rt, and the block in it has to be the code in
+crates/ubi_uses/src below the lines `ghost use`. Ends with 'N passed, M failed', and with status 1 if some failed.
 """
 import argparse
 import shlex
@@ -18,6 +18,11 @@ from pathlib import Path
 
 ROOT = Path(__file__).resolve().parents[2]
 PAGES = ('README.md', 'docs/USE.md', 'docs/CHANGE.md', 'docs/AUDIT.md')
+# The crates whose front pages show no caller.
+WITHOUT_CALLER = (
+    'ubi_uses', 'ubi_probe', 'ubi_tests', 'ubi_files', 'ubi_json', 'ubi_map', 'ubi_commands', 'ubi_command_tests',
+    'ubi_calls', 'ubi_c',
+)
 
 
 def blocks(text):
@@ -36,7 +41,7 @@ def blocks(text):
 
 
 def examples(text):
-    """Each example, and what it is to print."""
+    """Each example, and what it has to print."""
     for block in blocks(text):
         command, wanted = None, []
         for line in block + ['$ ']:
@@ -49,15 +54,15 @@ def examples(text):
 
 
 def with_tool(command, tool):
-    """An example with another program in the place of ./ubi_tool."""
+    """An example with another program in place of ./ubi_tool."""
     return command if tool is None else command.replace('./ubi_tool ', f'{shlex.quote(str(Path(tool).resolve()))} ')
 
 
 def front_pages():
-    """Each library that has a caller, the block on its front page, and the caller that is proved."""
+    """Each library that has a caller, the block on its front page, and the proved caller."""
     for page in sorted((ROOT / 'crates').glob('*/src/lib.rt')):
         name = page.parents[1].name
-        if name not in ('ubi_uses', 'ubi_probe', 'ubi_tests', 'ubi_files', 'ubi_json', 'ubi_map', 'ubi_commands', 'ubi_command_tests', 'ubi_calls', 'ubi_c'):
+        if name not in WITHOUT_CALLER:
             lines = [line[3:].removeprefix(' ') for line in page.read_text().splitlines() if line.startswith('//!')]
             caller = (ROOT / 'crates/ubi_uses/src' / f"{name.removeprefix('ubi_')}.rt").read_text()
             below = caller.rpartition('\nghost use ')[2].partition('\n')[2]
@@ -66,7 +71,7 @@ def front_pages():
 
 def main():
     words = argparse.ArgumentParser(description=__doc__, formatter_class=argparse.RawDescriptionHelpFormatter)
-    words.add_argument('--tool', help='the program; ./ubi_tool where it is left out')
+    words.add_argument('--tool', help='the program; ./ubi_tool by default')
     words = words.parse_args()
     passed = failed = 0
     for command, wanted in (example for page in PAGES for example in examples((ROOT / page).read_text())):

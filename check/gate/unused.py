@@ -3,9 +3,10 @@
 
 usage: unused.py
 
-A name counts as used where it stands in a source of any crate outside its own declaration, which ends at the next empty
-line. An import is no use, but of what it gives another name. Left out are the answers to goals, whose names the prover gives, and what is computed on literals to be read:
-`*Vectors.antt` and the names of ON_LITERALS. The exit status is 1 where one is listed. It takes a second or two.
+A name counts as used if a source of any crate has it outside its own declaration, which ends at the next empty line. An
+import is no use, except of a name that it renames. The script leaves out the answers to goals, whose names the prover
+gives, and computations on literals that are there to be read: `*Vectors.antt` and the names of ON_LITERALS. The exit
+status is 1 if one is listed. It takes a second or two.
 """
 import collections
 import pathlib
@@ -23,7 +24,7 @@ HEAD = re.compile(r"( *)(?:(?:abbrev|unfoldable|pub) )*(record |data )?([^\s:({]
 
 
 def without_imports(line):
-    """A line, or of an import what it gives another name."""
+    """A line, or if it is an import, the names that it renames."""
     return " ".join(RENAMED.findall(line)) if IMPORT.match(line) else line
 
 
@@ -44,7 +45,7 @@ def declared(lines):
 
 
 def is_own(lines, number, name, indent, first):
-    """Whether a line belongs to the declaration of a name: to its signature, its equations, or what stands below them."""
+    """Whether a line belongs to the declaration of a name: to its signature, its equations, or the lines below them."""
     end = first
     while end < len(lines) and lines[end].strip():
         end += 1

@@ -1,11 +1,11 @@
 #!/usr/bin/env python3
-"""Makes the completions for bash and zsh and the manual page of what the program's own help says, or compares them.
+"""Makes the completions for bash and zsh and the manual page from the program's own help, or compares them with it.
 
 usage: words.py [--tool PROGRAM] [--check]
 
-The commands, their arguments and options, and the texts beside them are read from `ubi_tool --help` and `ubi_tool COMMAND
---help`. Of these are made completions/ubi_tool.bash, completions/_ubi_tool and docs/ubi_tool.1. With --check nothing is
-written: a file that differs is named. Ends with 'N passed, M failed', and with status 1 where some failed.
+It reads the commands, their arguments and options, and the texts beside them from `ubi_tool --help` and `ubi_tool
+COMMAND --help`, and makes completions/ubi_tool.bash, completions/_ubi_tool and docs/ubi_tool.1 from these. With --check
+it writes nothing, and prints each file that differs. Ends with 'N passed, M failed', and with status 1 if some failed.
 """
 import argparse
 import re
@@ -21,14 +21,14 @@ PATHS = ('out', 'from', 'pages')
 
 
 class Entry:
-    """A command, an argument or an option: its name, the name of its value where it has one, and its text."""
+    """A command, an argument or an option: its name, the name of its value if it has one, and its text."""
 
     def __init__(self, name, value, text):
         self.name, self.value, self.text = name, value, text
 
 
 class Help:
-    """What a help says: the text at its head, the usage, its sections of entries, and what stands below them."""
+    """The help of a command: the text at its head, the usage, its sections of entries, and the lines below them."""
 
     def __init__(self, text):
         self.sections, self.below, section = {}, [], None
@@ -48,7 +48,8 @@ class Help:
 
     def options(self):
         """All options, without the help's own."""
-        entries = [entry for title in self.sections if title not in ('Commands', 'Arguments') for entry in self.sections[title]]
+        titles = [title for title in self.sections if title not in ('Commands', 'Arguments')]
+        entries = [entry for title in titles for entry in self.sections[title]]
         return [entry for entry in entries if entry.name not in ('help', 'version')]
 
 
@@ -59,7 +60,7 @@ def help_of(tool, *command):
 
 
 def version_of(tool):
-    """The version of the program, as it says it."""
+    """The version that the program prints."""
     ran = subprocess.run([tool, '--version'], stdin=subprocess.DEVNULL, capture_output=True, text=True)
     return ran.stderr.strip()
 
@@ -89,7 +90,7 @@ complete -o filenames -F _ubi_tool ubi_tool ./ubi_tool
 
 
 def quoted(text):
-    """A text within single quotes of the shell, with what _arguments reads as its own escaped."""
+    """A text for single quotes in the shell, with the special characters of _arguments escaped."""
     return re.sub(r'([\[\]:\\])', r'\\\1', text).replace("'", "'\\''")
 
 
@@ -124,7 +125,7 @@ _ubi_tool "$@"
 
 
 def roff(text):
-    """A text for the manual page: what roff reads as its own is escaped."""
+    """A text for the manual page, with the special characters of roff escaped."""
     text = text.replace('\\', '\\e').replace('-', '\\-')
     return re.sub(r"^([.'])", r'\\&\1', text, flags=re.MULTILINE)
 
@@ -135,7 +136,7 @@ def bold(name):
 
 
 def usage(help):
-    """The usage of a command: its name in bold type, and what it has to be given with the values in italics."""
+    """The usage of a command: its name in bold type, and its words with the values in italics."""
     _, name, rest = help.usage.split(' ', 2)
     rest = re.sub(r'<([\w.]+)>', r'\\fI\1\\fR', roff(rest))
     return f'{bold(name)} {rest}'
@@ -147,8 +148,8 @@ def list_of(names):
 
 
 def merged(commands, section):
-    """The entries of all commands by name, in the order in which they come first: of each the texts, with the names of their values and
-    the commands that say them."""
+    """The entries of all commands by name, in the order of their first appearance: for each its texts, with the names
+    of their values and the commands that have them."""
     found = {}
     for name, help in commands.items():
         for entry in section(help):
@@ -157,12 +158,15 @@ def merged(commands, section):
 
 
 def described(shown, texts):
-    """An entry of the manual page. Where commands say different things of it, each is named with what it says."""
+    """An entry of the manual page. If commands have different texts for it, each text follows the names of its
+    commands."""
     values = dict.fromkeys(value for value, _ in texts if value)
-    page = f'.TP\n{bold(shown)}' + (' ' if values else '') + ', '.join(f'\\fI{roff(value)}\\fR' for value in values) + '\n'
+    in_italics = ', '.join(f'\\fI{roff(value)}\\fR' for value in values)
+    page = f'.TP\n{bold(shown)}' + (' ' if values else '') + in_italics + '\n'
     if len(texts) == 1:
         return page + ''.join(f'{roff(text)}\n' for _, text in texts)
-    return page + ''.join(f'For {list_of(names)}: {roff(text[0].lower() + text[1:])}.\n' for (_, text), names in texts.items())
+    lines = (f'For {list_of(names)}: {roff(text[0].lower() + text[1:])}.\n' for (_, text), names in texts.items())
+    return page + ''.join(lines)
 
 
 def manual(whole, commands, version):
@@ -190,7 +194,7 @@ ubi_tool \\- {roff(whole.about[0].lower() + whole.about[1:])}
 
 def main():
     words = argparse.ArgumentParser(description=__doc__, formatter_class=argparse.RawDescriptionHelpFormatter)
-    words.add_argument('--tool', default=str(ROOT / 'ubi_tool'), help='the program; ./ubi_tool where it is left out')
+    words.add_argument('--tool', default=str(ROOT / 'ubi_tool'), help='the program; ./ubi_tool by default')
     words.add_argument('--check', action='store_true', help='compare, and write nothing')
     words = words.parse_args()
     whole = help_of(words.tool)
@@ -206,7 +210,7 @@ def main():
             path.write_text(text)
         elif not path.is_file() or path.read_text() != text:
             failed += 1
-            print(f'failed: {name} is not what the help says: run check/gate/words.py')
+            print(f'failed: {name} differs from the help: run check/gate/words.py')
     print(f'{len(made) - min(failed, len(made))} passed, {failed} failed')
     return 1 if failed else 0
 

@@ -1,9 +1,9 @@
 #!/bin/sh
-# bare.sh ARCHIVE: unpacks what release.sh has packed on a Debian with nothing but its base, and runs the program there.
+# bare.sh ARCHIVE: unpacks an archive of release.sh on a Debian with only its base packages, and runs the program there.
 #
-# Needs debootstrap, root, and Debian's mirror. The base lies in a new folder below /tmp, which is removed again. The archive's sums have to
-# be right, and `list`, `extract` and `install.sh` have to work with neither the kit nor Python nor a compiler. The last line is
-# 'N passed, M failed', and the exit status is 0 where none failed.
+# Needs debootstrap, root, and Debian's mirror. The base lies in a new folder below /tmp, which is removed afterwards.
+# The archive's checksums have to be right, and `list`, `extract` and `install.sh` have to work without the kit, Python
+# and a compiler. The last line is 'N passed, M failed', and the exit status is 0 if none failed.
 set -eu
 archive=$(realpath "${1:?bare.sh ARCHIVE}")
 data=$(cd "$(dirname "$0")/../../crates/ubi_tool/data" && pwd)
@@ -19,7 +19,7 @@ mkdir "$base/tried"
 tar -xzf "$archive" -C "$base/tried" --strip-components=1
 cp "$data/root.img" "$base/root.img"
 
-# Runs a line there: what it prints has to have a line that is the second word, or begins with it.
+# Runs a command there, which has to print a line that begins with the second word.
 try() {
     if chroot "$base" /bin/sh -c "cd /tried && $1" 2>&1 | grep -q "^$2"; then
         passed=$((passed + 1))

@@ -1,44 +1,48 @@
 #!/usr/bin/env python3
-"""Compares what `build` answers of random configs with what docs/CONFIG-FORMAT.md says, as check/second/config.py reads it.
+"""Compares the answers of `build` for random configs with docs/CONFIG-FORMAT.md, as check/second/config.py reads it.
 
 usage: builds.py [--seed N] [--count N] [--first N] [--dir FOLDER] [--tool PROGRAM]
 
-A config describes random volumes: static, dynamic, aligned ones, one that grows, some whose check is skipped, and empty ones, over files
-of all lengths, some of which are 0xFF at their end or throughout. Its keys stand in a random order and case, its values with and without quotes and
-remarks. Two of three configs are then changed up to three times: a line, a byte, a value or a name. Of each config `build`, also with spares
-and an image sequence number, has to print the line of the first cause and write nothing; or to write what the rules give, byte for
-byte. Then `unpack` of that gives what the files hold, and 0xFF behind it.
-Before these come hostile files: configs of a million lines, image files that are the output, by another path and by links too, or a folder or a
-pipe; and for `unpack` folders that are links, that hold a link, or are files, and names that would lead out of the folder.
+A config describes random volumes: static, dynamic and aligned ones, one that grows, some with skip-check, and empty
+ones, with files of all lengths, some of which are 0xFF at their end or throughout. Its keys are in a random order and
+case, its values with and without quotes and remarks. Two of three configs are then changed up to three times: a line, a
+byte, a value or a name. For each config `build`, also with spares and an image sequence number, has to print the line
+of the first cause and write nothing; or to write what the rules give, byte for byte. Then `unpack` of that has to give
+the contents of the files, with 0xFF after them.
 
-Without words there are 500 configs (--count) of the seed 1 (--seed). They lie in a new folder below FOLDER (/tmp where it is left out),
-which is removed again. Without --tool the program is built first where it isn't yet. Each cause is counted. The last line is
-'N passed, M failed', and the exit status is 0 where none failed; a config that failed can be made again by its number.
+Then come hostile files: configs of a million lines; image files that are the output, by another path and by links too,
+or a folder or a pipe; and for `unpack` folders that are links, that hold a link, or are files, and names that would
+lead out of the folder.
+
+By default there are 500 configs (--count) of the seed 1 (--seed). They lie in a new folder below FOLDER (/tmp by
+default), which is removed afterwards. Without --tool the program is built first, unless it is built already. It counts
+each cause. The last line is 'N passed, M failed', and the exit status is 0 if none failed; a config that failed can be
+made again by its number.
 """
-import collections
 import os
-import re
 
 import config
 import rules
 import text_rules
-from fuzz import ROOT, SIZES, Failure, Runner, built, far, finish, given, options, run_cases
+from fuzz import ROOT, SIZES, Failure, Runner, built, cased, far, finish, given, options, print_causes, run_cases
 from rules import Geometry, Meaning, Refused
 
 SEQS = (0, 1, 0x12345678, 0xFFFFFFFF)
-VALUES = ("", "0", "00", "1", "01", "-1", "+1", "0x10", "4294967295", "4294967296", "9223372036854775807", "9223372036854775808", "1KiB", "1 KiB",
-    "1kib", "1 MB", "3  MiB", "8796093022207MiB", "ubi", "UBI", "static", "dynamic", "autoresize", "skip-check", "\"a\"", "\'a", "\"a \"", "a;b", "a#b", ";", "\\",
-    "a" * 127, "a" * 128, "b" * 1100, "\t", "v0", "v9", ".", "..", "no/such", "\xff", "\x00")
-LINES = ("", "#", "; x", "[", "]", "[]", "[ ]", "[a]", "[A]", "[a:b]", "[a] # x", "mode", "mode=", "= ubi", "mode = ubi", "image=v0", "vol_id=0", "vol_name=a",
-    "vol_size=1", "vol_type=static", "vol_flags=autoresize", "vol_alignment=1", "vol_ids=1", "MODE=ubi", "a=b=c", "x\\")
-
-
-def cased(rng, word):
-    return "".join(rng.choice((c, c, c.upper())) for c in word)
+VALUES = (
+    "", "0", "00", "1", "01", "-1", "+1", "0x10", "4294967295", "4294967296", "9223372036854775807",
+    "9223372036854775808", "1KiB", "1 KiB", "1kib", "1 MB", "3  MiB", "8796093022207MiB", "ubi", "UBI", "static",
+    "dynamic", "autoresize", "skip-check", "\"a\"", "\'a", "\"a \"", "a;b", "a#b", ";", "\\", "a" * 127, "a" * 128,
+    "b" * 1100, "\t", "v0", "v9", ".", "..", "no/such", "\xff", "\x00",
+)
+LINES = (
+    "", "#", "; x", "[", "]", "[]", "[ ]", "[a]", "[A]", "[a:b]", "[a] # x", "mode", "mode=", "= ubi", "mode = ubi",
+    "image=v0", "vol_id=0", "vol_name=a", "vol_size=1", "vol_type=static", "vol_flags=autoresize", "vol_alignment=1",
+    "vol_ids=1", "MODE=ubi", "a=b=c", "x\\",
+)
 
 
 class Writer:
-    """Describes random volumes as a config, and puts their files."""
+    """Describes random volumes as a config, and writes their files."""
 
     def __init__(self, rng, geometry, put):
         self.rng, self.geometry, self.put = rng, geometry, put
@@ -70,10 +74,21 @@ class Writer:
         data = self.bytes() if kind == "static" or rng.random() < 0.8 else None
         if data is not None:
             self.put(f"v{place}", data)
-        size = rng.choice((None, 0, 1, geometry.leb, 2 * geometry.leb)) if data is not None else rng.randrange(1, 3 * geometry.leb)
-        size = size if size is None or data is None else len(data) + size
-        keys = {"mode": "ubi", "vol_id": number, "vol_name": f"name{place}", "vol_type": kind, "vol_alignment": alignment, "vol_size": size,
-            "image": None if data is None else f"v{place}", "vol_flags": self.flags(number, kind)}
+        if data is None:
+            size = rng.randrange(1, 3 * geometry.leb)
+        else:
+            more = rng.choice((None, 0, 1, geometry.leb, 2 * geometry.leb))
+            size = None if more is None else len(data) + more
+        keys = {
+            "mode": "ubi",
+            "vol_id": number,
+            "vol_name": f"name{place}",
+            "vol_type": kind,
+            "vol_alignment": alignment,
+            "vol_size": size,
+            "image": None if data is None else f"v{place}",
+            "vol_flags": self.flags(number, kind),
+        }
         said = [(key, value) for key, value in keys.items() if value is not None]
         rng.shuffle(said)
         yield f"[{rng.choice(('volume', ' Volume'))}{place}]"
@@ -84,14 +99,16 @@ class Writer:
 
 
 class Mutator:
-    """Changes the lines of a config some times."""
+    """Changes the lines of a config, up to three times."""
 
     def __init__(self, rng):
         self.rng = rng
 
     def mutate(self, lines):
         rng, lines = self.rng, [line.encode("latin-1") for line in lines]
-        ways = (self.dropped, self.doubled, self.swapped, self.other_line, self.other_value, self.other_value, self.byte)
+        ways = (
+            self.dropped, self.doubled, self.swapped, self.other_line, self.other_value, self.other_value, self.byte,
+        )
         for _ in range(rng.choice((0, 1, 1, 2, 3))):
             if lines:
                 rng.choice(ways)(lines)
@@ -130,7 +147,7 @@ def faulty(line, cause):
 
 
 class Case(Runner):
-    """A config, and what the program is to answer of it."""
+    """A config, and the answers that the program has to give for it."""
 
     def __init__(self, rng, tool, folder):
         super().__init__(tool, folder, Geometry(*rng.choice(SIZES), rng.choice((8, 12, 20, 40))))
@@ -141,10 +158,11 @@ class Case(Runner):
         writer = Writer(rng, self.geometry, self.put)
         self.text = Mutator(rng).mutate(writer.lines)
         self.path = self.put("config", self.text)
-        self.seq, self.spares = rng.choice(SEQS), rng.choice((0, 0, 0, 1, 2, self.geometry.pebs - 2, far(rng, 1)))
+        self.seq = rng.choice(SEQS)
+        self.spares = rng.choice((0, 0, 0, 1, 2, self.geometry.pebs - 2, far(rng, 1)))
 
     def image(self, section):
-        """The bytes of a section's file, None where it names none."""
+        """The bytes of a section's file; None if it names none."""
         if section.image is None:
             return None
         try:
@@ -158,7 +176,7 @@ class Case(Runner):
             return file.read()
 
     def volume(self, section):
-        """The number, the record and the content of a section's volume, and how many eraseblocks it has at most."""
+        """The number, the record and the contents of a section's volume, and the most eraseblocks that it has."""
         data = self.image(section)
         try:
             record = config.record(section, self.geometry, None if data is None else len(data))
@@ -168,7 +186,8 @@ class Case(Runner):
         most = -(-len(data) // usable)
         if record.kind == 2:
             return section.id, record, data, most
-        return section.id, record, {k: data[k * usable : (k + 1) * usable].ljust(usable, b"\xFF") for k in range(most)}, most
+        lebs = {k: data[k * usable : (k + 1) * usable].ljust(usable, b"\xFF") for k in range(most)}
+        return section.id, record, lebs, most
 
     def meant(self):
         """What the config and its files mean."""
@@ -186,11 +205,12 @@ class Case(Runner):
     def kept(self, content):
         if isinstance(content, bytes):
             return content
-        return {lnum: text for lnum, text in content.items() if not rules.is_blank(text)}
+        return {lnum: data for lnum, data in content.items() if not rules.is_blank(data)}
 
     def look(self):
-        """Compares each answer. Gives the cause of a refusal, or 'built'."""
-        words = ["build", self.path, "--out", self.out, *given(self.rng, "--seq", self.seq), *given(self.rng, "--spares", self.spares)]
+        """Compares each answer. Returns the cause of a refusal, or 'built'."""
+        words = ["build", self.path, "--out", self.out]
+        words += given(self.rng, "--seq", self.seq) + given(self.rng, "--spares", self.spares)
         try:
             meant = self.meant()
         except FileNotFoundError as missing:
@@ -208,7 +228,7 @@ class Case(Runner):
 
 
 class Hostile(Runner):
-    """Files that are hostile, and what is to be answered of them."""
+    """Hostile files, and the answers that the program has to give for them."""
 
     def __init__(self, tool, folder):
         super().__init__(tool, folder, Geometry(*SIZES[0], 1048576))
@@ -235,7 +255,7 @@ class Hostile(Runner):
         self.build(b"x" * 1_000_000, "refused I1 Line line=1\n", 1)
 
     def outputs(self):
-        """The output is the image file: by its path, by another, by links."""
+        """The output is the image file: by its path, by another one, by links."""
         content = self.path("content")
         os.symlink(content, self.path("soft"))
         os.link(content, self.path("hard"))
@@ -244,7 +264,7 @@ class Hostile(Runner):
             self.build(self.config % name.encode(), f"cannot read {self.path(name)}\n", 1, out=content)
         with open(content, "rb") as file:
             if file.read() != b"content":
-                raise Failure("an image file is lost that is the output, too")
+                raise Failure("an image file that is also the output is lost")
 
     def images(self):
         os.mkfifo(self.path("pipe"))
@@ -274,7 +294,8 @@ class Hostile(Runner):
 
     def names(self):
         """Each byte in a name, and names that would lead elsewhere."""
-        for name in (*(bytes([byte]) for byte in range(1, 256)), b"..", b"../../x", b"/etc/x", b"a/b", b"-", b"./a", b"a" * 127, b"\xFF" * 63):
+        others = (b"..", b"../../x", b"/etc/x", b"a/b", b"-", b"./a", b"a" * 127, b"\xFF" * 63)
+        for name in (*(bytes([byte]) for byte in range(1, 256)), *others):
             records = {0: rules.Record(1, 1, 1, 0, name, 0)}
             meant = Meaning(self.geometry, 0, records, {0: {}})
             self.look_unpacked(self.put("named", rules.normal_image(meant)), meant)
@@ -287,8 +308,7 @@ def main():
         "": (lambda rng, folder: Case(rng, tool, folder).look(), words.count),
         "hostile": (lambda rng, folder: Hostile(tool, folder).look() or "hostile", 1),
     })
-    for cause, count in sorted(collections.Counter(re.sub(r"=\d+", "", answer) for answer in answers).items()):
-        print(f"{count:>6} {cause}")
+    print_causes(answers)
     finish(len(answers), failed)
 
 

@@ -1,13 +1,13 @@
-/* Makes the calls of ubi.h that its input asks for, and writes what they leave: for c_calls.py.
+/* Makes the calls of ubi.h that its input asks for, and writes their answers: for c_calls.py.
  *
- * Each line of the input is CALL ROOM PAGES_ROOM PEB PAGE VID DATA PEBS A B X Y REFUSED: which call, how many bytes out and pages have, the
- * sizes, two files (or '-'), two numbers, and which growth of memory is refused, or 0. Of each it writes a line STATUS LEN KEPT PAGES_LEN NANOSECONDS, where KEPT is 1 if all that
- * was passed is as it was, but what the call may write, and the last is how long the call took; and then the first bytes of out and of pages, as
- * many as there are of the answer and fit, or all of them where memory ran out.
- * Each buffer has just as many bytes as it is said to have, so that a checker of memory sees any other that is touched. A file that is named
- * twice is passed as one.
+ * Each line of the input is CALL ROOM PAGES_ROOM PEB PAGE VID DATA PEBS A B X Y REFUSED: the call, the numbers of bytes of
+ * out and pages, the sizes, two files (or '-'), two numbers, and which allocation is refused, or 0. For each it writes a
+ * line STATUS LEN KEPT PAGES_LEN NANOSECONDS: KEPT is 1 if everything that was passed is as it was, except what the call
+ * may write, and the last is how long the call took. Then it writes the first bytes of out and of pages: those of the
+ * answer that fit, or all of them if memory ran out. Each buffer has exactly as many bytes as its length says, so that a
+ * checker of memory sees any other byte that is touched. A file that is named twice is passed as one.
  *
- * It is linked with -Wl,--wrap=malloc,--wrap=realloc, so that growths can be refused. */
+ * It is linked with -Wl,--wrap=malloc,--wrap=realloc, so that allocations can be refused. */
 #include "ubi.h"
 
 #include <stdio.h>
@@ -17,24 +17,24 @@
 
 enum { FILLER = 0xA5 };
 
-/* Bytes that are passed, and the same again. */
+/* Bytes that are passed, and a copy of them. */
 struct bytes {
     uint8_t *data, *copy;
     size_t len;
 };
 
-/* How many growths there are up to the one that is refused, or 0. */
-static unsigned growths;
+/* How many allocations there are up to the one that is refused, or 0. */
+static unsigned allocations;
 
 void *__real_malloc(size_t len);
 void *__real_realloc(void *data, size_t len);
 
 void *__wrap_malloc(size_t len) {
-    return growths && --growths == 0 ? NULL : __real_malloc(len);
+    return allocations && --allocations == 0 ? NULL : __real_malloc(len);
 }
 
 void *__wrap_realloc(void *data, size_t len) {
-    return growths && --growths == 0 ? NULL : __real_realloc(data, len);
+    return allocations && --allocations == 0 ? NULL : __real_realloc(data, len);
 }
 
 static void *some(size_t len) {
@@ -80,9 +80,9 @@ static uint64_t now(void) {
     return (uint64_t)t.tv_sec * 1000000000u + (uint64_t)t.tv_nsec;
 }
 
-/* How many of the bytes that were told fit. */
-static size_t filled(size_t told, size_t len) {
-    return told < len ? told : len;
+/* How many bytes of an answer fit. */
+static size_t filled(size_t answer_len, size_t len) {
+    return answer_len < len ? answer_len : len;
 }
 
 static int is_rest_kept(const uint8_t *data, size_t from, size_t len) {
@@ -97,8 +97,8 @@ int main(void) {
     struct ubi_sizes s;
     uint32_t x, y;
     unsigned refused;
-    while (scanf("%31s %zu %zu %u %u %u %u %u %4095s %4095s %u %u %u", call, &out_len, &pages_room, &s.peb_size, &s.page, &s.vid_offset,
-               &s.data_offset, &s.pebs, a_path, b_path, &x, &y, &refused) == 13) {
+    while (scanf("%31s %zu %zu %u %u %u %u %u %4095s %4095s %u %u %u", call, &out_len, &pages_room, &s.peb_size, &s.page,
+                 &s.vid_offset, &s.data_offset, &s.pebs, a_path, b_path, &x, &y, &refused) == 13) {
         int is_one = !strcmp(a_path, b_path);
         struct bytes a = load(a_path), b = is_one ? a : load(b_path);
         struct ubi_sizes before = s;
@@ -106,7 +106,7 @@ int main(void) {
         size_t len = 7, pages_len = 0;
         uint32_t status = 99;
         uint64_t start = now();
-        growths = refused;
+        allocations = refused;
         if (!strcmp(call, "geometry")) status = ubi_geometry(a.data, a.len, out, out_len, &len);
         if (!strcmp(call, "check")) status = ubi_check(&s, a.data, a.len, out, out_len, &len);
         if (!strcmp(call, "list")) status = ubi_list(&s, a.data, a.len, out, out_len, &len);
@@ -120,7 +120,7 @@ int main(void) {
             status = ubi_change(&s, a.data, a.len, x, y, b.data, b.len, out, out_len, &len, pages, pages_room, &pages_len);
         if (!strcmp(call, "rename"))
             status = ubi_rename(&s, a.data, a.len, x, b.data, b.len, out, out_len, &len, pages, pages_room, &pages_len);
-        growths = 0;
+        allocations = 0;
         uint64_t took = now() - start;
         size_t here = status == UBI_NO_MEMORY ? out_len : filled(len, out_len);
         size_t there = status == UBI_NO_MEMORY ? pages_room : filled(pages_len, pages_room);

@@ -3,14 +3,17 @@
 
 usage: circle.py [--seed N] [--count N] [--large N] [--ubinize N] [--first N] [--dir FOLDER] [--tool PROGRAM]
 
-The images are those of check/second/fuzz.py. Of one that is accepted `unpack` has to write the files and the config that check/second/rules.py gives. Then
-the words of the config's first line are run, with a path for IMAGE: what is built has to be the normal image of the volumes that the config describes, byte for byte; and
-where it describes all of them, what `normalise` writes of the image itself.
+The images are those of check/second/fuzz.py. From an accepted one `unpack` has to write the files and the config that
+check/second/rules.py gives. Then it runs the words of the config's first line, with a path for IMAGE: what is built has
+to be the normal image of the volumes that the config describes, byte for byte; and if it describes all of them, it has
+to be what `normalise` writes for the image itself.
 
-Without words there are 500 images (--count) of the seed 1 (--seed) with eraseblocks of up to 1 KiB, and 10 (--large) with eraseblocks of 128 KiB. They lie
-in a new folder below FOLDER (/tmp where it is left out), which is removed again. Without --tool the program is built first where it isn't yet. How many came back whole, and how many in part,
-is counted. With --ubinize N more images are taken apart whose sizes ubinize can make (mtd-utils has to be there): it takes the config too, and
-makes an image that means the same, unless docs/CONFIG-FORMAT.md names why not. The last line is 'N passed, M failed', and the exit status is 0 where none failed.
+By default there are 500 images (--count) of the seed 1 (--seed) with eraseblocks of up to 1 KiB, and 10 (--large) with
+eraseblocks of 128 KiB. They lie in a new folder below FOLDER (/tmp by default), which is removed afterwards. Without
+--tool the program is built first, unless it is built already. It counts how many come back whole, and how many in part.
+With --ubinize N more images are taken apart, with sizes that ubinize can make (it needs mtd-utils): ubinize takes the
+config too, and makes an image that means the same, unless docs/CONFIG-FORMAT.md says why not. The last line is 'N
+passed, M failed', and the exit status is 0 if none failed.
 """
 import collections
 import os
@@ -21,8 +24,7 @@ import rules
 from fuzz import REAL_SIZES, Failure, Maker, Mutator, Runner, built, finish, options, run_cases
 from rules import Image, Meaning, Refused
 
-
-# Sizes of which ubinize makes images: its sub-pages have 512 bytes.
+# Sizes of images that ubinize makes: its sub-pages have 512 bytes.
 UBINIZE_SIZES = ((16384, 512, 512, 1024), (16384, 2048, 512, 2048), (32768, 2048, 2048, 4096))
 
 
@@ -42,13 +44,14 @@ class Circle(Runner):
         return [command, os.path.join(self.volumes, name), *(self.out if word == "IMAGE" else word for word in words)]
 
     def described(self, image):
-        """What the config describes of an image."""
+        """The part of an image that the config describes."""
         said = [number for number in image.records if rules.left_out(image, number) is None]
         return Meaning(self.geometry, image.image_seq, {number: image.records[number] for number in said},
             {number: image.contents[number] for number in said})
 
     def look(self):
-        """Compares what is built with what was there. Gives whether all of it came back, a part, or nothing, as it's refused."""
+        """Compares what is built with what was there. Returns whether all of it came back, a part, or nothing, since it
+        is refused."""
         path = self.put("whole", self.data)
         try:
             image = Image(self.geometry, self.data)
@@ -56,8 +59,8 @@ class Circle(Runner):
             return "refused"
         self.look_unpacked(path, image)
         shutil.rmtree(self.volumes, ignore_errors=True)
-        lines, status = "".join(self.lines(image)), int(any(isinstance(content, str) for content in image.contents.values()))
-        self.expect(["unpack", path, "--out", self.volumes], lines, status)
+        status = int(any(isinstance(content, str) for content in image.contents.values()))
+        self.expect(["unpack", path, "--out", self.volumes], "".join(self.lines(image)), status)
         with open(os.path.join(self.volumes, "ubi.ini"), "rb") as file:
             words = self.words(file.read())
         meant = self.described(image)
@@ -70,7 +73,7 @@ class Circle(Runner):
         return "whole"
 
     def look_ubinized(self):
-        """Compares what ubinize makes of the config with what it describes. Gives whether that was looked at."""
+        """Compares what ubinize makes of the config with what it describes. Returns whether that was done."""
         path, g = self.put("whole", self.data), self.geometry
         try:
             image = Image(g, self.data)
@@ -81,20 +84,20 @@ class Circle(Runner):
             return "not for ubinize"
         shutil.rmtree(self.volumes, ignore_errors=True)
         subprocess.run([self.tool, *self.whole(["unpack", path, "--out", self.volumes])], capture_output=True)
-        made = subprocess.run(["ubinize", "-o", self.out, "-p", str(g.peb), "-m", str(g.page), "-s", "512", "-O", str(g.vid),
-            "-Q", str(meant.image_seq), "ubi.ini"], cwd=self.volumes, capture_output=True)
+        sizes = ["-p", str(g.peb), "-m", str(g.page), "-s", "512", "-O", str(g.vid), "-Q", str(meant.image_seq)]
+        made = subprocess.run(["ubinize", "-o", self.out, *sizes, "ubi.ini"], cwd=self.volumes, capture_output=True)
         if made.returncode:
             raise Failure(f"ubinize refuses the config: {made.stderr.decode(errors='replace')}")
         normal = self.put("normal", rules.normal_image(meant))
-        came = subprocess.run([self.tool, *self.whole(["same", normal, self.out])], capture_output=True)
-        if came.stdout != b"same\n":
-            raise Failure(f"what ubinize makes of the config is another: {came.stdout.decode()}")
+        same = subprocess.run([self.tool, *self.whole(["same", normal, self.out])], capture_output=True)
+        if same.stdout != b"same\n":
+            raise Failure(f"ubinize makes another image from the config: {same.stdout.decode()}")
         os.remove(self.out)
         shutil.rmtree(self.volumes)
         return "ubinized"
 
     def is_alike(self, image, number):
-        """Whether ubinize makes the same of a volume: its alignment leaves nothing free, and it isn't static without bytes."""
+        """Whether ubinize makes the same volume: its alignment leaves nothing unused, and it isn't static and empty."""
         record, leb = image.records[number], self.geometry.leb
         leaves_nothing = leb % record.alignment == 0 and record.alignment != leb
         return leaves_nothing and (record.kind != 2 or bool(image.read_volume(number)))
@@ -110,10 +113,14 @@ class Circle(Runner):
 def main():
     words = options(__doc__, 500, large=10, ubinize=0)
     tool = built(words.tool)
+
+    def look_ubinized(rng, folder):
+        return Circle(rng, tool, folder, Maker(rng, UBINIZE_SIZES)).look_ubinized()
+
     answers, failed = run_cases(words, {
         "": (lambda rng, folder: Circle(rng, tool, folder, Maker(rng)).look(), words.count),
         "large ": (lambda rng, folder: Circle(rng, tool, folder, Maker(rng, REAL_SIZES)).look(), words.large),
-        "ubinize ": (lambda rng, folder: Circle(rng, tool, folder, Maker(rng, UBINIZE_SIZES)).look_ubinized(), words.ubinize),
+        "ubinize ": (look_ubinized, words.ubinize),
     })
     print(", ".join(f"{count} {answer}" for answer, count in sorted(collections.Counter(answers).items())))
     finish(len(answers), failed)

@@ -1,8 +1,9 @@
-"""A second reading of docs/CONFIG-FORMAT.md: which sections a config gives, or why it isn't read; and the record of a section.
+"""A second reading of docs/CONFIG-FORMAT.md: which sections a config gives, or why it isn't read; and the record of a
+section.
 
-It was written from that document and not from the program, as rules.py was from docs/FORMAT.md. Each rule stands once, in the
-document's words, and looks at its line and at all lines above it. A fault is a pair: the number of its line, and its cause as
-it is printed, such as (4, "I12 Missing vol_id").
+It was written from that document and not from the program, as rules.py was from docs/FORMAT.md. It says each rule once,
+in the document's words; a rule looks at its line and at all lines above it. A fault is a pair: the number of its line,
+and its cause as it is printed, such as (4, "I12 Missing vol_id").
 """
 import dataclasses
 import re
@@ -104,7 +105,7 @@ KEYS = {
 
 
 def is_remark(text):
-    """Nothing, or what begins with # or ;."""
+    """Whether a text is empty, or a remark, which begins with # or ;."""
     return text[:1] in (b"", b"#", b";")
 
 
@@ -117,13 +118,14 @@ def plain_value(text):
 
 def quoted_value(text):
     value, quote, rest = text[1:].partition(text[:1])
-    if not quote or not value or value[-1:] in (bytes([blank]) for blank in BLANKS) or not is_remark(rest.strip(BLANKS)):
+    ends_blank = value.rstrip(BLANKS) != value
+    if not quote or not value or ends_blank or not is_remark(rest.strip(BLANKS)):
         raise Fault("I4 Value")
     return value
 
 
 def value_of(text):
-    """What stands behind =, without blanks at its ends."""
+    """The value after =, without blanks at its ends."""
     return quoted_value(text) if text[:1] in (b'"', b"'") else plain_value(text)
 
 
@@ -147,7 +149,7 @@ def setting(text):
 
 
 def begin(sections, line, title):
-    """A section more, by those above it."""
+    """Adds a section to those above it."""
     if title.lower() in (section.title.lower() for section in sections):
         raise Fault("I7 Again")
     if len(sections) >= MOST_SECTIONS:
@@ -159,7 +161,7 @@ ONCE = {"vol_id": "I9 SameId", "vol_name": "I10 SameName"}
 
 
 def add(sections, key, value):
-    """What a line says of the section that it stands in, by the lines above it."""
+    """Adds what a line says about its section, given the lines above it."""
     if not sections:
         raise Fault("I6 NoSection")
     if key in sections[-1].values:
@@ -218,7 +220,7 @@ def read_config(text):
 
 
 def record(section, geometry, image_len):
-    """The record of a section's volume, where its image file has so many bytes (None: it names none)."""
+    """The record of a section's volume, if its image file has so many bytes (None: it names none)."""
     kept = section.size if section.size is not None else image_len
     if image_len == 0 and section.kind != KINDS[b"static"]:
         raise Refused("I13 Empty")

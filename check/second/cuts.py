@@ -1,58 +1,52 @@
 #!/usr/bin/env python3
-"""Cuts random changes and renames of random small images after each of their steps, and looks at what each cut means.
+"""Cuts random changes and renames of random small images after each of their steps, and checks what each cut means.
 
 usage: cuts.py [--seed N] [--count N] [--first N] [--dir FOLDER] [--tool PROGRAM]
 
-An image has the two copies of a table with one or two dynamic volumes, some of their logical eraseblocks, of some an older
-member too, and eraseblocks that are free, erased, or hold no header that can be read, all of it in a random order. None, one,
-two or all of those with an erase-counter header carry the image's number. Of an image one logical eraseblock is changed by
-`change`, or one volume renamed by `rename`, which is asked for the image after each number of steps from 0 on. Each cut must be
-accepted by `check`, with the number, and `list` and `extract` must give of it what they are to give of the old image up to the
-step that turns, and of the new one from then on. Each cut of a rename is renamed again, which must be refused just where the
-copies of the table differ. Which step turns, what is listed and extracted, and which eraseblocks are touched, is worked out here,
-by the format alone. Where too few eraseblocks can be taken, the number isn't reserved, the volume isn't there, or another one has
-the name, the refusal is looked at.
+An image has the two copies of a table with one or two dynamic volumes, some of their logical eraseblocks, some of those
+with an older member too, and eraseblocks that are free, erased, or hold no readable header, all in a random order.
+None, one, two or all of those with an erase-counter header carry the image's number. `change` changes one logical
+eraseblock of an image, or `rename` renames a volume, and writes the image after each number of steps from 0 on. `check`
+must accept each cut, with the number, and the answers of `list` and `extract` must be those for the old image up to the
+commit point, and those for the new one from then on. Each cut of a rename is renamed again, which must be refused
+exactly if the copies of the table differ. This script works out from the format alone which step is the commit point,
+what is listed and extracted, and which eraseblocks are touched. If too few eraseblocks can be taken, the number isn't
+reserved, the volume isn't there, or another one has the name, it checks the refusal.
 
-In half of the images one to four more eraseblocks are bad, and are listed so. They hold anything: bytes that are all alike or random,
-a free eraseblock, headers that are at fault or name another number, or what would win a logical eraseblock or the table. No step
-may touch them, and with other bytes in them the plan, its pages and what is written stay as they are. A quarter of the plans keep
-blank eraseblocks. The pages of each cut must be those that its programs gave. Beside the program check/second/rules.py judges
-each cut, too.
+In half of the images one to four more eraseblocks are bad, and are listed so. They hold anything: equal bytes or random
+ones, a free eraseblock, headers that are at fault or name another number, or what would win a logical eraseblock or the
+table. No step may touch them, and other bytes in them must change neither the plan nor its pages nor what is written. A
+quarter of the plans keep blank eraseblocks. The pages of each cut must be those that its steps programmed.
+check/second/rules.py judges each cut, too.
 
-Without words there are 100 images (--count) of the seed 1 (--seed) to change, and as many to rename. They lie in a new folder
-below FOLDER (/tmp where it is left out), which is removed again. Without --tool the program is built first where it isn't yet.
-The last line is 'N passed, M failed', and the exit status is 0 where none failed.
+By default there are 100 images (--count) of the seed 1 (--seed) to change, and as many to rename. They lie in a new
+folder below FOLDER (/tmp by default), which is removed afterwards. Without --tool the program is built first, unless it
+is built already. The last line is 'N passed, M failed', and the exit status is 0 if none failed.
 """
 import os
 import struct
 import subprocess
 
 import rules
-from fuzz import Failure, built, either, finish, listing, options, run_cases
-from rules import check, sealed
+from fuzz import built, either, expect, finish, listing, options, run_cases
+from rules import LAYOUT, counter_header, crc, dynamic_header, sealed
 
-LAYOUT, PEBS = 0x7FFFEFFF, 32
-# Of each volume what it reserves.
+PEBS = 32
+# How many eraseblocks each volume reserves.
 RESERVED = {0: 12, 1: 3}
-# New names as they are given, and their bytes; and how `list` prints the one whose bytes it doesn't print as they stand.
-NAMES = {"root": b"root", "data": b"data", "new": b"new", "\\x6Eew": b"new", "\\xFF\\x20\\x5c\\x41": b"\xFF \\A", "n" * 127: b"n" * 127}
+# New names as they are given, and their bytes; and how `list` prints the one that it escapes.
+NAMES = {
+    "root": b"root", "data": b"data", "new": b"new", "\\x6Eew": b"new", "\\xFF\\x20\\x5c\\x41": b"\xFF \\A",
+    "n" * 127: b"n" * 127,
+}
 SHOWN = {b"\xFF \\A": "\\xff\\x20\\x5cA"}
 GEOMETRIES = ((512, 64, 64, 128), (1024, 256, 64, 256), (1024, 256, 320, 512), (576, 64, 64, 128))
 
 
-def counter_header(counter, vid, data, image_seq=0):
-    return sealed(struct.pack(">4sB3xQIII32x", b"UBI#", 1, counter, vid, data, image_seq))
-
-
-def identifier_header(volume, number, sqnum, copied=b"", compat=0):
-    size, data_check = (len(copied), check(copied)) if copied else (0, 0)
-    return sealed(struct.pack(">4sBBBBII4xIIII4xQ12x", b"UBI!", 1, 1, int(bool(copied)), compat, volume, number, size, 0, 0, data_check, sqnum))
-
-
 class Device:
-    """A random image, what its volumes are called and read, and which of its eraseblocks is what.
+    """A random image, the names and the contents of its volumes, and what each of its eraseblocks is.
 
-    `image` is what the file holds, and `seen` what is read of it: 0xFF in the eraseblocks that are bad.
+    `image` is what the file holds, and `seen` what is read of it: 0xFF in the bad eraseblocks.
     """
 
     def __init__(self, rng):
@@ -85,22 +79,29 @@ class Device:
         self.of_plan = either(rng, "--blank", "keep") if self.keeps_blank else []
 
     def with_bad(self):
-        """The image with any bytes in the eraseblocks that are bad."""
+        """The image with any bytes in the bad eraseblocks."""
         blocks = [self.seen[at : at + self.peb] for at in range(0, len(self.seen), self.peb)]
         return b"".join(self.bad_block() if p in self.bad else block for p, block in enumerate(blocks))
 
     def bad_block(self):
-        """What an eraseblock that is bad holds: anything, or what would win, be taken or be refused if it were looked at."""
+        """The bytes of a bad eraseblock: anything, or what would win, be taken or be refused if it were looked at."""
         rng, sqnum = self.rng, self.rng.choice((1000, 2**63, 2**64 - 1))
         counted = counter_header(rng.randrange(100), self.vid, self.data, rng.choice((0, 0x12345678, 0x12345678, 7)))
         lebs = [*self.lebs, *((0, number) for number in range(RESERVED[0]))]
-        member = identifier_header(*rng.choice(lebs), sqnum)
-        table = identifier_header(LAYOUT, rng.randrange(2), sqnum, compat=5)
+        member = dynamic_header(*rng.choice(lebs), sqnum)
+        table = dynamic_header(LAYOUT, rng.randrange(2), sqnum, compat=5)
         at_fault = sealed(counted[:4] + b"\x02" + counted[5:60])
         return rng.choice((
-            bytes(self.peb), self.erased(), rng.randbytes(self.peb), self.block(counted, b"\xFF" * 64), self.block(counted, bytes(64)),
-            self.block(counted, member, self.text()), self.block(counted, member, self.text()), self.block(bytes(64), member, self.text()),
-            self.block(counted, table, self.records({0: b"bad"})), self.block(at_fault, member),
+            bytes(self.peb),
+            self.erased(),
+            rng.randbytes(self.peb),
+            self.block(counted, b"\xFF" * 64),
+            self.block(counted, bytes(64)),
+            self.block(counted, member, self.pages()),
+            self.block(counted, member, self.pages()),
+            self.block(bytes(64), member, self.pages()),
+            self.block(counted, table, self.records({0: b"bad"})),
+            self.block(at_fault, member),
             self.block(counted, sealed(member[:5] + b"\x03" + member[6:60])),
         ))
 
@@ -116,18 +117,21 @@ class Device:
             self.sole = carriers[0]
 
     def takeable(self):
-        """The eraseblocks that may be taken, in their order: the clean ones, and then the other unused ones, of which blank ones may be kept."""
+        """The eraseblocks that may be taken, in their order: the clean ones, and then the other unused ones, except
+        blank ones that are kept."""
         groups = ("clean",), ("unused",) if self.keeps_blank else ("unused", "erased")
         return [p for kinds in groups for p, of in enumerate(self.kinds) if of in kinds and p != self.sole]
 
     def touched(self, lnum):
-        """The eraseblocks that a change of a LEB erases or programs: what it takes, and the winner that it gives up."""
+        """The eraseblocks that a change of a LEB erases or programs: those that it takes, and the winner that it gives
+        up."""
         if (0, lnum) not in self.lebs:
             return set(self.takeable()[:2])
         return {self.takeable()[0], self.kinds.index((0, lnum))} - {self.sole}
 
     def touched_by_rename(self):
-        """The eraseblocks that a rename erases or programs: the two that it takes, and the copies of the table that it gives up."""
+        """The eraseblocks that a rename erases or programs: the two that it takes, and the copies of the table that it
+        gives up."""
         return {*self.takeable()[:2], *(self.kinds.index(("table", copy)) for copy in range(2))} - {self.sole}
 
     def block(self, ec, vid, data=b""):
@@ -138,31 +142,31 @@ class Device:
         return counter_header(self.rng.randrange(100), self.vid, self.data)
 
     def table(self, copy):
-        return self.block(self.counted(), identifier_header(LAYOUT, copy, 0, compat=5), self.records(self.names))
+        return self.block(self.counted(), dynamic_header(LAYOUT, copy, 0, compat=5), self.records(self.names))
 
     def records(self, names):
-        """The table where volumes have these names."""
+        """The table of volumes with these names."""
         fronts = [bytes(168)] * self.slots
         for volume, name in names.items():
             fronts[volume] = struct.pack(">IIIBBH128sB23x", RESERVED[volume], 1, 0, 1, 0, len(name), name, 0)
         return b"".join(map(sealed, fronts))
 
-    def text(self):
-        """Some whole pages: random ones, and maybe blank ones behind them."""
+    def pages(self):
+        """Some whole pages: random ones, and maybe blank ones after them."""
         pages = self.rng.randrange(1, self.leb // self.page + 1)
         blank = self.rng.randrange(pages + 1) if self.rng.random() < 0.5 else 0
         return self.rng.randbytes((pages - blank) * self.page) + b"\xFF" * (blank * self.page)
 
     def members(self, volume, number):
-        """A logical eraseblock: its winner, whose kind is the volume and the number, and maybe a member that is beaten."""
-        text = self.text()
-        copied = text if self.rng.random() < 0.5 else b""
-        self.lebs[volume, number] = text.ljust(self.leb, b"\xFF")
-        winner = self.block(self.counted(), identifier_header(volume, number, 2 * number + 2, copied), text)
+        """A logical eraseblock: its winner, whose kind is the volume and the number, and maybe a member that loses."""
+        data = self.pages()
+        copied = data if self.rng.random() < 0.5 else b""
+        self.lebs[volume, number] = data.ljust(self.leb, b"\xFF")
+        winner = self.block(self.counted(), dynamic_header(volume, number, 2 * number + 2, copied), data)
         if self.rng.random() < 0.6:
             return [((volume, number), winner)]
-        beaten = self.block(self.counted(), identifier_header(volume, number, 2 * number + 1), self.text())
-        return [((volume, number), winner), ("unused", beaten)]
+        loser = self.block(self.counted(), dynamic_header(volume, number, 2 * number + 1), self.pages())
+        return [((volume, number), winner), ("unused", loser)]
 
     def free(self):
         return self.block(self.counted(), b"\xFF" * 64)
@@ -177,31 +181,27 @@ class Device:
         return self.block(bytes(64), bytes(64))
 
     def words(self):
-        sizes = (("--peb", self.peb), ("--page", self.page), ("--vid", self.vid), ("--data", self.data), ("--pebs", PEBS))
-        return [*(str(word) for pair in sizes for word in pair), *self.of_bad]
+        return [*self.geometry().words(), *self.of_bad]
+
+    def geometry(self):
+        return rules.Geometry(self.peb, self.page, self.vid, self.data, PEBS)
 
     def meant(self, cut):
         """What a cut means by the second reading of the format."""
-        geometry = rules.Geometry(self.peb, self.page, self.vid, self.data, PEBS)
-        return rules.Image(geometry, cut, lambda p: p in self.bad).meaning()
-
-
-def expect(is_right, what):
-    if not is_right:
-        raise Failure(what)
+        return rules.Image(self.geometry(), cut, lambda p: p in self.bad).meaning()
 
 
 def listed(device, names, lebs):
-    """What `list` prints where volumes have these names and these logical eraseblocks."""
+    """What `list` prints if the volumes have these names and these logical eraseblocks."""
     lines = [
         f"geometry peb={device.peb} page={device.page} vid={device.vid} data={device.data} leb={device.leb} "
         f"slots={device.slots} pebs={PEBS}\n"
     ]
     for volume, name in names.items():
-        count = sum(of == volume and text.strip(b"\xFF") != b"" for (of, _), text in lebs.items())
+        count = sum(of == volume and data.strip(b"\xFF") != b"" for (of, _), data in lebs.items())
         lines.append(
-            f"volume {volume} dynamic reserved={RESERVED[volume]} alignment=1 usable={device.leb} flags=00 lebs={count} "
-            f"name={SHOWN.get(name, name.decode(errors='replace'))}\n"
+            f"volume {volume} dynamic reserved={RESERVED[volume]} alignment=1 usable={device.leb} flags=00 "
+            f"lebs={count} name={SHOWN.get(name, name.decode(errors='replace'))}\n"
         )
     return "".join((*lines, f"volumes {len(names)}\n"))
 
@@ -224,11 +224,12 @@ def steps_of(text):
 
 def is_copy(device, block):
     header = block[device.vid : device.vid + 64]
-    return header[:4] == b"UBI!" and header[6] == 1 and struct.pack(">I", check(header[:60])) == header[60:]
+    return header[:4] == b"UBI!" and header[6] == 1 and struct.pack(">I", crc(header[:60])) == header[60:]
 
 
-def turns(device, steps, cuts, new, count):
-    """Of COUNT copies each one's eraseblock, and the steps from which on it wins: up to its header, and then the pages that count."""
+def commits(device, steps, cuts, new, count):
+    """The eraseblock of each of COUNT copies, and the number of steps after which it wins: those up to its header, and
+    then those of the pages that aren't blank at the end."""
     found = []
     for k, (p, page) in enumerate(steps):
         before, after = (cut[p * device.peb : (p + 1) * device.peb] for cut in cuts[k : k + 2])
@@ -239,14 +240,14 @@ def turns(device, steps, cuts, new, count):
 
 
 def page_of(device, cut, step):
-    """The bytes that a page has behind the step that programs it; no byte of an erase."""
+    """The bytes that a page has after the step that programs it; none for an erase."""
     p, page = step
     start = p * device.peb + (page or 0) * device.page
     return b"" if page is None else cut[start : start + device.page]
 
 
 def is_one_step(device, before, after, step):
-    """Whether nothing but the eraseblock or the page of a step differs, and a program sets no bit."""
+    """Whether only the eraseblock or the page of a step differs, and a program sets no bit."""
     p, page = step
     start = p * device.peb + (0 if page is None else page * device.page)
     end = start + (device.peb if page is None else device.page)
@@ -258,7 +259,7 @@ def is_one_step(device, before, after, step):
 
 
 class Looker:
-    """Runs the program over files of a folder, and looks at what it answers."""
+    """Runs the program on files of a folder, and checks its answers."""
 
     def __init__(self, tool, folder):
         self.tool = tool
@@ -270,7 +271,7 @@ class Looker:
         return done.stdout, done.returncode
 
     def look(self, device, names, lebs, what):
-        """Looks at what a cut means."""
+        """Checks what a cut means."""
         text, status = self.run("check", self.cut, *device.words())
         expect(status == 0 and text.endswith("accepted\n"), f"{what} isn't accepted: {text}")
         expect(f"\nimage seq {device.number}\n" in text, f"{what} has another number: {text}")
@@ -281,8 +282,8 @@ class Looker:
             expect(status == 0 and read(self.out) == extracted(device, lebs, volume), f"{what} reads something else")
 
     def try_change(self, device):
-        """Changes one logical eraseblock of an image, and looks at each cut. Gives how many steps the plan has."""
-        lnum, new = device.rng.randrange(RESERVED[0] + 1), device.text()
+        """Changes one logical eraseblock of an image, and checks each cut. Returns the number of steps of the plan."""
+        lnum, new = device.rng.randrange(RESERVED[0] + 1), device.pages()
         mapped = [number for volume, number in device.lebs if volume == 0]
         if mapped and device.rng.random() < 0.5:
             lnum = device.rng.choice(mapped)
@@ -297,15 +298,16 @@ class Looker:
         if refusal:
             return 0
         self.look_touched(device, steps, device.touched(lnum))
-        [(_, at)] = turns(device, steps, cuts, new, 1)
+        [(_, at)] = commits(device, steps, cuts, new, 1)
         changed = device.lebs | {(0, lnum): new.ljust(device.leb, b"\xFF")}
         self.judge(device, cuts, at)
         for k, what in self.each_cut(device, steps, cuts):
-            self.look(device, device.names, device.lebs if k < at else changed, f"{what} of a change that turns at {at}")
+            lebs = device.lebs if k < at else changed
+            self.look(device, device.names, lebs, f"{what} of a change with its commit at {at}")
         return len(steps)
 
     def try_rename(self, device):
-        """Renames a volume of an image, and looks at each cut. Gives how many steps the plan has."""
+        """Renames a volume of an image, and checks each cut. Returns the number of steps of the plan."""
         volume, word = device.rng.randrange(2), device.rng.choice(list(NAMES))
         words = ["rename", self.image, "--id", str(volume), "--name", word, *self.outs(device)]
         names = device.names | {volume: NAMES[word]}
@@ -320,22 +322,26 @@ class Looker:
         if refusal:
             return 0
         self.look_touched(device, steps, device.touched_by_rename())
-        (first, at), (second, end) = turns(device, steps, cuts, device.records(names), 2)
-        expect([first, second] == device.takeable()[:2], f"the copies are put to {first} and {second}")
+        (first, at), (second, end) = commits(device, steps, cuts, device.records(names), 2)
+        expect([first, second] == device.takeable()[:2], f"the copies are put into {first} and {second}")
         self.judge(device, cuts, at)
         for k, what in self.each_cut(device, steps, cuts):
-            self.look(device, device.names if k < at else names, device.lebs, f"{what} of a rename that turns at {at}")
-            again, _ = self.run("rename", self.cut, "--id", str(volume), "--name", "again", "--out", self.out, *device.words())
+            meant = device.names if k < at else names
+            self.look(device, meant, device.lebs, f"{what} of a rename with its commit at {at}")
+            rename = ["rename", self.cut, "--id", str(volume), "--name", "again", "--out", self.out]
+            again, _ = self.run(*rename, *device.words())
             differ = at <= k < end and names != device.names
-            expect((again == "refused N3 NeedsRepair\n") == differ, f"{what} of a rename from {at} to {end} is renamed: {again}")
+            is_refused = again == "refused N3 NeedsRepair\n"
+            expect(is_refused == differ, f"{what} of a rename from {at} to {end} is renamed: {again}")
         return len(steps)
 
     def outs(self, device):
-        """The words behind those that say what is planned."""
+        """The words after those that say what is planned."""
         return ["--out", self.cut, *either(device.rng, "--pages", self.pages), *device.of_plan, *device.words()]
 
     def planned(self, device, words, refusal):
-        """The steps of a plan, and what is written behind each number of them, and behind one more than there are; or a refusal."""
+        """The steps of a plan, and the image after each number of them, and for one more than there are; none if it is
+        refused."""
         write(self.image, device.image)
         for path in (self.cut, self.pages):
             if os.path.exists(path):
@@ -343,7 +349,7 @@ class Looker:
         plan, status = self.run(*words)
         if refusal:
             written = os.path.exists(self.cut) or os.path.exists(self.pages)
-            expect((plan, status) == (f"refused {refusal}\n", 1) and not written, f"of {refusal!r} comes {plan!r}")
+            expect((plan, status) == (f"refused {refusal}\n", 1) and not written, f"not {refusal!r} but {plan!r}")
             self.look_others(device, words, (plan, status))
             return [], []
         expect(status == 0, f"{words[0]} is refused: {plan}")
@@ -357,27 +363,31 @@ class Looker:
         return steps, cuts
 
     def look_others(self, device, words, answer, *files):
-        """Whether an answer and the files that are written stay, with other bytes in the eraseblocks that are bad."""
+        """Checks that an answer and the written files stay the same with other bytes in the bad eraseblocks."""
         if device.bad:
             write(self.image, device.with_bad())
-            came = self.run(*words)
-            expect(came == answer, f"with other bytes in what is bad comes {came}")
-            expect(not files or (read(self.cut), read(self.pages)) == files, "with other bytes in what is bad other files are written")
+            again = self.run(*words)
+            expect(again == answer, f"other bytes in bad eraseblocks give {again}")
+            is_same = not files or (read(self.cut), read(self.pages)) == files
+            expect(is_same, "other bytes in bad eraseblocks give other files")
 
     def look_touched(self, device, steps, expected):
         touched = {p for p, _ in steps}
         expect(touched == expected, f"the steps touch {touched} and not {expected}")
-        expect(not touched & set(device.bad), f"the steps touch {touched}, of which some are bad")
+        expect(not touched & set(device.bad), f"the steps touch {touched}, some of which are bad")
 
     def judge(self, device, cuts, at):
-        """Whether the second reading takes each cut for the old image up to a step, and for the new one from it on."""
+        """Checks that to the second reading each cut means the old up to the commit point, and the new from then on."""
         old, new = device.meant(device.image), device.meant(cuts[-1])
         for k, cut in enumerate(cuts):
-            expect(device.meant(cut) == (old if k < at else new), f"cut {k} of a plan that turns at {at} is neither the old nor the new")
+            is_right = device.meant(cut) == (old if k < at else new)
+            expect(is_right, f"cut {k} of a plan with its commit at {at} doesn't mean the {'old' if k < at else 'new'}")
 
     def each_cut(self, device, steps, cuts):
-        """Puts each cut in its file, once it is one step from the one before. Gives its number, and what it is called."""
-        expect(cuts[0] == device.seen and cuts[-1] == cuts[-2], "--stop 0 isn't the image, or too large a one isn't all")
+        """Writes each cut to its file, after checking that it is one step from the one before. Yields its number and
+        its name."""
+        is_whole = cuts[0] == device.seen and cuts[-1] == cuts[-2]
+        expect(is_whole, "--stop 0 doesn't give the image, or a number that is too large not all steps")
         for k, cut in enumerate(cuts[:-1]):
             expect(k == 0 or is_one_step(device, cuts[k - 1], cut, steps[k - 1]), f"step {k} does something else")
             write(self.cut, cut)

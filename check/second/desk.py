@@ -1,19 +1,21 @@
 #!/usr/bin/env python3
-"""Compares what the program answers of files of which no number is typed with what docs/FORMAT.md says, as check/second/geometry.py and
-rules.py read it, and with the truth.
+"""Compares the program's answers for files, when it is given no numbers, with docs/FORMAT.md, as
+check/second/geometry.py and rules.py read it, and with the truth.
 
 usage: desk.py [--seed N] [--count N] [--geometry N] [--first N] [--dir FOLDER] [--tool PROGRAM]
 
-The files are those of dumps.py: images with anything around them, damaged, cut, one in another, with out-of-band bytes; and hostile ones.
-Of each `geometry` has to print the lines of geometry.py, or the line of the cause for which there are none; and what it prints has to be true, but
-where docs/FORMAT.md says what may be told wrong. Then `list`, `check`, `extract`, `unpack` and `normalise` of the file, without a number, have to
-answer what the rules say of the image that lies there under the first geometry: its bytes without those around it and without out-of-band bytes.
-Where no geometry can be told they have to print the line of `geometry`, end with status 1 and write nothing.
+The files are those of dumps.py: images with anything around them, damaged, cut, one in another, with out-of-band bytes;
+and hostile ones. For each, `geometry` has to print the lines of geometry.py, or the line of the cause for which there
+are none; and what it prints has to be true, unless docs/FORMAT.md allows the wrong answer. Then `list`, `check`,
+`extract`, `unpack` and `normalise` of the file, without a number, have to answer what the rules say about the image
+that lies there with the first geometry: its bytes without those around it and without out-of-band bytes. If no geometry
+can be found, they have to print the line of `geometry`, end with status 1 and write nothing.
 
-Without words there are 1,000 files (--count) of the seed 1 (--seed), and none of which `geometry` alone is asked (--geometry). They lie in a new folder below FOLDER (/tmp where it is left out),
-which is removed again. Without --tool the program is built first where it isn't yet. What was told right, wrong and refused is counted. The
-last line is 'N passed, M failed', and the exit status is 0 where none failed; a file that failed can be made again by its number, which
---first names: the kind of a file depends on its number.
+By default there are 1,000 files (--count) of the seed 1 (--seed), and no files on which only `geometry` is run
+(--geometry). They lie in a new folder below FOLDER (/tmp by default), which is removed afterwards. Without --tool the
+program is built first, unless it is built already. It counts the right, wrong and refused answers. The last line is 'N
+passed, M failed', and the exit status is 0 if none failed; a file that failed can be made again by giving its number to
+--first: the kind of a file depends on its number.
 """
 import collections
 import os
@@ -27,7 +29,7 @@ from rules import Image, Refused
 
 
 class Case(Runner):
-    """A file, and what the program is to answer of it."""
+    """A file, and the answers that the program has to give for it."""
 
     def __init__(self, rng, tool, folder, k):
         super().__init__(tool, folder, None)
@@ -35,16 +37,16 @@ class Case(Runner):
         self.kind, self.file = dumps.file_of(rng, k)
         self.path = self.put("file", self.file.data)
         self.volumes = os.path.join(folder, "volumes")
-        # What an earlier file that failed may have left.
+        # An earlier file that failed may have left these.
         taken(self.volumes)
         self.written()
 
     def whole(self, words):
-        """The words of a command as they are: no number is typed."""
+        """The words of a command as they are: no number is given."""
         return words
 
     def look(self):
-        """Compares each answer. Gives what the geometry is: right, wrong or refused."""
+        """Compares each answer. Returns whether the geometry is right, wrong or refused."""
         judgement, text = self.look_geometry()
         if judgement == "refused":
             self.look_refused(text)
@@ -53,22 +55,25 @@ class Case(Runner):
         return judgement
 
     def look_geometry(self):
-        """Compares what is told with the rule and with the truth. Gives what it is, and what is printed."""
+        """Compares the answer with the rule and with the truth. Returns whether it is right, wrong or refused, and what
+        is printed."""
         text, status = printed(self.file.data)
         judgement = dumps.judged(self.file, text, status)
         ran = subprocess.run([self.tool, "geometry", self.path], capture_output=True)
-        came = (ran.stdout.decode(), ran.returncode)
-        if came != (text, status) or ran.stderr:
-            judged = dumps.judged(self.file, *came)
-            raise Failure(f"{self.kind}: geometry answers {came}, which is {judged}, where {(text, status)}, which is {judgement}, is the rule's; "
-                f"{ran.stderr.decode()}")
-        if judgement == "wrong" and not dumps.may_be_told(self.file, text):
-            raise Failure(f"{self.kind}: the rule itself is wrong: {text.splitlines()[0]}, {dumps.fault(self.file, text)}")
+        answer = (ran.stdout.decode(), ran.returncode)
+        if answer != (text, status) or ran.stderr:
+            judged = dumps.judged(self.file, *answer)
+            raise Failure(f"{self.kind}: geometry answers {answer}, which is {judged}, and the rule {(text, status)}, "
+                f"which is {judgement}; {ran.stderr.decode()}")
+        if judgement == "wrong" and not dumps.may_be_named(self.file, text):
+            what = f"{text.splitlines()[0]}, {dumps.fault(self.file, text)}"
+            raise Failure(f"{self.kind}: the rule itself is wrong: {what}")
         return judgement, text
 
     def look_refused(self, line):
-        """Whether a command that reads an image refuses a file as `geometry` does."""
-        for command, *words in (["list"], ["check"], ["extract", "--id", "0", "--out", self.out], ["normalise", "--out", self.out]):
+        """Checks that the commands that read an image refuse a file as `geometry` does."""
+        out = ["--out", self.out]
+        for command, *words in (["list"], ["check"], ["extract", "--id", "0", *out], ["normalise", *out]):
             self.expect([command, self.path, *words], line, 1)
         self.look_not_unpacked(line)
 
@@ -78,7 +83,7 @@ class Case(Runner):
             raise Failure(f"{self.kind}: a folder is made for a file that is refused")
 
     def look_found(self, found):
-        """Compares what is answered of the image that lies in a file."""
+        """Compares the answers for the image that lies in a file."""
         try:
             image = Image(found.geometry, found.image(self.file.data))
         except Refused as refused:
@@ -90,7 +95,8 @@ class Case(Runner):
         self.expect(["check", self.path], "".join(rules.check_lines(image)), 0)
         self.look_read(self.path, image, self.rng.choice((*image.records, 0, 127)))
         self.look_unpacked(self.path, image)
-        self.expect(["normalise", self.path, "--out", self.out], f"blocks {len(normal) // self.geometry.peb}\n", 0, normal)
+        lines = f"blocks {len(normal) // self.geometry.peb}\n"
+        self.expect(["normalise", self.path, "--out", self.out], lines, 0, normal)
 
 
 def main():

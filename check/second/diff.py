@@ -1,23 +1,24 @@
 #!/usr/bin/env python3
-"""Compares what `diff` and `same` answer of random pairs of images with what docs/FORMAT.md says, as check/second/rules.py reads it.
+"""Compares the answers of `diff` and `same` for random pairs of images with docs/FORMAT.md, as check/second/rules.py
+reads it.
 
 usage: diff.py [--seed N] [--count N] [--large N] [--first N] [--dir FOLDER] [--tool PROGRAM]
 
-The left image of a pair is made as fuzz.py makes images. The right one is the same, changed in one to three places: a bit of a logical
-eraseblock, of a text too, so that its volume is damaged; eraseblocks erased or doubled; a field of a record in both copies of the table, its
-check made right again; a volume more or less; the image sequence number; and always other wear and another order. Now and then the
-right one is another image altogether. Some are refused then. `diff` has to tell just the differences of the two meanings, in both orders,
-and `same` what its last line says.
+The left image of a pair is made as fuzz.py makes images. The right one is the same, changed in one to three places: a
+bit of a logical eraseblock, also of a static volume, which is damaged then; eraseblocks erased or doubled; a field of a
+record in both copies of the table, with the right CRC; a volume more or less; the image sequence number; and always
+other wear and another order. Now and then the right one is another image altogether. Some are refused then. `diff` has
+to print exactly the differences of the two meanings, in both orders, and `same` its last line.
 
-Without words there are 500 pairs (--count) of the seed 1 (--seed), and 5 (--large) with eraseblocks of 128 KiB. The last line is
-'N passed, M failed', and the exit status is 0 where none failed.
+By default there are 500 pairs (--count) of the seed 1 (--seed), and 5 (--large) with eraseblocks of 128 KiB. The last
+line is 'N passed, M failed', and the exit status is 0 if none failed.
 """
 import dataclasses
 
 import fuzz
 import rules
 from fuzz import REAL_SIZES, Maker, Mutator, Runner, built, finish, options, run_cases
-from rules import Image, Refused
+from rules import Refused
 
 KINDS = {1: "dynamic", 2: "static"}
 
@@ -27,7 +28,7 @@ def sides(left, right):
 
 
 def fields(record):
-    """What a line of a difference says of each field."""
+    """What a line of a difference says about each field."""
     return {
         "kind": KINDS[record.kind],
         "reserved": record.reserved,
@@ -38,7 +39,7 @@ def fields(record):
 
 
 def leb_of(content, record, usable, lnum):
-    """What a LEB reads; None where the volume has no such LEB."""
+    """The contents of a LEB; None if the volume has no such LEB."""
     if isinstance(content, bytes):
         return content[lnum * usable:(lnum + 1) * usable] or None
     return content.get(lnum, b"\xFF" * usable) if lnum < record.reserved else None
@@ -56,7 +57,7 @@ def ranges(numbers):
 
 
 def volume_lines(left, right, number):
-    """The lines of a volume that both images have."""
+    """The lines for a volume that both images have."""
     geometry = left.geometry
     one, other = left.records[number], right.records[number]
     a, b = left.contents[number], right.contents[number]
@@ -81,7 +82,7 @@ def volume_lines(left, right, number):
 
 
 def difference_lines(left, right):
-    """The lines of two images."""
+    """The lines for two images."""
     if left.image_seq != right.image_seq:
         yield f"seq {sides(left.image_seq, right.image_seq)}"
     for number in sorted({*left.records, *right.records}):
@@ -97,29 +98,32 @@ class Changer(Mutator):
     def __init__(self, rng, geometry, maker):
         super().__init__(rng, geometry, (1, 1, 2, 3))
         self.maker = maker
-        self.ways = (self.leb_bit, self.leb_bit, self.leb_bit, self.erased, self.doubled, self.both_records, self.both_records,
-            self.volumes, self.number)
+        self.ways = (
+            self.leb_bit, self.leb_bit, self.leb_bit, self.erased, self.doubled, self.both_records, self.both_records,
+            self.volumes, self.number,
+        )
 
     def leb_bit(self, blocks):
         p, at = self.place(blocks), self.rng.randrange(self.geometry.data, self.geometry.peb)
         self.replace(blocks, p, at, bytes([blocks[p][at] ^ 1 << self.rng.randrange(8)]))
 
     def volumes(self, blocks):
-        """A volume more or less in both copies of the table, or one that says something else."""
+        """A volume more or less in both copies of the table, or a changed one."""
         records = dict(self.maker.records)
         free = [slot for slot in range(self.geometry.slots) if slot not in records]
         if records and self.rng.random() < 0.4:
             slot = self.rng.choice(list(records))
             old = records.pop(slot)
             if self.rng.random() < 0.6:
-                records[slot] = dataclasses.replace(old, **self.rng.choice(({"flags": old.flags ^ 2}, {"reserved": old.reserved + 1},
-                    {"name": self.maker.name(slot)})))
+                name = {"name": self.maker.name(slot)}
+                field = self.rng.choice(({"flags": old.flags ^ 2}, {"reserved": old.reserved + 1}, name))
+                records[slot] = dataclasses.replace(old, **field)
         elif free:
             slot = self.rng.choice(free)
             records[slot] = self.maker.record(slot)
-        text = rules.put_table(self.geometry, records).ljust(self.geometry.leb, b"\0")
+        table = rules.put_table(self.geometry, records).ljust(self.geometry.leb, b"\0")
         for p in self.tables(blocks):
-            self.replace(blocks, p, self.geometry.data, text)
+            self.replace(blocks, p, self.geometry.data, table)
 
     def number(self, blocks):
         number = self.rng.choice((0, 1, 0x12345678, 0xFFFFFFFF))
@@ -132,7 +136,8 @@ class Changer(Mutator):
         rng = self.rng
         for p, block in enumerate(blocks):
             if block.startswith(b"UBI#") and rng.random() < 0.3:
-                blocks[p] = rules.sealed(block[:8] + rng.randrange(2**31).to_bytes(8, "big") + block[16:60]) + block[64:]
+                counter = rng.randrange(2**31).to_bytes(8, "big")
+                blocks[p] = rules.sealed(block[:8] + counter + block[16:60]) + block[64:]
         rng.shuffle(blocks)
         return blocks
 
@@ -145,7 +150,7 @@ class Changer(Mutator):
 
 
 class Pair(Runner):
-    """Two images, and what the program is to answer of them."""
+    """Two images, and the answers that the program has to give for them."""
 
     def __init__(self, rng, tool, folder, maker):
         super().__init__(tool, folder, maker.geometry)
@@ -165,7 +170,7 @@ class Pair(Runner):
             return str(cause)
 
     def look_order(self, left, right):
-        """Compares the answers in one order. Gives whether both images are accepted."""
+        """Compares the answers in one order. Returns whether both images are accepted."""
         here, there = self.read_or_not(left), self.read_or_not(right)
         paths = [self.put("left", left), self.put("right", right)]
         if isinstance(here, str) or isinstance(there, str):

@@ -1,20 +1,23 @@
 #!/usr/bin/env python3
-"""Writes outputs and pages to files of all kinds, and looks at what becomes of the files that were read.
+"""Writes outputs and pages to files of all kinds, and checks what happens to the files that were read.
 
 usage: files.py [--dir FOLDER] [--tool PROGRAM]
 
-A file isn't written that was read, but IMAGE by --out, and that not by `map`; nor are the pages written where the output is. Each is tried by the file's
-name, by other paths to it, and by links of both kinds. Other outputs are there already, or are links, folders, devices and
-pipes, or can't be written; and some names have blanks, lines' ends or a hyphen in front.
-Of each case the printed lines and the status are compared, and every file of the folder: what is written has its new bytes, and each
-other file those that it had. Where the pages can't be written the output may have been written or not, and where the
-output can't be, so may the pages. Whatever stands in the folder stays there as it is: a link, a pipe, a device (made as root alone),
-each file under its number and with its mode.
-Then `unpack` goes into folders that are there already: empty ones, which are taken, and such as hold a file with a dot in front, can't
-be read, are a link, or have a name that differs by a blank.
+A file that was read may not be written, except IMAGE by --out, and not by `map`; and the pages may not be written to
+the file of the output. Each case is tried with the file's name, with other paths to it, and with links of both kinds.
+Other outputs exist already, or are links, folders, devices and pipes, or can't be written; and some names have blanks,
+line ends or a leading hyphen.
 
-The cases are always the same. Their files lie in new folders below FOLDER (/tmp where it is left out), which are removed again. Without
---tool the program is built first where it isn't yet. The last line is 'N passed, M failed', and the exit status is 0 where none failed.
+For each case it compares the printed lines, the status, and every file of the folder: a written file must have its new
+bytes, and every other file its old ones. If the pages can't be written, the output may have been written or not; if the
+output can't be written, the same holds for the pages. Everything in the folder must stay as it is: links, pipes,
+devices (which only root can make), and the number and the mode of each file. Then it runs `unpack` into folders that
+exist already: empty ones, which are accepted, and folders that hold a file with a leading dot, can't be read, are a
+link, or have a name that differs by a blank.
+
+The cases are always the same. Their files lie in new folders below FOLDER (/tmp by default), which are removed
+afterwards. Without --tool the program is built first, unless it is built already. The last line is 'N passed, M
+failed', and the exit status is 0 if none failed.
 """
 import argparse
 import dataclasses
@@ -31,12 +34,15 @@ from text_rules import Described
 
 SPEC, CONTENT = b"volume 0 dynamic 3 1 00 data\nleb 0 1 abcdef\n", b"content"
 CONFIG = b"[a]\nmode=ubi\nvol_id=0\nvol_name=a\nimage=content\n"
-# With one free eraseblock more two may be taken where blank ones are kept.
+# With one more free eraseblock, two may be taken even if blank ones are kept.
 IMAGE = MORE + rules.put_block(GEOMETRY, rules.put_ec(GEOMETRY))
-# The files of a folder. Each has links too: NAME.soft, NAME.twice to that one, and NAME.hard.
+# The files of a folder. Each also has links: NAME.soft, NAME.twice to that one, and NAME.hard.
 FILES = {"image": IMAGE, "from": NEW, "spec": SPEC, "config": CONFIG, "content": CONTENT, "old": b"old" * 5000}
-# Other names of a file: with blanks, a line's end and a hyphen.
-ODD = ("-%s", "--%s", "%s ", " %s", "%s\n", "a\n%s", "%s\t", "\\%s", "%s*", "caf\xe9 %s", "%s.", "\"%s\"", "%s\r", "\u200b%s", "%s\u00a0")
+# Other names of a file: with blanks, a line end and a hyphen.
+ODD = (
+    "-%s", "--%s", "%s ", " %s", "%s\n", "a\n%s", "%s\t", "\\%s", "%s*", "caf\xe9 %s", "%s.", "\"%s\"", "%s\r",
+    "\u200b%s", "%s\u00a0",
+)
 WORDS = {
     "compose": ["compose", "spec"],
     "build": ["build", "config"],
@@ -46,17 +52,20 @@ WORDS = {
     "rename": ["rename", "image", "--id", "0", "--name", "data"],
 }
 OTHERS = ([], ["--stop", "0"], ["--stop", "2"], ["--blank", "keep"], ["--bad="], ["--bad", "4"])
-# What can't be written. Of some of it nothing can be told, not even that it isn't there; of LONG because of its length.
+# Paths that can't be written. For some of them the system doesn't even say that nothing is there; for LONG because of
+# its length.
 LONG = "n" * 256
-UNTOLD = ("old/", "old/new", "loop", LONG)
-UNWRITABLE = ("folder", "folder/", "folder/.", "no/such", "new/", *UNTOLD, "", ".", "/dev/full", "no/such\nfile", "no/such ")
-# Devices of the folder, which root alone can make: their numbers.
+UNKNOWN = ("old/", "old/new", "loop", LONG)
+UNWRITABLE = (
+    "folder", "folder/", "folder/.", "no/such", "new/", *UNKNOWN, "", ".", "/dev/full", "no/such\nfile", "no/such ",
+)
+# Devices of the folder, which only root can make: their numbers.
 DEVICES = {"null": os.makedev(1, 3), "full": os.makedev(1, 7)} if os.geteuid() == 0 else {}
 
 
 @dataclasses.dataclass(frozen=True)
 class Case:
-    """The words of a command, its output, its pages, and its line; None where the work is done."""
+    """The words of a command, its output, its pages, and its line; None if the work is done."""
 
     words: list
     out: str
@@ -70,24 +79,25 @@ class Case:
 
     @property
     def outs(self):
-        """The words for the output and the pages by option, as far as there are any."""
+        """The words for the output and the pages, if there are any, by option."""
         return {"--out": self.out} | ({} if self.pages is None else {"--pages": self.pages})
 
     @property
     def early(self):
-        """The option whose file may have been written though the work isn't done, since the other one can't be; or None."""
+        """The option whose file may have been written even though the work isn't done, since the other one can't be
+        written; or None."""
         if self.pages is None or self.line is None or not self.line.startswith("cannot write "):
             return None
         return "--out" if self.line == f"cannot write {self.pages}\n" else "--pages"
 
 
 def cannot_write(words, out, pages=None, **others):
-    """A case in which the pages can't be written or, where none are asked for, the output."""
+    """A case in which the pages can't be written or, if no pages are asked for, the output."""
     return Case(words, out, pages, f"cannot write {out if pages is None else pages}\n", **others)
 
 
 def paths(name):
-    """Paths to a file of the folder; FOLDER stands for where that is."""
+    """Paths to a file of the folder; FOLDER stands for the path of the folder."""
     links = f"{name}.soft", f"{name}.twice", f"{name}.hard", f"./{name}.hard", f"FOLDER/{name}.soft"
     return (name, f"./{name}", f".//./{name}", f"folder/../{name}", f"FOLDER/{name}", *links)
 
@@ -98,7 +108,7 @@ def cases():
 
 
 def files_read():
-    """The output, or the pages, are a file that was read."""
+    """The output or the pages are a file that was read."""
     for command, name in (("compose", "spec"), ("build", "config"), ("change", "from")):
         for path in paths(name):
             yield cannot_write(WORDS[command], path)
@@ -137,12 +147,14 @@ def files_read():
 
 def outputs_twice():
     """The pages are the file of the output."""
-    for command, out, path in ((command, out, path) for command in ("change", "rename") for out in ("old", "new") for path in paths(out)):
+    both = ((command, out) for command in ("change", "rename") for out in ("old", "new"))
+    for command, out, path in ((command, out, path) for command, out in both for path in paths(out)):
         if out == "old" or not path.endswith(("soft", "twice", "hard")):
             yield cannot_write(WORDS[command], out, path)
             yield cannot_write(WORDS[command], path, out)
     for command in ("change", "rename"):
-        for out, pages in (("nowhere", "new"), ("new", "nowhere"), ("nowhere", "nowhere"), ("old.hard", "old.soft"), ("pipe", "pipe")):
+        links = ("nowhere", "new"), ("new", "nowhere"), ("nowhere", "nowhere"), ("old.hard", "old.soft")
+        for out, pages in (*links, ("pipe", "pipe")):
             yield cannot_write(WORDS[command], out, pages)
         for path in ("/dev/null", "/dev/stdout", "old", "new ", "-"):
             for more in OTHERS:
@@ -151,10 +163,14 @@ def outputs_twice():
 
 def refused():
     """The work is refused, so nothing is written, whatever the output and the pages are."""
-    of = {"change": ("refused K2 NoVolume\n", ["change", "image", "--id", "5", "--lnum", "1", "--from", "from"]),
+    of = {
+        "change": ("refused K2 NoVolume\n", ["change", "image", "--id", "5", "--lnum", "1", "--from", "from"]),
         "rename": ("refused K2 NoVolume\n", ["rename", "image", "--id", "5", "--name", "data"]),
-        "compose": ("refused P1 Word line=1\n", ["compose", "from"]), "build": ("refused I2 Form line=1\n", ["build", "spec"])}
-    for out in ("image", "from", "spec", "old", "new", "folder", "old.soft", "nowhere", "/dev/full", "no/such", "/dev/stdout"):
+        "compose": ("refused P1 Word line=1\n", ["compose", "from"]),
+        "build": ("refused I2 Form line=1\n", ["build", "spec"]),
+    }
+    inside = ("image", "from", "spec", "old", "new", "folder", "old.soft", "nowhere")
+    for out in (*inside, "/dev/full", "no/such", "/dev/stdout"):
         for command, (line, words) in of.items():
             yield Case(words, out, None, line)
         for pages in ("image", "from.hard", "new", out, "folder", "/dev/full"):
@@ -182,8 +198,10 @@ def unwritable():
     """The output or the pages can't be written. `build` doesn't read an image file that may be the output."""
     for path in (*UNWRITABLE, *(name for name in DEVICES if name == "full")):
         for command in WORDS:
-            is_unread = command == "build" and path in UNTOLD
-            yield Case(WORDS[command], path, None, "cannot read content\n") if is_unread else cannot_write(WORDS[command], path)
+            if command == "build" and path in UNKNOWN:
+                yield Case(WORDS[command], path, None, "cannot read content\n")
+            else:
+                yield cannot_write(WORDS[command], path)
         for command in ("change", "rename"):
             yield cannot_write(WORDS[command], "new", path)
             yield cannot_write(WORDS[command], "image", path)
@@ -195,9 +213,10 @@ def unwritable():
 
 
 def existing():
-    """The output or the pages are there already, as a file that is longer or a link, or aren't there."""
+    """The output or the pages exist already, as a longer file or a link, or don't exist."""
     devices = ("/dev/null", *(name for name in DEVICES if name == "null"))
-    for path in ("new", "old", "old.soft", "old.twice", "old.hard", "secret", "nowhere", "folder/new", "folder/../new", "FOLDER/new", *devices):
+    files = ("new", "old", "old.soft", "old.twice", "old.hard", "secret", "nowhere")
+    for path in (*files, "folder/new", "folder/../new", "FOLDER/new", *devices):
         for command in WORDS:
             yield Case(WORDS[command], path)
         for command, more in ((command, more) for command in ("change", "rename") for more in OTHERS):
@@ -206,7 +225,7 @@ def existing():
 
 
 def streams():
-    """The output or the pages are a pipe, which somebody reads, or standard output."""
+    """The output or the pages are a pipe, which is read, or standard output."""
     for path in ("pipe", "/dev/stdout"):
         for command in WORDS:
             yield Case(WORDS[command], path)
@@ -221,7 +240,7 @@ def streams():
 
 
 def odd_names():
-    """Names with blanks, lines' ends and a hyphen in front, of what is written and of what is read."""
+    """Names with blanks, line ends and a leading hyphen, of the files that are written and of those that are read."""
     for odd in ODD:
         new, image, of_from, spec = odd % "new", odd % "image", odd % "from", odd % "spec"
         for command in WORDS:
@@ -238,7 +257,8 @@ def odd_names():
 
 
 def spelled(case, folder):
-    """The words of a case. A value that begins with a hyphen stands in one word with its option, and such a path in the end."""
+    """The words of a case. A value that begins with a hyphen is in one word with its option, and such a path is at the
+    end."""
     command, path, *rest = case.words
     words = [command]
     for word in (*rest, *(word for pair in case.outs.items() for word in pair)):
@@ -251,7 +271,7 @@ def spelled(case, folder):
 
 
 def fill(folder):
-    """Puts the files, the links to them, and what else there may be."""
+    """Makes the files, the links to them, and the other entries of the folder."""
     for name, data in FILES.items():
         path = os.path.join(folder, name)
         with open(path, "wb") as file:
@@ -274,17 +294,17 @@ def fill(folder):
 
 
 def file_of(folder, word):
-    """The file that a word names, whether it is there or not."""
+    """The file that a word names, whether it exists or not."""
     return os.path.realpath(os.path.join(folder, word.replace("FOLDER", folder)))
 
 
 def key_of(path):
-    """What is one for all names of a file: its numbers, or its path where it isn't there."""
+    """What is the same for all names of a file: its numbers, or its path if it doesn't exist."""
     return (os.stat(path).st_dev, os.stat(path).st_ino) if os.path.exists(path) else path
 
 
 def held(folder):
-    """What each file of a folder and of its folders holds, by path; symbolic links aside."""
+    """The contents of each file of a folder and of its folders, by path; symbolic links aside."""
     found = {}
     for place, _, names in os.walk(folder):
         for path in (os.path.join(place, name) for name in names):
@@ -294,8 +314,9 @@ def held(folder):
     return found
 
 
-def standing(folder):
-    """What stands at each path of a folder and of its folders: its kind and mode, its number, and where it leads if it is a link."""
+def entries(folder):
+    """What is at each path of a folder and of its folders: its kind and mode, its number, and where it leads if it is a
+    link."""
     found = {}
     for place, names, more in os.walk(folder):
         for path in (os.path.join(place, name) for name in (*names, *more)):
@@ -305,23 +326,25 @@ def standing(folder):
 
 
 def value_of(words, option):
-    """The value of an option; None where it isn't there."""
+    """The value of an option; None if it isn't there."""
     joined = next((word.partition("=")[2] for word in words if word.startswith(f"{option}=")), None)
     return words[words.index(option) + 1] if option in words else joined
 
 
 def answer(case):
-    """What is printed where the work is done, and what is written by option."""
+    """What is printed if the work is done, and what is written, by option."""
     if case.command == "extract":
-        text = rules.Image(GEOMETRY, IMAGE).read_volume(0)
-        return f"bytes {len(text)}\n", {"--out": text}
+        contents = rules.Image(GEOMETRY, IMAGE).read_volume(0)
+        return f"bytes {len(contents)}\n", {"--out": contents}
     if case.command in ("change", "rename"):
-        return planned(case, rules.Image(GEOMETRY, IMAGE, rules.listed(value_of(case.words, "--bad") or "")))
+        is_bad = rules.listed(value_of(case.words, "--bad") or "")
+        return planned(case, rules.Image(GEOMETRY, IMAGE, is_bad))
     if case.command == "normalise":
         return of_image(rules.Image(GEOMETRY, IMAGE))
     meant = Described(GEOMETRY, SPEC)
     if case.command == "build":
-        meant = rules.Meaning(GEOMETRY, 0, {0: rules.Record(1, 1, 1, 0, b"a", 0)}, {0: {0: CONTENT.ljust(GEOMETRY.leb, b"\xFF")}})
+        records, contents = {0: rules.Record(1, 1, 1, 0, b"a", 0)}, {0: {0: CONTENT.ljust(GEOMETRY.leb, b"\xFF")}}
+        meant = rules.Meaning(GEOMETRY, 0, records, contents)
     return of_image(meant)
 
 
@@ -331,9 +354,10 @@ def of_image(meant):
 
 
 def planned(case, image):
-    """The same of a plan."""
+    """The same for a plan."""
     image = image.keeping_blank() if value_of(case.words, "--blank") else image
-    steps = (rules.Change(image, 0, 1, NEW) if case.command == "change" else rules.Rename(image, 0, b"data")).steps
+    plan = rules.Change(image, 0, 1, NEW) if case.command == "change" else rules.Rename(image, 0, b"data")
+    steps = plan.steps
     stop = value_of(case.words, "--stop")
     done = steps if stop is None else steps[: int(stop)]
     written = {"--out": rules.after(GEOMETRY, b"".join(image.found.blocks), done), "--pages": rules.pages_of(done)}
@@ -341,15 +365,15 @@ def planned(case, image):
 
 
 class Looker:
-    """Runs the program in a folder, and looks at what becomes of its files."""
+    """Runs the program in a folder, and checks what happens to its files."""
 
     def __init__(self, tool, folder):
         self.tool, self.folder = tool, folder
         fill(folder)
-        self.before, self.stood = held(folder), standing(folder)
+        self.before, self.had = held(folder), entries(folder)
 
     def run(self, case):
-        """What is printed, with which status, and what a reader of the pipe gets."""
+        """What is printed, the status, and what a reader of the pipe gets."""
         reader = os.open(os.path.join(self.folder, "pipe"), os.O_RDONLY | os.O_NONBLOCK)
         with open(os.path.join(self.folder, case.stdin), "rb") as stdin:
             words = [self.tool, *spelled(case, self.folder)]
@@ -359,7 +383,7 @@ class Looker:
         return ran.stdout, ran.returncode, piped
 
     def wrong(self, case):
-        """What is wrong with the answer of a case; None where nothing is."""
+        """What is wrong with the answer to a case; None if nothing is."""
         keys = {path: key_of(path) for path in self.before}
         places = {option: key_of(file_of(self.folder, word)) for option, word in case.outs.items()}
         try:
@@ -378,17 +402,18 @@ class Looker:
         return self.wrong_file(case, keys, places, new)
 
     def streamed(self, case, new, path):
-        """What a stream may get: what is written there or, where that may be so or not, also nothing."""
+        """What a stream may get: what is written there; if that may be written or not, also nothing."""
         if case.line is None:
             return [b"".join(new[option] for option, word in case.outs.items() if word == path)]
         return [b"", *([new[case.early]] if case.early and case.outs[case.early] == path else [])]
 
     def wrong_file(self, case, keys, places, new):
-        """What is wrong with the files: each that is written has its new bytes, and each other one its old ones or isn't there."""
-        after, stands = held(self.folder), standing(self.folder)
-        for path, what in self.stood.items():
-            if stands.get(path) != what:
-                return f"{os.path.relpath(path, self.folder)!r} isn't what stood there"
+        """What is wrong with the files: each written one has to have its new bytes, and each other one its old ones, or
+        not exist."""
+        after, has = held(self.folder), entries(self.folder)
+        for path, what in self.had.items():
+            if has.get(path) != what:
+                return f"{os.path.relpath(path, self.folder)!r} isn't what was there"
         for path in {*self.before, *after, *(place for place in places.values() if self.is_new(place))}:
             written = [option for option, place in places.items() if place == keys.get(path, path)]
             right = [new[option] for option in written] if case.line is None else []
@@ -397,7 +422,8 @@ class Looker:
             if case.line is not None or not written:
                 right.append(self.before.get(path))
             if after.get(path) not in right:
-                return f"{os.path.relpath(path, self.folder)!r} {'holds something else' if path in after else 'is not there'}"
+                fault = "holds something else" if path in after else "is not there"
+                return f"{os.path.relpath(path, self.folder)!r} {fault}"
         return None
 
     def is_new(self, place):
@@ -409,7 +435,7 @@ class Looker:
 
 
 def wrongs(tool, within):
-    """Each case, and what is wrong with it. A folder is taken again where its files are as they were."""
+    """Each case, and what is wrong with it. A folder is used again if its files are as they were."""
     left = list(cases())
     while left:
         with tempfile.TemporaryDirectory(dir=within) as folder:
@@ -419,28 +445,32 @@ def wrongs(tool, within):
 
 
 def unpack_into(tool, folder, name, is_taken, is_other=False):
-    """Unpacks into a folder of that name, maybe as somebody else than root. Gives what it was, and what is wrong; None where the files
-    come where they should, or nothing is written."""
-    text = rules.Image(GEOMETRY, IMAGE).read_volume(0)
-    before, path, config = standing(folder), *(os.path.join(folder, name, file) for file in ("0-root", "ubi.ini"))
-    other = ["setpriv", "--reuid=65534", "--regid=65534", "--clear-groups"] if is_other and os.geteuid() == 0 else []
-    words = [*other, tool, "unpack", "image", f"--out={name}", *GEOMETRY.words()]
+    """Unpacks into a folder of that name, maybe as another user than root. Returns what it was, and what is wrong; None
+    if the files are where they should be, or nothing is written."""
+    contents = rules.Image(GEOMETRY, IMAGE).read_volume(0)
+    before, path, config = entries(folder), *(os.path.join(folder, name, file) for file in ("0-root", "ubi.ini"))
+    as_other = ["setpriv", "--reuid=65534", "--regid=65534", "--clear-groups"]
+    words = [tool, "unpack", "image", f"--out={name}", *GEOMETRY.words()]
+    if is_other and os.geteuid() == 0:
+        words = as_other + words
     ran = subprocess.run(words, stdin=subprocess.DEVNULL, capture_output=True, cwd=folder, timeout=10)
-    after, line = standing(folder), f"volume 0 bytes={len(text)} name=root\n" if is_taken else f"cannot write {name}\n"
+    after = entries(folder)
+    line = f"volume 0 bytes={len(contents)} name=root\n" if is_taken else f"cannot write {name}\n"
     new = {where for where in after if where not in before}
     right = {path, config, os.path.dirname(path)} - before.keys() if is_taken else set()
     wrong = None
     if (ran.stdout, ran.returncode) != (line.encode(), 0 if is_taken else 1):
         wrong = f"its status is {ran.returncode}, and it prints {ran.stdout[:200]!r}"
     elif new != right or any(after.get(where) != what for where, what in before.items()):
-        wrong = f"new are {sorted(new)}, or something isn't there any more"
-    elif is_taken and held(folder)[path] != text:
+        wrong = f"new are {sorted(new)}, or something has changed or is gone"
+    elif is_taken and held(folder)[path] != contents:
         wrong = f"{path} holds something else"
     return f"unpack into {name!r}", wrong
 
 
 def unpacking(tool, within):
-    """`unpack` into folders that are there already, or whose names differ by a blank. Everybody may reach the program and the image."""
+    """`unpack` into folders that exist already, or whose names differ by a blank. All users can reach the program and
+    the image."""
     with tempfile.TemporaryDirectory(dir=within) as room:
         os.chmod(room, 0o755)
         tool, folder = shutil.copy(tool, os.path.join(room, "tool")), os.path.join(room, "folder")
@@ -448,7 +478,10 @@ def unpacking(tool, within):
         os.mkdir(folder)
         with open(os.path.join(folder, "image"), "wb") as file:
             file.write(IMAGE)
-        for name, inside in (("hidden", ".config"), ("dots", "..."), ("double", "..a"), ("blank", " "), ("line", "\n"), ("full", "0-root")):
+        full = {
+            "hidden": ".config", "dots": "...", "double": "..a", "blank": " ", "line": "\n", "full": "0-root",
+        }
+        for name, inside in full.items():
             os.mkdir(os.path.join(folder, name))
             with open(os.path.join(folder, name, inside), "wb"):
                 yield unpack_into(tool, folder, name, False)
@@ -461,7 +494,7 @@ def unpacking(tool, within):
         for name in ("empty ", "empty", "empty\t", " empty", "empty.", "a new one", "-o"):
             yield unpack_into(tool, folder, name, True)
         yield unpack_into(tool, folder, "empty", False)
-        # Files can be made in a folder that can't be read, but nobody can tell what is in there.
+        # Files can be made in a folder that can't be read, but nobody can find out what is in there.
         os.chmod(folder, 0o777)
         for name, mode in (("unread", 0o333), ("shut", 0)):
             os.chmod(os.path.join(folder, name), mode)
@@ -472,7 +505,7 @@ def unpacking(tool, within):
 def main():
     words = argparse.ArgumentParser(description=__doc__, formatter_class=argparse.RawDescriptionHelpFormatter)
     words.add_argument("--dir", default="/tmp")
-    words.add_argument("--tool", help="the program; the one that ./ubi_tool starts where it is left out")
+    words.add_argument("--tool", help="the program; the one that ./ubi_tool starts by default")
     words = words.parse_args()
     tool, passed, failed = os.path.abspath(built(words.tool)), 0, 0
     for case, wrong in (*wrongs(tool, words.dir), *unpacking(tool, words.dir)):

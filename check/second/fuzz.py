@@ -1,36 +1,42 @@
 #!/usr/bin/env python3
-"""Compares what the program answers of random images with what docs/FORMAT.md says, as check/second/rules.py reads it.
+"""Compares the program's answers for random images with docs/FORMAT.md, as check/second/rules.py reads it.
 
 usage: fuzz.py [--seed N] [--count N] [--large N] [--huge N] [--first N] [--dir FOLDER] [--tool PROGRAM]
 
-An image is made from volumes of all kinds and states, with stale copies, copies that were cut short, and eraseblocks that
-are free, erased, dropped, orphans or unreadable, in a random order. A copy of the table may be missing, or say something else
-than the other, or the same with other bytes where none are looked at. None, one, two, some or all eraseblocks carry the image's
-number. Most images are then changed up to three times: a byte anywhere, a field of a header or a record with its check made
-right again, eraseblocks doubled, erased, swapped or cut off.
-Of each image, of its first bytes or of it with out-of-band bytes, and junk around, `geometry` has to answer what geometry.py says, and `list` by the
-words of a line that it prints. Of each image `check`, `list`, `show` and `normalise` have to answer what the
-rules say; and of one that is accepted
-`extract`, `unpack`, `same` with its normal image, with another and with its eraseblocks under another number, `compose` of a text that
-says what it means, and `change` and `rename`, whose printed plans and whose bytes after each step are those of the rules: each
-cut means the old or the new, and the last the new. Now and then a cut is changed and renamed itself. Some new names are there
-already, some can't be read, and some are made so that the first pages of the table have the check of all, or that its last page
-is blank. Numbers of volumes, LEBs, eraseblocks, spares and steps are also far out of range.
-Of a third of the images some eraseblocks are listed as bad, by each command that takes --bad: such as win, hold a table, are blank,
-carry the number or are at fault, any, and up to two that are put in; in all spellings of a LIST. Such an image means the same with
-any other bytes in them, and its plans stay as they are, with what is written. Some plans keep blank eraseblocks, and of most the
-pages are compared: with them the printed steps make of the image what is written. Some words of each image are wrong.
+An image is made from volumes of all kinds and states, with stale copies, copies that were cut short, and eraseblocks
+that are free, erased, dropped, orphans or unreadable, in a random order. A copy of the table may be missing, or differ
+from the other, or differ only in bytes that nothing looks at. None, one, two, some or all eraseblocks carry the image's
+number. Most images are then changed up to three times: a byte anywhere, a field of a header or a record with its CRC
+corrected, eraseblocks doubled, erased, swapped or cut off.
 
-Without words there are 500 images (--count) of the seed 1 (--seed) with eraseblocks of up to 1 KiB. Then come 20 (--large)
-with eraseblocks of 128 KiB and pages of 2 KiB, with sub-pages and without, of whose plans some cuts are looked at; and one
-(--huge) of which all that is written is above 16 MiB. They lie in a new folder below FOLDER (/tmp where it is left out), which
-is removed again. Without --tool the program is built first where it isn't yet. The last line is 'N passed, M failed', and the
-exit status is 0 where none failed; an image that failed can be made again by its number, which --first names.
+For each image, for its first bytes, or for it with out-of-band bytes or junk around it, `geometry` has to print what
+geometry.py finds, and `list` has to accept the words of a line that it prints. For each image `check`, `list`, `show`
+and `normalise` have to answer what the rules say. For an accepted image the same holds for `extract`, `unpack`, `same`
+with its normal image, with another and with its eraseblocks under another number, `compose` of a text that describes
+it, and `change` and `rename`. The printed plans of these and the bytes after each step have to be those of the rules:
+each cut means the old or the new, and the last one the new. Now and then a cut is changed and renamed itself. Some new
+names exist already, some can't be read, and some are made so that the first pages of the table have the CRC of all, or
+that its last page is blank. Numbers of volumes, LEBs, eraseblocks, spares and steps are also far out of range.
+
+For a third of the images some eraseblocks are listed as bad, with each command that takes --bad: eraseblocks that win,
+hold a table, are blank, carry the number or are at fault, any others, and up to two that are inserted; in all spellings
+of a LIST. Such an image must mean the same with any other bytes in them, and its plans and what they write must not
+change. Some plans keep blank eraseblocks. The pages of most plans are compared: with them the printed steps must give
+the written image. Each image is also tried with some wrong words.
+
+By default there are 500 images (--count) of the seed 1 (--seed) with eraseblocks of up to 1 KiB, 20 (--large) with
+eraseblocks of 128 KiB and pages of 2 KiB, with sub-pages and without, for which only some cuts of each plan are
+checked, and one (--huge) whose outputs are larger than 16 MiB. They lie in a new folder below FOLDER (/tmp by default),
+which is removed afterwards. Without --tool the program is built first, unless it is built already. The last line is 'N
+passed, M failed', and the exit status is 0 if none failed; an image that failed can be made again by giving its number
+to --first.
 """
 import argparse
+import collections
 import dataclasses
 import os
 import random
+import re
 import shutil
 import struct
 import subprocess
@@ -45,33 +51,47 @@ from text_rules import Fault, name_of
 ROOT = os.path.dirname(os.path.dirname(os.path.dirname(os.path.abspath(__file__))))
 LAUNCHER = os.path.join(ROOT, "ubi_tool")
 TOOL = os.path.join(ROOT, "crates", "ubi_tool", "out", "launched", "ubi_tool")
-SIZES = ((512, 64, 64, 128), (1024, 64, 64, 128), (1024, 256, 64, 256), (1024, 256, 320, 512), (576, 64, 64, 128), (448, 64, 128, 192),
-    (704, 64, 64, 128))
+SIZES = (
+    (512, 64, 64, 128), (1024, 64, 64, 128), (1024, 256, 64, 256), (1024, 256, 320, 512), (576, 64, 64, 128),
+    (448, 64, 128, 192), (704, 64, 64, 128),
+)
 REAL_SIZES = ((131072, 2048, 2048, 4096), (131072, 2048, 512, 2048))
-# By how much a number is out of range, so that a program which takes it modulo any of these would take it for one in range.
+# By how much a number is out of range, so that a program that takes it modulo any of these would take it for one in
+# range.
 FAR = (64, 100, 128, 256, 1000, 65536, 2**31)
 # Words that can't be read as a name; nor can most words with one of them inside.
-NO_NAMES = ("\\", "\\x", "\\x4", "\\X41", "\\x00", "\\x4g", "\\n", " ", "\t", "\n", "\x7F", "\x80", "\xE9", "a" * 128, "\\x61" * 128)
-# The commands that take --bad, and LISTs that are wrong.
+NO_NAMES = (
+    "\\", "\\x", "\\x4", "\\X41", "\\x00", "\\x4g", "\\n", " ", "\t", "\n", "\x7F", "\x80", "\xE9", "a" * 128,
+    "\\x61" * 128,
+)
+# The commands that take --bad, and wrong LISTs.
 OF_BAD = ("list", "check", "show", "extract", "unpack", "normalise", "same", "diff", "change", "rename")
-NO_LISTS = ("3,,4", ",", "3,", ",3", "-1", "3-", "9-3", "3-4-5", "4294967296", "0x3", "3 ,4", "a", " ", "3 ", " 3", "+", "++3", "3+", "-", "--", "-0",
-    "0--1", "3-+", "3,-4", "3--4", "+-3", "1-4294967296", "4294967299", "18446744073709551616", "9" * 40, "3;4", "3\n", "3\t", "3.0", "1e3",
-    "3,a", "\uFF13", "\u0663", "3-2,", "1_0", "0-4294967296", "all", "none")
+NO_LISTS = (
+    "3,,4", ",", "3,", ",3", "-1", "3-", "9-3", "3-4-5", "4294967296", "0x3", "3 ,4", "a", " ", "3 ", " 3", "+", "++3",
+    "3+", "-", "--", "-0", "0--1", "3-+", "3,-4", "3--4", "+-3", "1-4294967296", "4294967299", "18446744073709551616",
+    "9" * 40, "3;4", "3\n", "3\t", "3.0", "1e3", "3,a", "\uFF13", "\u0663", "3-2,", "1_0", "0-4294967296", "all",
+    "none",
+)
 
 
 class Failure(Exception):
-    """What was expected of an image, and what came."""
+    """What was expected of the program, and what it did."""
+
+
+def expect(is_right, what):
+    if not is_right:
+        raise Failure(what)
 
 
 def built(tool=None):
-    """The program that is named, or the one that the launcher builds where it isn't yet."""
+    """The program that is named, or the one that the launcher builds, unless it is built already."""
     if tool is None:
         subprocess.run([LAUNCHER, "--help"], stderr=subprocess.DEVNULL)
     return tool or TOOL
 
 
 def taken(folder):
-    """What the files of a folder hold, which is removed; None where there is none."""
+    """The contents of the files of a folder, which is removed; None if there is no folder."""
     if not os.path.exists(folder):
         return None
     files = {}
@@ -83,7 +103,7 @@ def taken(folder):
 
 
 def taken_file(path):
-    """What a file holds, which is removed; None where there is none."""
+    """The contents of a file, which is removed; None if there is no file."""
     if not os.path.exists(path):
         return None
     with open(path, "rb") as file:
@@ -98,22 +118,23 @@ def far(rng, number):
 
 
 def sized(words, geometry):
-    """The words of a command, and the numbers of a geometry where it takes them."""
+    """The words of a command, and those of a geometry if it takes them."""
     return list(words) if words[0] == "geometry" else [*words, *geometry.words()]
 
 
 def given(rng, name, number):
-    """A number among the words, which may be left out where it is 0."""
+    """An option with a number, which may be left out if the number is 0."""
     return [name, str(number)] if number or rng.random() < 0.5 else []
 
 
 def either(rng, name, value):
-    """An option and its value, as two words or as one; as one where the value begins with a hyphen."""
+    """An option and its value, as two words or as one; as one if the value begins with a hyphen."""
     return [f"{name}={value}"] if value.startswith("-") or rng.random() < 0.5 else [name, value]
 
 
 def listing(rng, places, count):
-    """A LIST of just some of COUNT eraseblocks, and maybe of others beyond: in any order, as numbers and ranges, some of them twice."""
+    """A LIST of exactly these of COUNT eraseblocks, and maybe of others beyond: in any order, as numbers and ranges,
+    some of them twice."""
     items, rest = [], sorted(places)
     while rest:
         first = last = rest.pop(0)
@@ -135,15 +156,20 @@ def spelled_item(rng, first, last):
 
 
 def name_in(word):
-    """The name that a word shows; None where it can't be read."""
+    """The name that a word shows; None if it can't be read."""
     try:
         return name_of(word.encode())
     except Fault:
         return None
 
 
+def cased(rng, digits):
+    """Digits, some of them in upper case."""
+    return "".join(rng.choice((digit, digit, digit.upper())) for digit in digits)
+
+
 def spelled(rng, name):
-    """A word that shows a name: what may stand as it is does so or doesn't, and digits are of either case."""
+    """A word that shows a name: printable bytes as they are or escaped, and digits in either case."""
     def one(byte):
         digits = "".join(rng.choice((digit, digit.upper())) for digit in f"{byte:02x}")
         return rng.choice((rules.shown(bytes([byte])), f"\\x{digits}"))
@@ -152,7 +178,8 @@ def spelled(rng, name):
 
 
 def solved(rng, size, off):
-    """SIZE bytes, none zero, of which OFF is 0: a number, each bit of which adds up bits of theirs and 1. None where none are found."""
+    """SIZE bytes, none of them zero, for which OFF gives 0; None if none are found. OFF gives a number, each bit of
+    which is a sum of bits of the bytes, and maybe 1."""
     start, rows, flips = int.from_bytes(bytes(rng.randrange(128, 256) for _ in range(size)), "big"), {}, 0
 
     def off_with(flips):
@@ -178,19 +205,20 @@ def solved(rng, size, off):
 
 
 def weakness(geometry, new, pages):
-    """A number that is 0 where the first pages of new bytes, for each of some numbers of them, have the check of all."""
+    """A number that is 0 if the first pages of new bytes, for each of some numbers of pages, have the CRC of all."""
     fronts = [new[: n * geometry.page].ljust(len(new), b"\xFF") for n in pages]
-    return sum((rules.check(front) ^ rules.check(new)) << 32 * k for k, front in enumerate(fronts))
+    return sum((rules.crc(front) ^ rules.crc(new)) << 32 * k for k, front in enumerate(fronts))
 
 
 def said(refusal, plan, meant, *what):
-    """What the rules say of a change or a rename: why it is refused or None, its steps, and what is meant in the end."""
+    """What the rules say about a change or a rename: why it is refused or None, its steps, and the meaning after
+    them."""
     cause = refusal(*what)
     return (cause, [], None) if cause else (None, plan(*what).steps, meant(*what))
 
 
 def renumbered(block, image_seq):
-    """An eraseblock with another image sequence number, where it has an erase-counter header."""
+    """An eraseblock with another image sequence number, if it has an erase-counter header."""
     if not block.startswith(b"UBI#"):
         return block
     return rules.sealed(block[:24] + struct.pack(">I", image_seq) + block[28:60]) + block[64:]
@@ -210,7 +238,7 @@ class Maker:
         rng.shuffle(self.blocks)
 
     def numbered(self, *groups):
-        """The eraseblocks of some groups. None, one, two, three or all of a group carry a number, or of all groups."""
+        """The eraseblocks of some groups. None, one, two, three or all of a group, or of all groups, carry a number."""
         rng = self.rng
         number, count = rng.choice((1, 7, 0x12345678, 0xFFFFFFFF)), rng.choice((0, 1, 1, 1, 1, 2, 2, 2, 3, 999))
         groups = rng.choice((groups, groups, (sum(groups, []),)))
@@ -222,8 +250,8 @@ class Maker:
 
     def members(self):
         """The eraseblocks of volumes."""
-        of = ((self.dynamic if record.kind == 1 else self.static)(slot, record) for slot, record in self.records.items())
-        return sum(of, [])
+        makers = {1: self.dynamic, 2: self.static}
+        return sum((makers[record.kind](slot, record) for slot, record in self.records.items()), [])
 
     def others(self):
         kinds = (self.free, self.free, self.free, self.erased, self.garbage, self.corrupt, self.dropped, self.orphan)
@@ -244,79 +272,87 @@ class Maker:
         alignment = rng.choice((1, 1, geometry.page, 3 * geometry.page))
         if alignment > geometry.leb:
             alignment = 1
-        return Record(rng.randrange(1, 5), alignment, rng.choice((1, 1, 2)), int(rng.random() < 0.1), self.name(slot), rng.choice((0, 1, 2, 0xFF)))
+        reserved, kind, marker = rng.randrange(1, 5), rng.choice((1, 1, 2)), int(rng.random() < 0.1)
+        return Record(reserved, alignment, kind, marker, self.name(slot), rng.choice((0, 1, 2, 0xFF)))
 
     def ec(self):
-        return rules.put_ec(self.geometry, self.rng.choice((0, 5, self.rng.randrange(1000), TOP_COUNTER - 1, TOP_COUNTER)))
+        counters = (0, 5, self.rng.randrange(1000), TOP_COUNTER - 1, TOP_COUNTER)
+        return rules.put_ec(self.geometry, self.rng.choice(counters))
 
     def block(self, vid, data):
         return rules.put_block(self.geometry, self.ec(), rules.put_vid(vid), data)
 
     def sqnum(self):
-        """A sequence number: now and then one of the greatest that there are."""
-        return self.rng.choice((next(self.sqnums), next(self.sqnums) + 2**40) * 20 + (TOP_SQNUM - self.rng.randrange(3),))
+        """A sequence number: now and then one of the three greatest."""
+        common = (next(self.sqnums), next(self.sqnums) + 2**40)
+        return self.rng.choice((*common * 20, TOP_SQNUM - self.rng.randrange(3)))
 
     def tables(self):
         """The members of the table's two copies."""
         return [self.table(copy) for copy in range(2) for _ in range(self.rng.choice((1, 1, 1, 1, 2, 2, 0)))]
 
     def table(self, copy):
-        """A member of a copy: mostly the records as they are written, now and then others; some were copied, and cut short."""
+        """A member of a copy of the table: mostly with the right records, now and then with others; some are copies,
+        and cut short."""
         rng, leb = self.rng, self.geometry.leb
         records = self.records if rng.random() < 0.94 else self.other_records()
-        text = self.with_unseen(records) if rng.random() < 0.25 else rules.put_table(self.geometry, records)
-        text = text.ljust(leb, rng.choice((b"\xFF", b"\0")))
+        table = self.with_unseen(records) if rng.random() < 0.25 else rules.put_table(self.geometry, records)
+        table = table.ljust(leb, rng.choice((b"\xFF", b"\0")))
         size = rng.choice((0, 0, 0, rng.randrange(172, leb + 1)))
-        right = rules.check(text[:size]) ^ int(rng.random() < 0.3) if size else 0
-        return self.block(Vid(1, int(size > 0), 5, LAYOUT, copy, size, 0, 0, right, self.sqnum()), text)
+        right = rules.crc(table[:size]) ^ int(rng.random() < 0.3) if size else 0
+        return self.block(Vid(1, int(size > 0), 5, LAYOUT, copy, size, 0, 0, right, self.sqnum()), table)
 
     def other_records(self):
-        """The records, of which one has gone or says something else."""
+        """The records, one of which is missing or changed."""
         if not self.records:
             return {}
         slot, old = self.rng.choice(list(self.records.items()))
-        new = ({"name": self.name(slot)}, {"flags": old.flags ^ 1}, {"marker": 1 - old.marker}, {"reserved": old.reserved + 1})
+        new = (
+            {"name": self.name(slot)}, {"flags": old.flags ^ 1}, {"marker": 1 - old.marker},
+            {"reserved": old.reserved + 1},
+        )
         others = {of: record for of, record in self.records.items() if of != slot}
         return self.rng.choice((others, *(others | {slot: dataclasses.replace(old, **field)} for field in new)))
 
     def with_unseen(self, records):
-        """A table with other bytes where none are looked at: behind a name and in the padding."""
-        text = rules.put_table(self.geometry, records)
+        """A table with other bytes where nothing looks at them: after a name and in the padding."""
+        table = rules.put_table(self.geometry, records)
         for slot, record in records.items():
-            raw = bytearray(text[172 * slot : 172 * slot + 168])
+            raw = bytearray(table[172 * slot : 172 * slot + 168])
             for place in (*range(17 + len(record.name), 144), *range(145, 168)):
                 raw[place] = self.rng.choice((0, 0, 0xFF, self.rng.randrange(256)))
-            text = text[: 172 * slot] + rules.sealed(bytes(raw)) + text[172 * (slot + 1) :]
-        return text
+            table = table[: 172 * slot] + rules.sealed(bytes(raw)) + table[172 * (slot + 1) :]
+        return table
 
-    def text(self, size):
-        """Some bytes: random ones, and maybe blank ones behind them or nothing else."""
+    def contents(self, size):
+        """Some bytes: random ones, with or without blank ones after them, or only blank ones."""
         blank = self.rng.choice((0, 0, size // 2, size))
         return self.rng.randbytes(size - blank) + b"\xFF" * blank
 
     def dynamic(self, slot, record):
-        """Members of some LEBs, some beyond what is reserved; copies whose check is right, and copies cut short."""
+        """Members of some LEBs, some beyond what is reserved; copies whose CRC is right, and copies cut short."""
         rng, usable, pad = self.rng, record.usable(self.geometry), record.pad(self.geometry)
         blocks = []
         for lnum in rng.sample(range(record.reserved + 1), rng.randrange(record.reserved + 1)):
             for _ in range(rng.choice((1, 1, 2, 3))):
-                text = self.text(usable)
+                data = self.contents(usable)
                 size = rng.randrange(1, usable + 1) if rng.random() < 0.5 else 0
-                right = rules.check(text[:size]) if size else 0
+                right = rules.crc(data[:size]) if size else 0
                 if size and rng.random() < 0.3:
                     right ^= 1
-                blocks.append(self.block(Vid(1, int(size > 0), 0, slot, lnum, size, 0, pad, right, self.sqnum()), text))
+                vid = Vid(1, int(size > 0), 0, slot, lnum, size, 0, pad, right, self.sqnum())
+                blocks.append(self.block(vid, data))
         return blocks
 
     def static(self, slot, record):
-        """The eraseblocks of a text; now and then one is missing, has a wrong check, or another copy."""
+        """The eraseblocks of a static volume; now and then one is missing, has a wrong CRC, or another copy."""
         rng, usable, pad = self.rng, record.usable(self.geometry), record.pad(self.geometry)
-        text = rng.randbytes(rng.choice((0, 1, usable, rng.randrange(usable * record.reserved + 1))))
-        shares = [text[at : at + usable] for at in range(0, len(text), usable)]
+        contents = rng.randbytes(rng.choice((0, 1, usable, rng.randrange(usable * record.reserved + 1))))
+        shares = [contents[at : at + usable] for at in range(0, len(contents), usable)]
         blocks = []
         for lnum, share in enumerate(shares):
             for _ in range(rng.choice((1, 1, 1, 1, 2, 0) if rng.random() < 0.4 else (1,))):
-                right = rules.check(share) ^ int(rng.random() < 0.05)
+                right = rules.crc(share) ^ int(rng.random() < 0.05)
                 vid = Vid(2, rng.choice((0, 0, 1)), 0, slot, lnum, len(share), len(shares), pad, right, self.sqnum())
                 blocks.append(self.block(vid, share))
         return blocks
@@ -341,7 +377,7 @@ class Maker:
 
 
 class Lister:
-    """Makes random LISTs of eraseblocks of an image, and other bytes of those that are listed."""
+    """Makes random LISTs of eraseblocks of an image, and other bytes for the listed ones."""
 
     def __init__(self, rng, geometry, image):
         self.rng, self.geometry = rng, geometry
@@ -349,7 +385,8 @@ class Lister:
         self.kinds = self.kinds_of(image)
 
     def kinds_of(self, image):
-        """Groups of eraseblocks: of one state, those that carry the number, or the one that is at fault; and those with a header."""
+        """Groups of eraseblocks: those of one state, those that carry the number, the one that is at fault, or those
+        with a header."""
         with_header = [p for p, block in enumerate(self.blocks) if block[:4] == b"UBI#"]
         try:
             found = Image(self.geometry, image)
@@ -371,7 +408,8 @@ class Lister:
         return places | set(rng.sample(range(count), min(any_size, count)))
 
     def bad(self):
-        """The image, maybe with some eraseblocks more, and a LIST: of some eraseblocks, or of any characters where they are right."""
+        """The image, maybe with a few more eraseblocks, and a LIST: of some eraseblocks, or random characters if they
+        are a LIST."""
         rng, image = self.rng, b"".join(self.blocks)
         word = rng.choice(("", self.random_word()))
         if rng.random() < 0.1 and rules.listed(word):
@@ -381,7 +419,8 @@ class Lister:
         return image, listing(rng, places, -(-len(image) // self.geometry.peb))
 
     def put_in(self, places, room):
-        """The image with up to two eraseblocks more, if there is room, that hold other bytes; and which are they and those at places."""
+        """The image with up to two more eraseblocks, if there is room, that hold other bytes; and where these and those
+        at PLACES are then."""
         rng, blocks, listed = self.rng, [], set()
         before = rng.sample(range(len(self.blocks)), min(rng.randrange(3), room, len(self.blocks)))
         for p, block in enumerate(self.blocks):
@@ -394,28 +433,38 @@ class Lister:
         return b"".join(blocks), listed
 
     def random_word(self):
-        """Some of the characters that are in LISTs, and a few others."""
+        """Some of the characters of LISTs, and a few others."""
         return "".join(self.rng.choice("0123456789,,--+ x") for _ in range(self.rng.randrange(1, 9)))
 
     def wrong(self):
-        """A LIST that is wrong."""
+        """A wrong LIST."""
         rng, word = self.rng, self.random_word()
         right = listing(rng, self.places(), len(self.blocks))
-        other = rng.choice((word, rng.choice(NO_LISTS), f"{right},{rng.choice(NO_LISTS)}", f"{rng.choice(NO_LISTS)},{right}", f"{right},"))
+        alone, after, before = (rng.choice(NO_LISTS) for _ in range(3))
+        other = rng.choice((word, alone, f"{right},{after}", f"{before},{right}", f"{right},"))
         return other if rules.listed(other) is None else rng.choice(NO_LISTS)
 
     def others(self, image, is_bad):
-        """An image with other bytes in each eraseblock that is listed."""
+        """An image with other bytes in each listed eraseblock."""
         blocks = [image[at : at + self.geometry.peb] for at in range(0, len(image), self.geometry.peb)]
         return b"".join(self.other(block) if is_bad(p) else block for p, block in enumerate(blocks))
 
     def other(self, block):
-        """Other bytes of an eraseblock: all alike, any, a header that is at fault, or those of another one, maybe with a later number."""
+        """Other bytes for an eraseblock: all equal, any, a header that is at fault, or those of another eraseblock,
+        maybe with a later sequence number."""
         rng, whole = self.rng, self.some_block()
-        later = rules.sealed(whole[self.geometry.vid :][:40] + struct.pack(">Q", rng.choice((5000, TOP_SQNUM))) + bytes(12))
+        sqnum = struct.pack(">Q", rng.choice((5000, TOP_SQNUM)))
+        later = rules.sealed(whole[self.geometry.vid :][:40] + sqnum + bytes(12))
         front, rest = whole[: self.geometry.vid], whole[self.geometry.vid + 64 :]
-        ways = (bytes(len(block)), b"\xFF" * len(block), rng.randbytes(len(block)), whole, front + later + rest,
-            renumbered(whole, rng.randrange(1, 2**32)), with_field(rng, whole[:64], EC_FIELDS) + whole[64:])
+        ways = (
+            bytes(len(block)),
+            b"\xFF" * len(block),
+            rng.randbytes(len(block)),
+            whole,
+            front + later + rest,
+            renumbered(whole, rng.randrange(1, 2**32)),
+            with_field(rng, whole[:64], EC_FIELDS) + whole[64:],
+        )
         return rng.choice(ways)[: len(block)].ljust(len(block), b"\xFF")
 
     def some_block(self):
@@ -425,7 +474,8 @@ class Lister:
 
 
 class HugeMaker(Maker):
-    """Makes an image above 16 MiB: a dynamic volume, of whose LEBs most have a few bytes, and two eraseblocks that are free."""
+    """Makes an image of more than 16 MiB: a dynamic volume, most of whose LEBs have a few bytes, and two free
+    eraseblocks."""
 
     pebs = (160,)
 
@@ -437,21 +487,22 @@ class HugeMaker(Maker):
 
     def dynamic(self, slot, record):
         lnums = self.rng.sample(range(record.reserved), 132)
-        return [self.block(Vid(1, 0, 0, slot, lnum, 0, 0, 0, 0, self.sqnum()), self.rng.randbytes(9)) for lnum in lnums]
+        vids = (Vid(1, 0, 0, slot, lnum, 0, 0, 0, 0, self.sqnum()) for lnum in lnums)
+        return [self.block(vid, self.rng.randbytes(9)) for vid in vids]
 
     def others(self):
         return [self.free(), self.erased()]
 
 
 NUMBERS = (0, 1, 2, 3, 64, 127, 128, 2**31 - 1, 2**31, LAYOUT, LAYOUT + 1, 2**32 - 1)
-# Of each field of a header or a record where it begins, and how many bytes it has.
+# The offset of each field of a header or a record, and its number of bytes.
 EC_FIELDS = ((4, 1), (8, 8), (16, 4), (20, 4), (24, 4))
 VID_FIELDS = ((5, 1), (6, 1), (7, 1), (8, 4), (12, 4), (20, 4), (24, 4), (28, 4), (32, 4), (40, 8))
 RECORD_FIELDS = ((0, 4), (4, 4), (8, 4), (12, 1), (13, 1), (14, 2), (16, 1), (17, 1), (143, 1), (144, 1), (150, 1))
 
 
 def with_field(rng, raw, fields):
-    """A header or a record with another number in a field, its check made right again."""
+    """A header or a record with another number in a field, and the right CRC."""
     at, size = rng.choice(fields)
     old = int.from_bytes(raw[at : at + size], "big")
     number = rng.choice((rng.choice(NUMBERS), old + 1, old - 1, old ^ 1 << rng.randrange(8 * size))) % 256**size
@@ -463,8 +514,10 @@ class Mutator:
 
     def __init__(self, rng, geometry, times):
         self.rng, self.geometry, self.times = rng, geometry, times
-        self.ways = (self.any_byte, self.header_byte, self.ec_field, self.vid_field, self.vid_field, self.record_field, self.record_field,
-            self.both_records, self.doubled, self.erased, self.swapped, self.cut_off)
+        self.ways = (
+            self.any_byte, self.header_byte, self.ec_field, self.vid_field, self.vid_field, self.record_field,
+            self.record_field, self.both_records, self.doubled, self.erased, self.swapped, self.cut_off,
+        )
 
     def mutate(self, blocks):
         blocks = list(blocks)
@@ -525,27 +578,29 @@ class Mutator:
         blocks[p], blocks[q] = blocks[q], blocks[p]
 
     def cut_off(self, blocks):
-        blocks[-1] = blocks[-1][: self.rng.choice((0, 1, self.geometry.peb - 1, self.rng.randrange(self.geometry.peb)))]
+        peb = self.geometry.peb
+        blocks[-1] = blocks[-1][: self.rng.choice((0, 1, peb - 1, self.rng.randrange(peb)))]
 
 
 def spec_of(image):
-    """A text that `compose` makes the normal image of."""
+    """A text from which `compose` makes the normal image."""
     for slot, record in sorted(image.records.items()):
         kind = {1: "dynamic", 2: "static"}[record.kind]
-        yield f"volume {slot} {kind} {record.reserved} {record.alignment} {record.flags:02x} {rules.shown(record.name)}\n"
+        numbers = f"{record.reserved} {record.alignment} {record.flags:02x}"
+        yield f"volume {slot} {kind} {numbers} {rules.shown(record.name)}\n"
         content = image.contents[slot]
         if isinstance(content, str):
             yield f"{content} {slot}\n"
         elif record.kind == 1:
-            # Of every second LEB as few bytes as may be.
-            given = ((lnum, text.rstrip(b"\xFF") if lnum % 2 else text) for lnum, text in content.items())
-            yield from (f"leb {slot} {lnum} {text.hex()}\n" for lnum, text in given)
+            # Every second LEB has as few bytes as possible.
+            given = ((lnum, data.rstrip(b"\xFF") if lnum % 2 else data) for lnum, data in content.items())
+            yield from (f"leb {slot} {lnum} {data.hex()}\n" for lnum, data in given)
         else:
             yield from (f"bytes {slot} {content[at : at + 100].hex()}\n" for at in range(0, len(content), 100))
 
 
 class Runner:
-    """Runs the program over files of a folder, and compares what it answers."""
+    """Runs the program on files of a folder, and compares its answers."""
 
     def __init__(self, tool, folder, geometry):
         self.tool, self.folder, self.geometry = tool, folder, geometry
@@ -559,81 +614,85 @@ class Runner:
         return path
 
     def read(self, data):
-        """The image that some bytes are, with the eraseblocks that are listed as bad."""
+        """The image that some bytes are, with the listed eraseblocks taken as bad."""
         return Image(self.geometry, data, self.is_bad)
 
     def whole(self, words):
-        """The words of a command, with the numbers of a geometry and the LIST where it takes them."""
+        """The words of a command, with those of a geometry and the LIST if it takes them."""
         return [*sized(words, self.geometry), *(self.bad if words[0] in OF_BAD else [])]
 
     def written(self):
-        """What the program wrote into its output file; None where there is none."""
+        """What the program wrote into its output file; None if there is none."""
         return taken_file(self.out)
 
     def expect(self, words, lines, status, written=None, pages=None):
-        """Runs the program, whose lines, status, output file and file of pages have to be these."""
+        """Runs the program, whose lines, status, output file and file of pages have to be the given ones."""
         self.expect_bare(self.whole(words), lines, status, written, pages)
 
     def expect_bare(self, words, lines, status, written=None, pages=None):
-        """The same of words that are whole already."""
+        """The same for words that are complete already."""
         ran = subprocess.run([self.tool, *words], capture_output=True)
-        came = (ran.stdout.decode(), ran.returncode, self.written(), taken_file(self.pages))
-        if came != (lines, status, written, pages) or ran.stderr:
-            what = [name for name, is_right in (("output", came[2] == written), ("pages", came[3] == pages)) if not is_right]
-            raise Failure(f"{words} answers {came[:2]} where {(lines, status)} is right, and writes "
-                f"{'other ' + ' and '.join(what) if what else 'what is right'}; {ran.stderr.decode()}")
+        answer, files = (ran.stdout.decode(), ran.returncode), (self.written(), taken_file(self.pages))
+        if (answer, files) != ((lines, status), (written, pages)) or ran.stderr:
+            wrong = [name for name, *both in zip(("output", "pages"), files, (written, pages)) if both[0] != both[1]]
+            raise Failure(f"{words} answers {answer} and not {(lines, status)}, and writes "
+                f"{'other ' + ' and '.join(wrong) if wrong else 'what is right'}; {ran.stderr.decode()}")
 
     def expect_wrong(self, words):
-        """Runs the program with words that are wrong: nothing is printed but on standard error, and nothing is written."""
+        """Runs the program with wrong words: it may print nothing except on standard error, and write nothing."""
         ran = subprocess.run([self.tool, *words], capture_output=True)
-        came = (ran.stdout, ran.returncode, self.written(), taken_file(self.pages))
-        if came != (b"", 2, None, None) or not ran.stderr:
-            raise Failure(f"{words} answers {came[:2]} where the words are wrong")
+        answer = (ran.stdout, ran.returncode, self.written(), taken_file(self.pages))
+        if answer != (b"", 2, None, None) or not ran.stderr:
+            raise Failure(f"{words} answers {answer[:2]}, though the words are wrong")
 
     def change(self, path, image, number, lnum, new, more=()):
-        """The words that ask for a change, and what the rules say of it."""
-        words = ["change", path, "--id", str(number), "--lnum", str(lnum), "--from", self.put("new", new), "--out", self.out, *more]
+        """The words that ask for a change, and what the rules say about it."""
+        of_leb = ["--id", str(number), "--lnum", str(lnum), "--from", self.put("new", new)]
+        words = ["change", path, *of_leb, "--out", self.out, *more]
         return words, *said(rules.change_refusal, rules.Change, rules.changed, image, number, lnum, new)
 
     def rename(self, path, image, number, word, more=()):
-        """The words that ask for a rename, and what the rules say of it."""
-        named = [f"--name={word}"] if word.startswith("-") else ["--name", word]
-        words, name = ["rename", path, "--id", str(number), *(part.encode() for part in named), "--out", self.out, *more], name_in(word)
+        """The words that ask for a rename, and what the rules say about it."""
+        option = [f"--name={word}"] if word.startswith("-") else ["--name", word]
+        named = [part.encode() for part in option]
+        words, name = ["rename", path, "--id", str(number), *named, "--out", self.out, *more], name_in(word)
         if name is None:
             return words, "N1 BadName", [], None
         return words, *said(rules.rename_refusal, rules.Rename, rules.renamed, image, number, name)
 
     def look_cuts(self, image, words, steps, meant, stops):
-        """Compares the plan that is printed, and what is written behind each of some numbers of its steps. Gives the last."""
-        lines, whole, old, turned = "".join(rules.plan_lines(steps)), b"".join(image.found.blocks), image.meaning(), []
+        """Compares the printed plan, and what is written after each of some numbers of its steps. Returns the last."""
+        lines, whole, old = "".join(rules.plan_lines(steps)), b"".join(image.found.blocks), image.meaning()
+        are_new = []
         for k in stops:
             cut, pages = rules.after(self.geometry, whole, steps[:k]), self.pages_of(words, steps[:k])
             self.expect([*words, "--stop", str(k)], lines, 0, cut, pages)
             last = self.read(cut)
             if last.meaning() not in (old, meant):
                 raise Failure(f"cut {k} of {len(steps)} means neither the old nor the new")
-            turned.append(last.meaning() != old)
-        if turned != sorted(turned) or last.meaning() != meant:
-            raise Failure("a cut turns back, or the last one doesn't mean the new")
+            are_new.append(last.meaning() != old)
+        if are_new != sorted(are_new) or last.meaning() != meant:
+            raise Failure("a cut after the commit means the old, or the last one doesn't mean the new")
         if rules.needs_repair(last) != rules.needs_repair(image):
-            raise Failure("the copies of the table are unlike in the end")
+            raise Failure("the copies of the table differ in the end")
         if pages is not None:
             self.look_replayed(whole, lines, pages, k, cut)
         self.look_kept(image, whole, cut)
         return cut
 
     def pages_of(self, words, steps):
-        """What the file of pages holds of some steps; None where the words name none."""
+        """What the file of pages holds after some steps; None if the words name no such file."""
         return rules.pages_of(steps) if any(str(word).startswith("--pages") for word in words) else None
 
     def look_replayed(self, whole, lines, pages, count, cut):
-        """Whether the first lines of a plan and their pages make what is written of the image."""
+        """Checks that the first lines of a plan and their pages turn the image into what is written."""
         steps = rules.read_steps(self.geometry, lines.splitlines()[1:][:count], pages)
         if rules.after(self.geometry, whole, steps) != cut:
             raise Failure("the steps with their pages give another image")
 
     def look_kept(self, image, whole, cut):
-        """Whether the eraseblocks that a plan may not touch are as they were, and those that are listed are blank."""
+        """Checks that the eraseblocks that a plan may not touch are as they were, and that the listed ones are
+        blank."""
         peb = self.geometry.peb
         for p in range(len(image.states)):
             old, new = (data[p * peb : (p + 1) * peb] for data in (whole, cut))
@@ -641,41 +700,41 @@ class Runner:
                 raise Failure(f"the plan touches eraseblock {p}")
 
     def look_read(self, path, meaning, number, name=None):
-        """Compares what is extracted of a volume, by its number or by its name, with what an image means."""
+        """Compares what is extracted from a volume, by its number or by its name, with what an image means."""
         words = ["extract", path, *(["--id", str(number)] if name is None else [f"--name={name}"]), "--out", self.out]
         try:
-            text = meaning.read_volume(number)
+            contents = meaning.read_volume(number)
         except Refused as refused:
             self.expect(words, f"refused {refused}\n", 1)
             return
-        self.expect(words, f"bytes {len(text)}\n", 0, text)
+        self.expect(words, f"bytes {len(contents)}\n", 0, contents)
 
     def look_unpacked(self, path, meaning):
-        """Compares what is unpacked of an image into a new folder."""
+        """Compares what is unpacked from an image into a new folder."""
         folder, lines, files = os.path.join(self.folder, "volumes"), [], {}
         for number, record in sorted(meaning.records.items()):
             name = rules.shown(record.name)
             try:
-                text = meaning.read_volume(number)
+                contents = meaning.read_volume(number)
             except Refused as refused:
                 lines.append(f"volume {number} {str(refused).split()[1].lower()} name={name}\n")
                 continue
-            lines.append(f"volume {number} bytes={len(text)} name={name}\n")
-            files[rules.folder_file(number, record)] = text
+            lines.append(f"volume {number} bytes={len(contents)} name={name}\n")
+            files[rules.folder_file(number, record)] = contents
         status = int(any("bytes=" not in line.split(" name=")[0] for line in lines))
         files["ubi.ini"] = rules.folder_config(meaning)
         self.expect(["unpack", path, "--out", folder], "".join(lines), status)
         self.expect(["unpack", path, "--out", folder], f"cannot write {folder}\n", 1)
-        came = taken(folder)
-        if came != files:
-            raise Failure(f"unpack writes {sorted(came)} where {sorted(files)} with their contents is right")
+        written = taken(folder)
+        if written != files:
+            raise Failure(f"unpack writes {sorted(written)} and not {sorted(files)}, or not with their contents")
 
 
 class Case(Runner):
-    """An image, and what the program is to answer of it.
+    """An image, and the answers that the program has to give for it.
 
-    TIMES are how often it may be changed, PLANS is how many changes and how many renames are planned, and CUTS how many cuts of
-    each are looked at.
+    TIMES are how often it may be changed, PLANS is how many changes and how many renames are planned, and CUTS how many
+    cuts of each are checked.
     """
 
     def __init__(self, rng, tool, folder, maker, times=(0, 1, 1, 2, 3), plans=4, cuts=99):
@@ -691,14 +750,14 @@ class Case(Runner):
         self.path = self.put("image", self.image)
 
     def look(self):
-        """Compares each answer. Gives whether the image is accepted, and how many cuts were looked at."""
+        """Compares each answer. Returns whether the image is accepted, and how many cuts were checked."""
         answer = self.look_image()
         self.look_geometries()
         self.look_wrong()
         return answer
 
     def look_wrong(self):
-        """Looks at words that are wrong for their options."""
+        """Tries words that are wrong because of their options."""
         rng, command = self.rng, self.rng.choice(OF_BAD)
         other = rng.choice(("geometry", "compose", "build"))
         of_plan = self.plain_words(rng.choice(("change", "rename")))
@@ -708,18 +767,25 @@ class Case(Runner):
             [*self.plain_words(command), *either(rng, "--bad", self.lister.wrong())],
             [*self.plain_words(other), *either(rng, "--bad", rng.choice(("", "0", "3,4")))],
             [*of_plan, *either(rng, "--blank", no_value)],
-            [*self.plain_words(rng.choice((*OF_BAD[:-2], other))), *rng.choice((["--blank", "keep"], ["--pages", self.pages]))],
+            [*self.plain_words(rng.choice((*OF_BAD[:-2], other))),
+                *rng.choice((["--blank", "keep"], ["--pages", self.pages]))],
         )))
 
     def plain_words(self, command):
         """Words that are right for a command."""
-        of = {"show": ["--block", "0"], "extract": ["--id", "0"], "same": [self.path], "diff": [self.path],
-            "change": ["--id", "0", "--lnum", "0", "--from", self.path], "rename": ["--id", "0", "--name", "data"]}
+        of = {
+            "show": ["--block", "0"],
+            "extract": ["--id", "0"],
+            "same": [self.path],
+            "diff": [self.path],
+            "change": ["--id", "0", "--lnum", "0", "--from", self.path],
+            "rename": ["--id", "0", "--name", "data"],
+        }
         outs = ["--out", self.out] if command not in ("geometry", "list", "check", "show", "same", "diff") else []
         return sized([command, self.path, *of.get(command, []), *outs], self.geometry)
 
     def look_geometries(self):
-        """Compares what is told of the geometry of the image, and of another file that is made of it."""
+        """Compares what `geometry` prints for the image, and for another file that is made from it."""
         rng = self.rng
         page, more = self.geometry.page, rng.choice((1, self.geometry.page // 32, self.geometry.page // 4))
         with_more = b"".join(self.image[at : at + page] + b"\xFF" * more for at in range(0, len(self.image), page))
@@ -728,7 +794,7 @@ class Case(Runner):
         self.look_geometry(rng.choice((self.image[: rng.randrange(len(self.image) + 1)], with_more, around)))
 
     def look_geometry(self, file):
-        """Compares what is told of the geometry of a file, and what `list` answers by a line of that."""
+        """Compares what `geometry` prints for a file, and what `list` answers with a line of that."""
         path = self.put("dump", file)
         text, status = printed(file)
         self.expect(["geometry", path], text, status)
@@ -742,7 +808,7 @@ class Case(Runner):
         self.expect_bare(["list", path, *found.line().split()], listed, status)
 
     def look_image(self):
-        """Compares the answers of the image under its own geometry."""
+        """Compares the answers for the image with its own geometry."""
         try:
             image = self.read(self.image)
         except Refused as refused:
@@ -756,10 +822,17 @@ class Case(Runner):
     def look_refused(self, line):
         of_volume, more = ("--id", "0", "--out", self.out), self.plan_words()
         new = self.put("new", bytes(self.geometry.page))
-        for command, *words in (["check"], ["list"], ["normalise", "--out", self.out], ["extract", *of_volume],
-                ["change", *of_volume, "--lnum", "0", "--from", new, *more], ["rename", *of_volume, "--name", "data", *more]):
+        for command, *words in (
+            ["check"],
+            ["list"],
+            ["normalise", "--out", self.out],
+            ["extract", *of_volume],
+            ["change", *of_volume, "--lnum", "0", "--from", new, *more],
+            ["rename", *of_volume, "--name", "data", *more],
+        ):
             self.expect([command, self.path, *words], line, 1)
-        self.expect(["rename", self.path, *of_volume, "--name", self.rng.choice(("", *NO_NAMES)).encode()], "refused N1 BadName\n", 1)
+        no_name = self.rng.choice(("", *NO_NAMES)).encode()
+        self.expect(["rename", self.path, *of_volume, "--name", no_name], "refused N1 BadName\n", 1)
         folder = os.path.join(self.folder, "volumes")
         self.expect(["unpack", self.path, "--out", folder], line, 1)
         if os.path.exists(folder):
@@ -768,7 +841,7 @@ class Case(Runner):
         self.expect(["check", self.put("others", self.with_others(self.image))], line, 1)
 
     def look_meant(self, image):
-        """Compares what is printed and written of an accepted image, and of others beside it."""
+        """Compares what is printed and written for an accepted image, and for others beside it."""
         normal, p = rules.normal_image(image), self.rng.randrange(len(image.states))
         self.expect(["check", self.path], "".join(rules.check_lines(image)), 0)
         self.expect(["list", self.path], "".join(rules.list_lines(image)), 0)
@@ -777,59 +850,61 @@ class Case(Runner):
             self.look_read(self.path, image, number)
             self.look_read(self.path, image, number, rules.shown(record.name))
         names = {record.name for record in image.records.values()}
-        # By a name that no volume has, what is right is what is right by a number that none has.
+        # With a name that no volume has, the right answer is that for a number that no volume has.
         for name in {b"root", b"\x80", b"none"} - names:
             self.look_read(self.path, image, 128, rules.shown(name))
         self.look_read(self.path, image, 127)
         self.look_read(self.path, image, 128, self.rng.choice(NO_NAMES[:8]))
         self.look_unpacked(self.path, image)
-        self.expect(["normalise", self.path, "--out", self.out], f"blocks {len(normal) // self.geometry.peb}\n", 0, normal)
+        lines = f"blocks {len(normal) // self.geometry.peb}\n"
+        self.expect(["normalise", self.path, "--out", self.out], lines, 0, normal)
         self.look_composed(image, self.rng.choice((0, 0, 1, 2, 3)))
         for other in (normal, self.mixed(), self.with_number(image)):
             self.look_same(image, other)
 
     def look_far(self, image):
-        """Compares what is answered where a number among the words is far out of range."""
+        """Compares the answers if a number among the words is far out of range."""
         number, lnum = self.target(image)
         self.look_show(image, far(self.rng, self.rng.randrange(len(image.states))))
         self.look_read(self.path, image, far(self.rng, number))
         self.look_composed(image, far(self.rng, 1))
-        self.look_change(image, self.path, *self.rng.choice(((far(self.rng, number), lnum), (number, far(self.rng, lnum)))))
+        far_target = self.rng.choice(((far(self.rng, number), lnum), (number, far(self.rng, lnum))))
+        self.look_change(image, self.path, *far_target)
         self.look_rename(image, self.path, far(self.rng, number))
 
     def with_others(self, data):
-        """The bytes of an image with others in the eraseblocks that are listed."""
+        """The bytes of an image with others in the listed eraseblocks."""
         return self.lister.others(data, self.is_bad)
 
     def look_others(self, image):
-        """Whether the image means the same with other bytes in the eraseblocks that are listed."""
+        """Checks that the image means the same with other bytes in the listed eraseblocks."""
         if any(map(self.is_bad, range(len(image.states)))):
             path = self.put("others", self.with_others(self.image))
             self.expect(["check", path], "".join(rules.check_lines(image)), 0)
             self.expect(["same", self.path, path], "same\n", 0)
 
     def plan_words(self):
-        """Words for a plan: whether blank eraseblocks are kept, and where its pages go."""
+        """Words for a plan: whether blank eraseblocks are kept, and the file for its pages."""
         rng = self.rng
         keep = rng.choice(([], [], [], either(rng, "--blank", "keep")))
         return [*keep, *rng.choice(([], either(rng, "--pages", self.pages), either(rng, "--pages", self.pages)))]
 
     def with_plan_words(self, image):
-        """An image, which keeps its blank eraseblocks where words for a plan say so, and those words."""
+        """An image, which keeps its blank eraseblocks if words for a plan say so, and those words."""
         more = self.plan_words()
         return (image.keeping_blank() if more and more[0].startswith("--blank") else image), more
 
     def mixed(self):
-        """Another image that is made from the same eraseblocks."""
+        """Another image, made from the same eraseblocks."""
         return self.mutator.mutate(self.rng.sample(self.blocks, len(self.blocks)))
 
     def with_number(self, image):
-        """The eraseblocks of an image, all of which carry another number, or none, or the same one."""
+        """The eraseblocks of an image, all of them with another number, or none, or the same one."""
         number = self.rng.choice((0, image.image_seq, image.image_seq ^ 1 << self.rng.randrange(32)))
         return b"".join(renumbered(block, number) for block in image.found.blocks)
 
     def compose_words(self, image, spares):
-        """Words that compose what an image means, with spare eraseblocks behind it."""
+        """Words that compose what an image means, with spare eraseblocks after it."""
         words = ["compose", self.put("spec", "".join(spec_of(image)).encode()), "--out", self.out]
         return words + given(self.rng, "--seq", image.image_seq) + given(self.rng, "--spares", spares)
 
@@ -861,7 +936,8 @@ class Case(Runner):
         self.expect(words, "same\n" if is_same else "different\n", 0 if is_same else 1)
 
     def target(self, image):
-        """A volume and a LEB to change: mostly of a dynamic volume, and often a LEB of an eraseblock that carries the number."""
+        """A volume and a LEB to change: mostly a dynamic volume, and often a LEB in an eraseblock that carries the
+        number."""
         rng, members = self.rng, image.found.members
         dynamic = [number for number, record in image.records.items() if record.kind == 1]
         carried = [members[p] for p in image.found.carriers if p in members and members[p].volume in dynamic]
@@ -876,11 +952,13 @@ class Case(Runner):
     def new_bytes(self):
         rng, page = self.rng, self.geometry.page
         whole = rng.randbytes(rng.randrange(1, self.geometry.leb // page + 1) * page)
-        blank = rng.choice((b"\xFF" * len(whole), whole[: page - 5] + b"\xFF" * 5, b"\xFF" * (page - 5) + bytes.fromhex("BEF98E24FE")))
+        weak = b"\xFF" * (page - 5) + bytes.fromhex("BEF98E24FE")
+        blank = rng.choice((b"\xFF" * len(whole), whole[: page - 5] + b"\xFF" * 5, weak))
         return rng.choice((whole, whole, whole, whole, whole + blank, blank, whole[: page // 2]))
 
     def new_name(self, image, number):
-        """A word for a new name: of any bytes, or a name that is there, or one that is made; now and then none that can be read."""
+        """A word for a new name: any bytes, a name that exists, or one that is computed; now and then one that can't be
+        read."""
         rng, names = self.rng, [record.name for record in image.records.values()]
         if rng.random() < 0.1:
             word = spelled(rng, b"name")
@@ -893,9 +971,10 @@ class Case(Runner):
         return spelled(rng, name or made or some)
 
     def made_name(self, image, number):
-        """A name with which some first pages of the table have the check of all, or the last is blank; None where none is found."""
+        """A name with which some first pages of the table have the CRC of all, or the last page is blank; None if none
+        is found."""
         rng, page, at, end = self.rng, self.geometry.page, 172 * number, 172 * self.geometry.slots
-        # The pages up to a border that lies in the record: up to others hardly any name makes them weak.
+        # The pages up to a border within the record: for other borders hardly any name gives them that CRC.
         pages = range(at // page + 1, (at + 168) // page + 1)
         pages = rng.sample(pages, min(rng.choice((1, 2)), len(pages)))
 
@@ -909,7 +988,7 @@ class Case(Runner):
         return solved(rng, 127, rng.choice((weak, not_blank, not_blank)) if may_be_blank else weak)
 
     def look_plans(self, image, path):
-        """Compares the plans of a change and of a rename. Gives how many cuts were looked at."""
+        """Compares the plans of a change and of a rename. Returns how many cuts were checked."""
         number = self.rng.choice((*image.records, *image.records, *image.records, 3))
         return self.look_change(image, path, *self.target(image)) + self.look_rename(image, path, number)
 
@@ -922,7 +1001,7 @@ class Case(Runner):
         return self.look_plan(image, *self.rename(path, image, number, self.new_name(image, number), more))
 
     def look_plan(self, image, words, refusal, steps, meant):
-        """Compares a plan, and what is written behind its steps. Gives how many cuts those are."""
+        """Compares a plan, and what is written after its steps. Returns how many cuts were checked."""
         if refusal is not None:
             self.expect(words, f"refused {refusal}\n", 1)
             return 0
@@ -933,13 +1012,15 @@ class Case(Runner):
         if any(map(self.is_bad, range(len(image.states)))):
             with open(words[1], "rb") as file:
                 path = self.put("others", self.with_others(file.read()))
-            self.expect([words[0], path, *words[2:]], "".join(rules.plan_lines(steps)), 0, last, self.pages_of(words, steps))
+            lines, pages = "".join(rules.plan_lines(steps)), self.pages_of(words, steps)
+            self.expect([words[0], path, *words[2:]], lines, 0, last, pages)
         of_cut = self.look_cut(image, steps) if words[1] == self.path and self.rng.random() < 0.2 else 0
         return len(stops) + 1 + of_cut
 
     def look_cut(self, image, steps):
-        """Compares the plans of a cut of a plan. Gives how many cuts of those were looked at."""
-        cut = rules.after(self.geometry, b"".join(image.found.blocks), steps[: self.rng.randrange(len(steps) + 1)])
+        """Compares the plans for a cut of a plan. Returns how many cuts of those were checked."""
+        count = self.rng.randrange(len(steps) + 1)
+        cut = rules.after(self.geometry, b"".join(image.found.blocks), steps[:count])
         path, image = self.put("cut", self.with_others(cut)), self.read(cut)
         self.expect(["check", path], "".join(rules.check_lines(image)), 0)
         self.expect(["list", path], "".join(rules.list_lines(image)), 0)
@@ -947,27 +1028,35 @@ class Case(Runner):
 
 
 def options(usage, count, **others):
-    """The words of a program over random images or texts, which may be counted by other words too."""
+    """The options of a script with random images or texts; OTHERS are more options that count them."""
     words = argparse.ArgumentParser(description=usage, formatter_class=argparse.RawDescriptionHelpFormatter)
     words.add_argument("--seed", type=int, default=1)
     for name, number in {"count": count, **others}.items():
         words.add_argument(f"--{name}", type=int, default=number)
     words.add_argument("--first", type=int, default=0, help="the number of the first image or text")
     words.add_argument("--dir", default="/tmp")
-    words.add_argument("--tool", help="the program; the one that ./ubi_tool starts where it is left out")
+    words.add_argument("--tool", help="the program; the one that ./ubi_tool starts by default")
     return words.parse_args()
 
 
+def print_causes(answers):
+    """Prints how often each answer was given, counting those that differ in a number as one."""
+    causes = collections.Counter(re.sub(r"=\d+", "", answer) for answer in answers)
+    for cause, count in sorted(causes.items()):
+        print(f"{count:>6} {cause}")
+
+
 def finish(passed, failed):
-    """Prints the last line, and ends with status 0 where none failed."""
+    """Prints the last line, and ends with status 0 if none failed."""
     print(f"{passed} passed, {failed} failed")
     sys.exit(1 if failed else 0)
 
 
 def run_cases(words, looks):
-    """Calls each LOOK with random numbers of its name and a folder. Gives what they answered, and how many failed.
+    """Calls each LOOK with a random generator, seeded by its name and number, and a folder. Returns their answers, and
+    how many failed.
 
-    LOOKS has of each name the look, and how many there are of it, which are counted from --first.
+    LOOKS has for each name the look and its count; the numbers begin with --first.
     """
     answers, failed = [], 0
     with tempfile.TemporaryDirectory(dir=words.dir) as folder:
@@ -984,10 +1073,17 @@ def run_cases(words, looks):
 def main():
     words = options(__doc__, 500, large=20, huge=1)
     tool = built(words.tool)
+
+    def large(rng, folder):
+        return Case(rng, tool, folder, Maker(rng, REAL_SIZES), (0, 0, 1), 3, 5).look()
+
+    def huge(rng, folder):
+        return Case(rng, tool, folder, HugeMaker(rng, REAL_SIZES), (0,), 3, 5).look()
+
     answers, failed = run_cases(words, {
         "": (lambda rng, folder: Case(rng, tool, folder, Maker(rng)).look(), words.count),
-        "large ": (lambda rng, folder: Case(rng, tool, folder, Maker(rng, REAL_SIZES), (0, 0, 1), 3, 5).look(), words.large),
-        "huge ": (lambda rng, folder: Case(rng, tool, folder, HugeMaker(rng, REAL_SIZES), (0,), 3, 5).look(), words.huge),
+        "large ": (large, words.large),
+        "huge ": (huge, words.huge),
     })
     accepted, cuts = (sum(answer[k] for answer in answers) for k in range(2))
     print(f"{accepted} accepted, {cuts} cuts")

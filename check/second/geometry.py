@@ -1,9 +1,10 @@
-"""A second reading of docs/FORMAT.md, of its section "How a geometry is found": the geometries that the headers of a file give, of
-which nothing else is known, and the part of the file that is the image; or the cause for which none can be told.
+"""A second reading of the section "How a geometry is found" of docs/FORMAT.md: the geometries that the headers of a
+file give, if nothing else is known about it, and the part of the file that is the image; or the cause for which none is
+found.
 
-It was written from that section and not from the program, so that the answers of the program can be compared with it. Each rule
-stands once, in the document's words. A refusal is the exception `Refused`, which holds the line that the program prints, without
-`refused `.
+It was written from that section and not from the program, so that the answers of the program can be compared with it.
+It says each rule once, in the document's words. A refusal is the exception `Refused`, which holds the line that the
+program prints, without `refused `.
 """
 import collections
 import dataclasses
@@ -12,7 +13,7 @@ import math
 from rules import LAYOUT, RECORD, Geometry, Refused, is_blank, read_ec
 
 MAGIC, VID_MAGIC = b"UBI#", b"UBI!"
-# Headers stand at multiples of so many bytes, and have as many.
+# Headers lie at multiples of so many bytes, and have as many.
 STEP = 64
 # The most bytes of an eraseblock, the most eraseblocks of a device, and the most keys that headers may name.
 TOP_SIZE, TOP_PEBS, TOP_KEYS = 2**24, 2**20, 256
@@ -23,7 +24,8 @@ COUNTS = [2**k for k in range(4, 12)]
 
 
 class NoSize(Refused):
-    """Why no size can be told: headers name too many keys, no group says one, or it isn't sure, as `why` says in a word."""
+    """Why no size can be found: headers name too many keys, no group gives one, or it isn't sure, as `why` says in a
+    word."""
 
     def __init__(self, why):
         super().__init__("F2 NoSize")
@@ -32,7 +34,7 @@ class NoSize(Refused):
 
 @dataclasses.dataclass(frozen=True)
 class Header:
-    """A header: where it stands, the two offsets that it names, and its image sequence number."""
+    """A header: its place, the two offsets that it names, and its image sequence number."""
 
     place: int
     offsets: tuple
@@ -62,18 +64,19 @@ class Group:
 
     @property
     def said(self):
-        """The size that the headers say: the greatest common divisor of their distances; None where it is above the most."""
+        """The size that the headers give: the greatest common divisor of their distances; None if it is above the
+        limit."""
         divisor = math.gcd(*(place - self.places[0] for place in self.places))
         return divisor if divisor <= TOP_SIZE else None
 
     @property
     def speaks_for(self):
-        """How many bytes it speaks for: as many as its size times its headers but one."""
+        """How many bytes it speaks for: its size times the number of its headers less one."""
         return (len(self.places) - 1) * self.said
 
 
 def groups(found):
-    """The groups of headers that say a size, in the order in which their offsets and numbers are named first."""
+    """The groups of headers that give a size, in the order in which their offsets and numbers are first named."""
     named = collections.defaultdict(list)
     for header in found:
         named[header.offsets, header.number].append(header.place)
@@ -93,19 +96,19 @@ def groups(found):
 
 @dataclasses.dataclass(frozen=True)
 class Pages:
-    """A geometry, and how many out-of-band bytes are behind each page."""
+    """A geometry, and the number of out-of-band bytes after each page."""
 
     geometry: Geometry
     oob: int
 
     def place(self, x):
-        """Where the place x of an eraseblock stands in it, with the out-of-band bytes."""
+        """Where the byte x of an eraseblock lies in it with the out-of-band bytes."""
         page = self.geometry.page
         return x // page * (page + self.oob) + x % page
 
     @property
     def last_record(self):
-        """Where the table's last record stands."""
+        """Where the last record of the table begins."""
         return self.place(self.geometry.data + RECORD * (self.geometry.slots - 1))
 
     def has_vid_magic(self, file, start):
@@ -113,30 +116,31 @@ class Pages:
         return file[at : at + 4] == VID_MAGIC
 
     def votes(self, file, starts):
-        """How many of the eraseblocks that start there have the magic of a VID header where that stands."""
+        """How many of the eraseblocks that start there have the magic of a VID header at its place."""
         return sum(self.has_vid_magic(file, start) for start in starts)
 
     def copy_at(self, file, start):
-        """The LEB number of the copy of the volume table that an eraseblock holds; None where it holds none."""
+        """The LEB number of the copy of the volume table that an eraseblock holds; None if it holds none."""
         vid, record = start + self.place(self.geometry.vid), start + self.last_record
         is_layout = self.has_vid_magic(file, start) and int.from_bytes(file[vid + 8 : vid + 12], "big") == LAYOUT
         return file[vid + 12 : vid + 16] if is_layout and not is_blank(file[record : record + 64]) else None
 
 
 def fits(geometry):
-    """Whether the sizes keep the limits, and the data begin where Linux has them."""
+    """Whether the sizes keep the limits, and the data begin where Linux puts them."""
     page, after_header = geometry.page, geometry.vid + 64
     return geometry.fault() is None and geometry.data == (after_header + page - 1) // page * page
 
 
 def pages_without(q, offsets):
-    """The pages that eraseblocks of q bytes without out-of-band bytes may have, the least first."""
+    """The pages that eraseblocks of q bytes without out-of-band bytes may have, the smallest first."""
     of = (Geometry(q, page, *offsets, TOP_PEBS) for page in PAGES)
     return [Pages(geometry, 0) for geometry in of if fits(geometry)]
 
 
 def pages_with(q, offsets):
-    """The pages that eraseblocks of q bytes with out-of-band bytes may have, the least first, and of one page the fewest first."""
+    """The pages that eraseblocks of q bytes with out-of-band bytes may have, the smallest first, and for the same page
+    the fewest first."""
     found = []
     for page in PAGES_WITH_MORE:
         for count in COUNTS:
@@ -147,17 +151,17 @@ def pages_with(q, offsets):
     return found
 
 
-def told_pages(file, group, q):
+def pages_of(file, group, q):
     """The pages of an image of eraseblocks of q bytes, or why there are none."""
     without, with_more = pages_without(q, group.offsets), pages_with(q, group.offsets)
     votes = {pages: pages.votes(file, group.places) for pages in (*without, *with_more)}
     most_without, most_with = (max((votes[pages] for pages in of), default=0) for of in (without, with_more))
     if not with_more or most_without > most_with:
-        told = [pages for pages in without if votes[pages]]
+        chosen = [pages for pages in without if votes[pages]]
     else:
-        told = [pages for pages in with_more if votes[pages] == most_with > 0]
-    if told:
-        return told
+        chosen = [pages for pages in with_more if votes[pages] == most_with > 0]
+    if chosen:
+        return chosen
     if votes:
         raise Refused(f"F5 OutOfBand peb={q}")
     raise Refused(f"F6 Page peb={q} vid={group.offsets[0]} data={group.offsets[1]}")
@@ -171,26 +175,26 @@ def has_room(q, offsets):
 
 
 def is_odd_with_more(q, offsets):
-    """Whether q could be two or four eraseblocks that are no multiple of 64: it is no multiple of 128, and a page with out-of-band bytes fits half or a
-    quarter of it."""
+    """Whether q could be two or four eraseblocks that are no multiple of 64: it is no multiple of 128, and a page with
+    out-of-band bytes fits half or a quarter of it."""
     return q % 128 != 0 and any(q % of == 0 and pages_with(q // of, offsets) for of in (2, 4))
 
 
 def ends_blank(file, group, q):
-    """Whether one of the eraseblocks, or its last page where it has out-of-band bytes, ends with 16 bytes 0xFF."""
+    """Whether one of the eraseblocks, or its last page if it has out-of-band bytes, ends with 16 bytes 0xFF."""
     more = {0, *(pages.oob for pages in pages_with(q, group.offsets))}
     return any(is_blank(file[start + q - oob - 16 : start + q - oob]) for start in group.places for oob in more)
 
 
 def is_filled(file, at, count=64):
-    """Whether something stands there: so many bytes that are neither all 0xFF nor all zero."""
+    """Whether something is there: so many bytes that are neither all 0xFF nor all zero."""
     raw = file[at : at + count]
     return not is_blank(raw) and any(raw)
 
 
 def goes_on(file, at, part):
-    """Whether what an eraseblock holds goes on there, where a part begins: something stands in 192 bytes, or in all of a shorter part, and not
-    behind 16 bytes 0xFF."""
+    """Whether the contents of an eraseblock go on where a part begins: something is in 192 bytes, or in all of a
+    shorter part, and doesn't follow 16 bytes 0xFF."""
     return is_filled(file, at, min(part, 192)) and not is_blank(file[at - 16 : at])
 
 
@@ -218,7 +222,7 @@ def primes_of(number):
 
 
 def parts(q, offsets):
-    """The parts of q: q divided by a prime, where that is a multiple of 64 with room for data."""
+    """The parts of q: q divided by a prime, if that is a multiple of 64 with room for data."""
     of = (q // prime for prime in primes_of(q))
     return [part for part in of if part % STEP == 0 and has_room(part, offsets)]
 
@@ -231,7 +235,7 @@ def could_be(file, group, q, part):
 
 
 def doubt(file, group, q):
-    """Why it isn't sure that these headers are those of eraseblocks of q bytes; None where it is."""
+    """Why it isn't sure that these headers are those of eraseblocks of q bytes; None if it is."""
     first, last = group.places[0], group.places[-1]
     if not has_room(q, group.offsets):
         return "room"
@@ -252,7 +256,7 @@ def doubt(file, group, q):
 
 
 def plain_image(file, found):
-    """The headers of a file that is plainly an image, and the size of its eraseblocks; None where it isn't."""
+    """The headers of a file that is plainly an image, and the size of its eraseblocks; None if it isn't."""
     if len(found) < 2 or found[0].place:
         return None
     q = found[1].place
@@ -263,15 +267,16 @@ def plain_image(file, found):
     if len(starts) != len(file) // q or len({header.offsets for header in starts}) > 1 or len(numbers) > 1:
         return None
     group = Group(found[0].offsets, [header.place for header in starts])
-    # Their group is that of the number which one of them names, or of no number where none does.
-    others = [header.place for header in found if header.place % q and header.offsets == group.offsets and header.number in numbers | {0}]
+    # Their group is that of the number that one of them names, or of no number if none does.
+    of_image = [header for header in found if header.offsets == group.offsets and header.number in numbers | {0}]
+    others = [header.place for header in of_image if header.place % q]
     if any(place % part == 0 for place in others for part in parts(q, group.offsets)):
         return None
     return None if doubt(file, group, q) else (group, q)
 
 
 def image_of(file):
-    """The headers of the image of a file, and the size of its eraseblocks, which is sure."""
+    """The headers of the image in a file, and the size of its eraseblocks, which is sure."""
     found = headers(file)
     if not found:
         raise Refused("F1 NoHeader")
@@ -280,7 +285,7 @@ def image_of(file):
         return plain
     if len({(header.offsets, header.number) for header in found}) > TOP_KEYS:
         raise NoSize("keys")
-    # Of several that speak for as many bytes `max` gives the first.
+    # If several speak for as many bytes, `max` returns the first.
     group = max(groups(found), key=lambda group: group.speaks_for, default=None)
     if group is None:
         raise NoSize("group")
@@ -294,7 +299,8 @@ def image_of(file):
 
 
 def bounds(file, group, q):
-    """Where the image begins and where it ends: with its headers, and the blank eraseblocks beside them."""
+    """Where the image begins and where it ends: it has the eraseblocks with its headers, and the blank ones beside
+    them."""
 
     def is_blank_block(at):
         return 0 <= at <= len(file) - q and is_blank(file[at : at + 64])
@@ -309,7 +315,8 @@ def bounds(file, group, q):
 
 @dataclasses.dataclass(frozen=True)
 class Found:
-    """What is told of a file: a geometry, the out-of-band bytes behind each page, and the part of the file that is the image."""
+    """What is found in a file: a geometry, the number of out-of-band bytes after each page, and the part of the file
+    that is the image."""
 
     geometry: Geometry
     oob: int
@@ -337,9 +344,9 @@ class Found:
 
 
 def geometries(file):
-    """The geometries that the headers of a file give, in the order in which they are told."""
+    """The geometries that the headers of a file give, in the order in which they are printed."""
     group, q = image_of(file)
-    pages = told_pages(file, group, q)
+    pages = pages_of(file, group, q)
     begin, end = bounds(file, group, q)
     return [Found(one.geometry, one.oob, begin, end - begin, (begin, end) == (0, len(file))) for one in pages]
 
@@ -350,7 +357,7 @@ def find(file):
 
 
 def printed(file):
-    """What is printed of the geometry of a file, and the exit status."""
+    """What `geometry` prints for a file, and the exit status."""
     try:
         return "".join(find(file)), 0
     except Refused as refused:

@@ -1,35 +1,39 @@
 #!/usr/bin/env python3
-"""Damages an image in every way of some families, and compares each answer with the one that the rules give.
+"""Damages an image in every way of some families, and compares each answer with that of the rules.
 
 usage: hostile.py [--dir FOLDER] [--tool PROGRAM] [FAMILY ..]
 
-The image is crates/ubi_tool/data/root.img: the two copies of a table with one dynamic volume, and its LEBs 0, 1 and 2, as
-`ubinize` writes it. The families, all of which are run where none is named:
+The image is crates/ubi_tool/data/root.img: the two copies of a table with one dynamic volume, and its LEBs 0, 1 and 2,
+as `ubinize` writes it. The families, all of which are run by default:
   counters  each bit of each erase-counter header flipped: the meaning stays, with the number that the others carry
-  headers   each bit of the volume-identifier header of LEB 1 flipped: LEB 1 reads 0xFF
-  records   each bit of the records of a copy of the table flipped: the meaning stays; of both: refused T2 BothCorrupt
-  lengths   each length from 0 on: refused S1 Length where it isn't whole eraseblocks, else the LEBs that are left
-  faults    each rule of each header and record broken, with a right check, wherever it can be
-  pairs     each two of these: the cause of the lower eraseblock comes first, and those of the table last
-  carriers  the image, a free eraseblock and an erased one, where each subset of them carries the number: they mean the image
-            but for the number, which goes where none carries it; and changes of each LEB and a rename, whose plans leave a sole
-            carrier be
-  repairs   renames of these, where a bit of a copy of the table or of its header is flipped, or copy 1 is at fault or says
-            something else: refused N3 NeedsRepair; and where bytes differ that aren't looked at: the plan
-  weak      renames after which the first pages of the table, for each number of them and each two, have the check of all,
-            where there are such names: refused K7 WeakCheck with the least number
-  names     renames of these to each byte, as it is and as two digits of either case, to names of each length to 129 bytes,
-            and to words that can't be read: refused N1 BadName, whether the volume is there or not
-  texts     of `compose`: each form of line with each fault, each two faults in one text, each byte in each place that has
-            a rule of its own, and right texts at the limits; the cause of the first line comes first (text_faults.py)
-  lists     LISTs of eraseblocks that are bad: each form, each byte in each place of one, words that are as long as may be, numbers
-            that are doubled, backward and beyond the image, and words that are wrong; each is answered within two seconds
-  devices   character devices without an end, for each file that a command reads: cannot read, or wrong words where a plan has
-            no LIST; and the image by way of a pipe, of standard input from a file, and of a terminal: as from its file
+  headers   each bit of the volume-identifier header of LEB 1 flipped: LEB 1 reads as 0xFF
+  records   each bit of the records of a copy of the table flipped: the meaning stays; in both copies: refused T2
+            BothCorrupt
+  lengths   each length from 0 on: refused S1 Length if it isn't a number of whole eraseblocks, otherwise the LEBs that
+            are left
+  faults    each rule of each header and record broken, with a right CRC, in every place where it can be
+  pairs     each pair of these: the cause of the lower eraseblock comes first, and those of the table last
+  carriers  the image, a free eraseblock and an erased one, with each subset of them carrying the number: they mean the
+            image, without the number if none carries it; and changes of each LEB and a rename, whose plans don't touch
+            a sole carrier
+  repairs   renames in these, if a bit of a copy of the table or of its header is flipped, or copy 1 is at fault or
+            differs: refused N3 NeedsRepair; and if bytes differ that nothing looks at: the plan
+  weak      renames after which the first pages of the table, for each number of pages and each two numbers, have the
+            CRC of all, if there are such names: refused K7 WeakCheck with the least number
+  names     renames in these to each byte, as it is and as two digits of either case, to names of each length up to 129
+            bytes, and to words that can't be read: refused N1 BadName, whether the volume exists or not
+  texts     texts for `compose`: each form of line with each fault, each two faults in one text, each byte in each place
+            that has a rule of its own, and right texts at the limits; the cause of the first line comes first
+            (text_faults.py)
+  lists     LISTs of bad eraseblocks: each form, each byte in each place of one, the longest words, numbers that are
+            repeated, in falling order or beyond the image, and wrong words; each is answered within two seconds
+  devices   character devices without an end, for each file that a command reads: cannot read, or wrong words if a plan
+            has no LIST; and the image from a pipe, from standard input that is a file, and from a terminal: as from its
+            file
 
-What is expected is said here, family by family. The images lie in a new folder below FOLDER (/tmp where it is left out),
-which is removed again. Without --tool the program is built first where it isn't yet. The last line is 'N passed, M failed',
-and the exit status is 0 where none failed.
+The script says what is expected, family by family. The images lie in a new folder below FOLDER (/tmp by default), which
+is removed afterwards. Without --tool the program is built first, unless it is built already. The last line is 'N
+passed, M failed', and the exit status is 0 if none failed.
 """
 import argparse
 import itertools
@@ -51,11 +55,11 @@ BASE_PATH = os.path.join(ROOT, "crates", "ubi_tool", "data", "root.img")
 with open(BASE_PATH, "rb") as file:
     BASE = file.read()
 MEANT = rules.Image(GEOMETRY, BASE)
-LEBS = {lnum: text for lnum, text in MEANT.contents[0].items()}
+LEBS = dict(MEANT.contents[0])
 
 
 def flipped(image, *bits):
-    """An image with some bits of it flipped, counted from its first byte's lowest."""
+    """An image with some bits flipped, counted from the lowest bit of its first byte."""
     out = bytearray(image)
     for bit in bits:
         out[bit // 8] ^= 1 << bit % 8
@@ -63,7 +67,7 @@ def flipped(image, *bits):
 
 
 def reads(lebs):
-    """What `extract` writes of the volume with these LEBs."""
+    """What `extract` writes for the volume with these LEBs."""
     return b"".join(lebs.get(lnum, b"\xFF" * LEB) for lnum in range(MEANT.records[0].reserved))
 
 
@@ -73,7 +77,7 @@ def counters():
 
 
 def headers():
-    without = {lnum: text for lnum, text in LEBS.items() if lnum != 1}
+    without = {lnum: data for lnum, data in LEBS.items() if lnum != 1}
     for bit in range(512):
         yield flipped(BASE, 8 * (3 * PEB + GEOMETRY.vid) + bit), reads(without)
 
@@ -95,15 +99,15 @@ def lengths():
             yield BASE[:length], reads({lnum: LEBS[lnum] for lnum in range(there)} if there > 0 else {})
 
 
-# The faults: of each the place of a field, its bytes, and the rule that they break. Fields that other rules look at are
-# left as the image has them.
+# The faults: for each the rule that is broken, and the offsets and the bytes of the fields that break it. Other rules
+# look at other fields, which stay as they are in the image.
 EC_FAULTS = (
     ("Version", ((4, "02"),)),
     ("Offsets", ((16, "00000080"),)),
     ("Offsets", ((20, "000000C0"),)),
     ("Counter", ((8, "0000000080000000"),)),
 )
-# What can be broken of the header of any member, and what of one of the table (compat 5) or of a user's volume alone.
+# What can be broken in the header of any member.
 VID_FAULTS = (
     ("CopyFlag", ((6, "02"),)),
     ("Negative", ((8, "80000000"),)),
@@ -147,7 +151,7 @@ RECORD_FAULTS = (
 
 
 def broken(image, at, size, fields):
-    """An image whose header or record of SIZE bytes at a place has other fields and its check made right again."""
+    """An image whose header or record of SIZE bytes at a place has other fields, and the right CRC."""
     raw = bytearray(image[at : at + size])
     for where, digits in fields:
         raw[where : where + len(digits) // 2] = bytes.fromhex(digits)
@@ -162,7 +166,7 @@ def all_faults():
         yield (p, 1), ((p * PEB + GEOMETRY.vid, 64, fields),), f"refused S5 Vid block={p} {name}\n"
     for name, fields in RECORD_FAULTS:
         yield (5, 2), ((GEOMETRY.data, 172, fields),), f"refused T3 Record block=0 slot=0 {name}\n"
-    # Copy 1 is looked at where copy 0 is corrupt: here the check of its first record is wrong.
+    # Copy 1 is looked at if copy 0 is corrupt: here the CRC of its first record is wrong.
     for name, fields in RECORD_FAULTS:
         yield (5, 3), ((PEB + GEOMETRY.data, 172, fields),), f"refused T3 Record block=1 slot=0 {name}\n"
 
@@ -179,22 +183,25 @@ def faults():
 
 
 def pairs():
-    """Each two faults in different headers, and not both in the table's records."""
+    """Each pair of faults in different headers, not both of them in the table's records."""
     for (rank, places, line), (other, others, other_line) in itertools.combinations(all_faults(), 2):
         if rank[0] < 5 and rank != other:
-            yield with_fault(with_fault(BASE, rank, places), other, others), min((rank, line), (other, other_line))[1]
+            _, first_line = min((rank, line), (other, other_line))
+            yield with_fault(with_fault(BASE, rank, places), other, others), first_line
 
 
 FREE, ERASED = len(BASE) // PEB, len(BASE) // PEB + 1
 NEW = b"new" * 40 + b"page" * 2
 NUMBER = MEANT.image_seq
 # The image, a free eraseblock and an erased one. The image's eraseblocks carry the number.
-BLOCKS = [BASE[at : at + PEB] for at in range(0, len(BASE), PEB)] + [rules.put_block(GEOMETRY, rules.put_ec(GEOMETRY)), b"\xFF" * PEB]
+BLOCKS = [BASE[at : at + PEB] for at in range(0, len(BASE), PEB)]
+BLOCKS += [rules.put_block(GEOMETRY, rules.put_ec(GEOMETRY)), b"\xFF" * PEB]
 MORE = b"".join(BLOCKS)
 
 
 def carriers():
-    """Each subset of the eraseblocks with an erase-counter header, a LEB to change or None for a rename, and the answer to that."""
+    """For each subset of the eraseblocks with an erase-counter header the image and its number, a LEB to change or None
+    for a rename, and the answer."""
     for count in range(FREE + 2):
         for carry in itertools.combinations(range(FREE + 1), count):
             image = b"".join(renumbered(block, NUMBER if p in carry else 0) for p, block in enumerate(BLOCKS))
@@ -205,7 +212,7 @@ def carriers():
 
 
 def planned(carry, lnum):
-    """What is printed of a change to two pages: the free eraseblock is taken first, and then the erased one."""
+    """What is printed for a change to two pages: the free eraseblock is taken first, and then the erased one."""
     taken, old, lines = [FREE, ERASED], 2 + lnum, []
     if carry == (FREE,):
         taken.remove(FREE)
@@ -223,7 +230,8 @@ def planned(carry, lnum):
 
 
 def planned_rename(carry):
-    """What is printed of a rename, whose table has six pages: copy 0 is put to the free eraseblock, and copy 1 to the erased one."""
+    """What is printed for a rename, whose table has six pages: copy 0 is put into the free eraseblock, and copy 1 into
+    the erased one."""
     if carry == (FREE,):
         return "refused K9 NoFree\n"
     lines = []
@@ -250,15 +258,15 @@ PLAN, REPAIR, BAD_NAME = planned_rename(tuple(range(FREE))), "refused N3 NeedsRe
 def repairs():
     """Images, the number of a volume, a word for its new name, and the answer."""
     first, record = PEB + GEOMETRY.data, BASE[GEOMETRY.data : GEOMETRY.data + 172]
-    behind = GEOMETRY.data + 172 * GEOMETRY.slots
+    end = GEOMETRY.data + 172 * GEOMETRY.slots
     for copy, bit in itertools.product(range(2), range(8 * PEB)):
-        # A member whose erase-counter header is corrupt still counts, and nothing is read behind the records.
-        seen = GEOMETRY.vid <= bit // 8 < behind
+        # A member whose erase-counter header is corrupt still counts, and nothing is read after the records.
+        seen = GEOMETRY.vid <= bit // 8 < end
         yield flipped(MORE, 8 * copy * PEB + bit), 0, "data", REPAIR if seen else PLAN
     others = ((0, "00000013"),), ((12, "02"),), ((13, "01"),), ((16, "52"),), ((14, "0003"), (19, "00")), ((144, "01"),)
     for fields in (*(fields for _, fields in RECORD_FAULTS), *others):
         yield broken(MORE, first, 172, fields), 0, "data", REPAIR
-    # Behind the name, and in the padding.
+    # After the name, and in the padding.
     for start, at in itertools.product((GEOMETRY.data, first), (*range(21, 144), *range(145, 168))):
         yield broken(MORE, start, 172, ((at, "FF"),)), 0, "data", PLAN
     for records in (rules.EMPTY_RECORD * 2, record * 2, rules.EMPTY_RECORD + record):
@@ -270,12 +278,15 @@ def repairs():
 
 
 def weak():
-    """As for repairs. What is looked for are two names: the new one, and that of a second volume."""
+    """As for repairs. It computes two names: the new one, and that of a second volume."""
     def records(*names):
         return rules.put_table(GEOMETRY, {k: rules.Record(20, 1, 1, 0, name, 0) for k, name in enumerate(names)})
 
     for pages in (*itertools.combinations(range(6), 1), *itertools.combinations(range(6), 2)):
-        both = solved(random.Random(0), 254, lambda both: weakness(GEOMETRY, records(both[:127], both[127:]).ljust(384, b"\xFF"), pages))
+        def off(both, pages=pages):
+            return weakness(GEOMETRY, records(both[:127], both[127:]).ljust(384, b"\xFF"), pages)
+
+        both = solved(random.Random(0), 254, off)
         if both is not None:
             table = records(b"root", both[127:]).ljust(LEB, b"\xFF")
             image = b"".join([block[: GEOMETRY.data] + table for block in BLOCKS[:2]] + BLOCKS[2:])
@@ -298,13 +309,13 @@ def names():
             yield MORE, number, bad, BAD_NAME
 
 
-# The most bytes of a word, the eraseblocks of the image with two more, and the image with a thousand times as many.
+# The most bytes of a word, the eraseblocks of the image with two more, and an image with a thousand times as many.
 LONGEST, ALL = 131071, set(range(len(BLOCKS)))
 LONG = MORE + b"\xFF" * 999 * len(MORE)
 
 
 def lists():
-    """LISTs, those of the image's first eraseblocks that they list or None where they are wrong, and the image."""
+    """LISTs, those of the first eraseblocks of the image that they list, or None if they are wrong, and the image."""
     for word, places in itertools.chain(short_lists(), bytes_in_lists()):
         yield word, places, MORE
     for (word, places), image in itertools.product(long_lists(), (MORE, LONG)):
@@ -312,22 +323,22 @@ def lists():
 
 
 def short_lists():
-    yield from (("", set()), ("3,9,28-31", {3}), ("31-31,3,3,005,+2", {2, 3, 5}), ("4294967295", set()), ("0-4294967295", ALL), ("3-3", {3}))
-    yield from (("7", set()), ("7-4294967295", set()), ("6-4294967295", {6}), ("4294967295-4294967295", set()), ("6,5,4,3,2,1,0", ALL))
-    yield "+0-+04294967295", ALL
+    yield from (("", set()), ("3,9,28-31", {3}), ("31-31,3,3,005,+2", {2, 3, 5}), ("3-3", {3}), ("7", set()))
+    yield from (("4294967295", set()), ("0-4294967295", ALL), ("7-4294967295", set()), ("6-4294967295", {6}))
+    yield from (("4294967295-4294967295", set()), ("6,5,4,3,2,1,0", ALL), ("+0-+04294967295", ALL))
     for first, last in itertools.product(range(8), range(8)):
         yield f"{first}-{last}", ALL & set(range(first, last + 1)) if first <= last else None
         yield f"{first},{last}", ALL & {first, last}
         yield f"0{first}-{last},{last}-{first}", ALL & {first} if first == last else None
     for k in range(32):
-        # Numbers that are 3 where their high bits are lost.
+        # Numbers that are 3 if their high bits are lost.
         yield str(3 + 2**k), ALL & {3 + 2**k}
     for word in (*NO_LISTS, *(str(3 + 2**k) for k in (32, 33, 40, 63, 64, 128)), "1" * 11, "0-18446744073709551615"):
         yield word, None
 
 
 def bytes_in_lists():
-    """Each byte before, between, behind and in place of numbers; those above 0x7F aren't text by themselves."""
+    """Each byte before, between, after and in place of numbers; those above 0x7F alone aren't UTF-8."""
     for byte in range(1, 256):
         for word in (b"%c", b"%c3", b"2%c4", b"3%c", b"3,%c,5", b"1-%c"):
             word %= byte
@@ -341,15 +352,18 @@ def long_lists():
     yield from (("0" * digits + "3", {3}), ("+" + "0" * (digits - 1) + "3", {3}), ("0" * LONGEST, {0}))
     yield from (("0" * digits + "a", None), ("9" * LONGEST, None))
     zeros = "0" * (LONGEST // 2 - 2)
-    yield from ((f"{zeros}2-{zeros}4", {2, 3, 4}), (f"{zeros}4-{zeros}2", None), (f"{zeros}4294967295", set()), (f"{zeros}4294967296", None))
+    yield from ((f"{zeros}2-{zeros}4", {2, 3, 4}), (f"{zeros}4-{zeros}2", None))
+    yield from ((f"{zeros}4294967295", set()), (f"{zeros}4294967296", None))
     beyond = ",".join(map(str, range(10000, 30000)))
-    yield from ((beyond, set()), (f"{beyond},3", {3}), (f"3,{beyond}", {3}), (f"{beyond},", None), (f"{beyond},x", None), (f"{beyond},4-3", None))
+    yield from ((beyond, set()), (f"{beyond},3", {3}), (f"3,{beyond}", {3}))
+    yield from ((f"{beyond},", None), (f"{beyond},x", None), (f"{beyond},4-3", None))
     backward = ",".join(map(str, range(19999, -1, -1)))
     yield from ((backward, ALL), (f"{backward},{backward[-9000:].lstrip(',')}", ALL), (f"{backward},-1", None))
     every_second = ",".join(f"{k}-{k}" for k in range(11000, -1, -2))
     yield from ((every_second, {0, 2, 4, 6}), (f"{every_second},3-2", None))
     yield ",".join(["0-1048575"] * 13000), ALL
-    for item, places in (("2-3", {2, 3}), ("3", {3}), ("3-2", None), ("0-4294967295", ALL), ("7-1048575", set()), ("4294967295", set())):
+    items = {"2-3": {2, 3}, "3": {3}, "3-2": None, "0-4294967295": ALL, "7-1048575": set(), "4294967295": set()}
+    for item, places in items.items():
         yield ",".join([item] * ((LONGEST + 1) // (len(item) + 1))), places
     for part in (",", "-", "+", " ", "3,,", "0-"):
         yield part * ((LONGEST - 6) // len(part)), None
@@ -359,11 +373,14 @@ ENDLESS = ("/dev/zero", "/dev/full", "/dev/random")
 
 
 def devices():
-    """Words, what they read from standard input, and what they print. OUT stands for a file that mustn't be there then."""
+    """Words, what they read from standard input, and what they print. OUT stands for a file that mustn't be there
+    afterwards."""
     for path in ENDLESS:
         line = f"cannot read {path}\n"
-        of_change, of_rename = ("--id", "0", "--lnum", "0", "--from", path, "--out", "OUT"), ("--id", "0", "--name", "data", "--out", "OUT")
-        for words in (("change", path, *of_change), ("rename", path, *of_rename), ("rename", path, "--id", "0", "--name", "\\", "--out", "OUT")):
+        of_change = ("--id", "0", "--lnum", "0", "--from", path, "--out", "OUT")
+        of_rename = ("--id", "0", "--name", "data", "--out", "OUT")
+        no_name = ("rename", path, "--id", "0", "--name", "\\", "--out", "OUT")
+        for words in (("change", path, *of_change), ("rename", path, *of_rename), no_name):
             yield words, b"", ""
             yield (*words, "--blank", "keep", "--stop", "0"), b"", ""
         for words in (
@@ -381,7 +398,7 @@ def devices():
             ("change", BASE_PATH, *of_change),
             ("rename", path, *of_rename, "--bad", ""),
             ("rename", path, *of_rename, "--bad=0-4294967295"),
-            ("rename", path, "--id", "0", "--name", "\\", "--out", "OUT", "--bad="),
+            (*no_name, "--bad="),
             ("compose", path, "--out", "OUT"),
         ):
             yield words, b"", line
@@ -389,9 +406,9 @@ def devices():
     checked = "".join(rules.check_lines(MEANT))
     yield ("check", "/dev/stdin"), BASE, checked
     yield ("check", "/dev/stdin"), BASE_PATH, checked
-    told = "".join(find(BASE))
-    yield ("geometry", "/dev/stdin"), BASE, told
-    yield ("geometry", "/dev/stdin"), BASE_PATH, told
+    found = "".join(find(BASE))
+    yield ("geometry", "/dev/stdin"), BASE, found
+    yield ("geometry", "/dev/stdin"), BASE_PATH, found
     yield ("geometry", "/dev/stdin"), b"", "refused F1 NoHeader\n"
     blank = b"\xFF" * PEB
     yield ("geometry", "/dev/stdin"), Typed(blank), "refused F1 NoHeader\n"
@@ -399,7 +416,7 @@ def devices():
 
 
 class Typed:
-    """Bytes that are typed at a terminal, and then twice the key that ends what is read."""
+    """Bytes that are typed at a terminal, followed twice by the key that ends the input."""
 
     def __init__(self, keys):
         self.keyboard, self.terminal = pty.openpty()
@@ -424,7 +441,7 @@ FAMILIES = {
 
 
 class Looker:
-    """Compares the program's answers with what is expected and with what check/second/rules.py reads."""
+    """Compares the program's answers with what is expected and with check/second/rules.py."""
 
     def __init__(self, tool, folder):
         self.tool = tool
@@ -432,11 +449,13 @@ class Looker:
         self.runner, self.of_texts = (Runner(tool, folder, geometry) for geometry in (GEOMETRY, text_faults.GEOMETRY))
 
     def run(self, command, *words):
-        ran = subprocess.run([self.tool, command, self.path, *words, *GEOMETRY.words()], capture_output=True, text=True)
+        whole = [self.tool, command, self.path, *words, *GEOMETRY.words()]
+        ran = subprocess.run(whole, capture_output=True, text=True)
         return ran.stdout, ran.returncode
 
     def is_right(self, image, expected):
-        """Whether an image is refused with a line, or its volume reads some bytes; and `check` and `same` say the same."""
+        """Whether an image is refused with a line, or its volume has some contents; and `check` and `same` agree with
+        that."""
         with open(self.path, "wb") as file:
             file.write(image)
         try:
@@ -454,7 +473,8 @@ class Looker:
             return extracted == (f"bytes {len(expected)}\n", 0) and file.read() == expected
 
     def is_carried(self, image, number, lnum, expected):
-        """Whether an image means the base under a number, and a change of a LEB or a rename is answered and keeps the number."""
+        """Whether an image means the base with a number, and a change of a LEB or a rename gives what is expected and
+        keeps the number."""
         runner, found, path = self.runner, rules.Image(GEOMETRY, image), self.runner.put("carried", image)
         normal = rules.normal_image(rules.Meaning(GEOMETRY, number, MEANT.records, MEANT.contents))
         try:
@@ -468,12 +488,12 @@ class Looker:
         return found.image_seq == number and self.is_planned(found, plan, expected)
 
     def is_renamed(self, image, number, word, expected):
-        """Whether a rename of a volume is answered so, and written."""
-        found = rules.Image(GEOMETRY, image)
-        return self.is_planned(found, self.runner.rename(self.runner.put("renamed", image), found, number, word), expected, cuts=1)
+        """Whether a rename of a volume prints what is expected, and writes it."""
+        found, path = rules.Image(GEOMETRY, image), self.runner.put("renamed", image)
+        return self.is_planned(found, self.runner.rename(path, found, number, word), expected, cuts=1)
 
     def is_planned(self, found, plan, expected, cuts=99):
-        """Whether what is expected is printed of a plan, and what the rules say; and so is what is written of its last cuts."""
+        """Whether a plan prints what is expected and what the rules say, and writes its last cuts."""
         words, refusal, steps, meant = plan
         try:
             if expected.startswith("refused"):
@@ -486,7 +506,7 @@ class Looker:
         return "".join(rules.plan_lines(steps)) == expected
 
     def is_composed(self, text, spares, expected):
-        """Whether a text is refused with a line, or composed into an image whose volumes are listed so."""
+        """Whether a text is refused with a line, or composed into an image for which `list` prints some lines."""
         words = ["compose", self.of_texts.put("text", text), "--out", self.of_texts.out, "--spares", str(spares)]
         try:
             image = rules.composed(Described(self.of_texts.geometry, text), spares)
@@ -506,7 +526,8 @@ class Looker:
         return True
 
     def is_listed(self, word, places, image):
-        """Whether a LIST lists some eraseblocks of an image, or is wrong, as one word with its option and as one of its own."""
+        """Whether a LIST lists some eraseblocks of an image, or is wrong, in one word with its option and in a word of
+        its own."""
         test = rules.listed(word.decode("latin-1") if isinstance(word, bytes) else word)
         if (test is None) != (places is None) or test and {p for p in ALL if test(p)} != places:
             return False
@@ -517,7 +538,8 @@ class Looker:
         return all(self.is_answered(path, words, test, image) for words in ways)
 
     def is_answered(self, path, of_bad, test, image):
-        """Whether an image is checked and its eraseblocks are shown so, where those of a test are bad; without one, the words are wrong."""
+        """Whether `check` and `show` give the right answers for an image, if the eraseblocks of a test are bad; or if
+        there is no test, whether the words are wrong."""
         lines, shown = "", []
         if test:
             try:
@@ -530,14 +552,14 @@ class Looker:
             return False
         for p in shown:
             block = found.found.blocks[p]
-            headers = ("ec", found.found.ecs[p][0], block[:64]), ("vid", found.found.vids[p][0], block[GEOMETRY.vid : GEOMETRY.vid + 64])
-            lines = "".join(f"{word} {state} {raw.hex()}\n" for word, state, raw in headers)
+            ec, vid = block[:64].hex(), block[GEOMETRY.vid : GEOMETRY.vid + 64].hex()
+            lines = f"ec {found.found.ecs[p][0]} {ec}\nvid {found.found.vids[p][0]} {vid}\n"
             if self.answer(["show", path, "--block", str(p), *of_bad, *GEOMETRY.words()]) != (lines, 0, False):
                 return False
         return True
 
     def answer(self, words):
-        """What is printed within two seconds, with which status, and whether anything is on standard error."""
+        """What is printed within two seconds, the status, and whether anything is printed on standard error."""
         try:
             ran = subprocess.run([self.tool, *words], capture_output=True, timeout=2)
         except subprocess.TimeoutExpired:
@@ -545,7 +567,8 @@ class Looker:
         return ran.stdout.decode(), ran.returncode, bool(ran.stderr)
 
     def is_printed(self, words, given, expected):
-        """Whether words print a text, and write no file, over standard input: bytes in a pipe, a path or a terminal."""
+        """Whether words print a text, and write no file, given a standard input: bytes in a pipe, a path or a
+        terminal."""
         out = self.out + ".none"
         words = [self.tool, *sized([out if word == "OUT" else word for word in words], GEOMETRY)]
         status = 2 if not expected else 1 if expected.startswith(("cannot read ", "refused ")) else 0
@@ -561,15 +584,19 @@ class Looker:
 def main():
     words = argparse.ArgumentParser(description=__doc__, formatter_class=argparse.RawDescriptionHelpFormatter)
     words.add_argument("--dir", default="/tmp")
-    words.add_argument("--tool", help="the program; the one that ./ubi_tool starts where it is left out")
+    words.add_argument("--tool", help="the program; the one that ./ubi_tool starts by default")
     words.add_argument("families", nargs="*", metavar="FAMILY", choices=[*FAMILIES, []])
     words = words.parse_args()
     passed = failed = 0
     with tempfile.TemporaryDirectory(dir=words.dir) as folder:
         looker = Looker(built(words.tool), folder)
-        judges = {"devices": (looker.is_printed, "runs"), "texts": (looker.is_composed, "texts"), "carriers": (looker.is_carried, "plans"),
+        judges = {
+            "devices": (looker.is_printed, "runs"),
+            "texts": (looker.is_composed, "texts"),
+            "carriers": (looker.is_carried, "plans"),
             "lists": (looker.is_listed, "lists"),
-            **dict.fromkeys(("repairs", "weak", "names"), (looker.is_renamed, "renames"))}
+            **dict.fromkeys(("repairs", "weak", "names"), (looker.is_renamed, "renames")),
+        }
         for name in words.families or FAMILIES:
             judge, what = judges.get(name, (looker.is_right, "images"))
             verdicts = [judge(*case) for case in FAMILIES[name]()]

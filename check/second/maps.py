@@ -1,15 +1,18 @@
 #!/usr/bin/env python3
-"""Compares what `map` answers of random images with a second reading (rules.py), and the data of its page with what `check`, `list` and `show` answer.
+"""Compares what `map` prints for random images with a second reading (rules.py), and the data of its page with the
+answers of `check`, `list` and `show`.
 
 usage: maps.py [--seed N] [--count N] [--first N] [--dir FOLDER] [--tool PROGRAM]
 
-The images are those of fuzz.py, accepted and refused, now and then cut, with bad eraseblocks, and with names of any bytes. The rows and the exit status are
-those of docs/FORMAT.md. The page is there exactly if the image has the size of one; with its frame it has no byte that the frame of another page hasn't, and
-its data, in which there is no `<`, are read by Python's json: the lines of each eraseblock's headers are those of the second reading, and the other members
-are the objects that `check` and `list` answer.
+The images are those of fuzz.py, accepted and refused, now and then cut, with bad eraseblocks, and with names of any
+bytes. The rows and the exit status have to be those of docs/FORMAT.md. The page has to be there exactly if the image
+has the length of an image. Its frame has to be that of every other page. Its data have no `<`, and Python's json reads
+them: the lines of each eraseblock's headers are those of the second reading, and the other members are the objects that
+`check` and `list` answer.
 
-Without words there are 500 images of the seed 1. Without --tool the program is built first where it isn't yet. The last line is 'N passed, M failed', and
-the exit status is 0 where none failed; an image that failed can be made again by its number, which --first names.
+By default there are 500 images of the seed 1. Without --tool the program is built first, unless it is built already.
+The last line is 'N passed, M failed', and the exit status is 0 if none failed; an image that failed can be made again
+by giving its number to --first.
 """
 import json
 import os
@@ -18,14 +21,14 @@ import subprocess
 import rules
 from fuzz import Failure, Lister, Maker, Mutator, built, finish, options, run_cases
 
-# What stands before the data of a page, and behind them.
-BEFORE, BEHIND = '<script type="application/json" id="data">', "</script>"
+# What comes before the data of a page, and after them.
+BEFORE, AFTER = '<script type="application/json" id="data">', "</script>"
 # Eraseblocks in a row.
 ROW = 64
 
 
 def header_letter(ec, vid):
-    """The letter of an eraseblock by what its headers are, and the volume of a VID header that is valid."""
+    """The letter of an eraseblock, given what its headers are, and the volume of a valid VID header."""
     (ec, _), (vid, header) = ec, vid
     if "fault" in ec or "fault" in vid:
         return "!"
@@ -39,7 +42,7 @@ def rows(letters):
 
 
 class Case:
-    """An image in a file, and what is asked of it."""
+    """An image in a file, and what is asked about it."""
 
     frames = set()
 
@@ -59,9 +62,8 @@ class Case:
             file.write(image)
 
     def ask(self, command, *words):
-        g = self.geometry
-        sizes = ["--peb", g.peb, "--page", g.page, "--vid", g.vid, "--data", g.data, "--pebs", g.pebs]
-        run = subprocess.run([self.tool, command, self.path, *map(str, sizes), *self.bad, *words], capture_output=True, text=True)
+        whole = [self.tool, command, self.path, *self.geometry.words(), *self.bad, *words]
+        run = subprocess.run(whole, capture_output=True, text=True)
         return run.stdout, run.returncode
 
     def headers(self):
@@ -83,38 +85,39 @@ class Case:
         return rows("".join(state[0] for state in states)), 0
 
     def page_data(self):
-        """The data of the page, whose frame is that of each other page."""
+        """The data of the page, whose frame has to be that of every other page."""
         with open(self.page, encoding="ascii") as file:
             before, _, rest = file.read().partition(BEFORE)
-        data, _, behind = rest.partition(BEHIND)
-        Case.frames.add((before, behind))
+        data, _, after = rest.partition(AFTER)
+        Case.frames.add((before, after))
         if "<" in data or len(Case.frames) > 1:
             raise Failure("the page has a `<` in its data, or another frame")
         return json.loads(data)
 
     def check_page(self, text, status):
-        told = self.page_data()
-        lines = ["".join(f"{name} {state} {raw.hex()}\n" for name, ((state, _), raw) in zip(("ec", "vid"), block)) for block in self.headers()]
+        data = self.page_data()
+        blocks = (zip(("ec", "vid"), block) for block in self.headers())
+        lines = ["".join(f"{name} {state} {raw.hex()}\n" for name, ((state, _), raw) in block) for block in blocks]
         letters = "".join(row[8:] for row in text.splitlines() if not row.startswith("refused "))
         want = {"blocks": lines, "states": letters}
         check, listed = (json.loads(self.ask(command, "--format", "json")[0]) for command in ("check", "list"))
         if status:
-            want |= {"geometry": told.get("geometry"), "refusal": check}
-            if told.get("geometry", {}).get("peb") != self.geometry.peb:
-                raise Failure(f"the page has the sizes {told.get('geometry')}")
+            want |= {"geometry": data.get("geometry"), "refusal": check}
+            if data.get("geometry", {}).get("peb") != self.geometry.peb:
+                raise Failure(f"the page has the sizes {data.get('geometry')}")
         else:
             want |= {"check": check, "list": listed}
-        if told != want:
-            raise Failure(f"the page tells {told}, and not {want}")
+        if data != want:
+            raise Failure(f"the page has the data {data}, and not {want}")
 
     def look(self):
-        """Compares the answers. Gives whether the image is accepted."""
+        """Compares the answers. Returns whether the image is accepted."""
         want = self.expected()
         if self.ask("map") != want or self.ask("map", "--out", self.page) != want:
             raise Failure(f"printed {self.ask('map')}, and not {want}")
         has_page = os.path.exists(self.page)
         if has_page != want[0].startswith(" "):
-            raise Failure(f"a page is {'' if has_page else 'not '}there where {want} is printed")
+            raise Failure(f"{'a' if has_page else 'no'} page was written, and {want} printed")
         if has_page:
             self.check_page(*want)
             os.remove(self.page)

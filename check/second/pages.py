@@ -3,12 +3,15 @@
 
 usage: pages.py [--tool PROGRAM] [--picture FILE]
 
-`apt-get install chromium` gets the browser. The pages are of an image that is accepted, of one that is refused, of one with 65,536 eraseblocks, of 8,192, and of names of
-any bytes, among them some that would end a script. A script that is put behind each page clicks eraseblocks, presses the arrow keys and the buttons, and notes what
-is shown. Each has to be drawn, of the size that its rows need; a click shows the headers that the data have of that eraseblock; an image that is refused shows its
-cause and the eraseblock at fault; nothing is thrown, and nothing is asked of any network or file. 8,192 eraseblocks are drawn in half a second.
+`apt-get install chromium` installs the browser. The pages are those of an accepted image, of a refused one, of images
+with 65,536 and 8,192 eraseblocks, and of one with hostile names, among them one that would end a script. A script that
+is added at the end of each page clicks eraseblocks, presses the arrow keys and the buttons, and notes what is shown.
+Each page has to be drawn, in the size that its rows need; a click has to show the headers that the data have for that
+eraseblock; a refused image has to show its cause and the eraseblock at fault; nothing may be thrown, and nothing may be
+asked of any network or file. 8,192 eraseblocks have to be drawn in half a second.
 
-With --picture one page is drawn into a file. The last line is 'N passed, M failed', and the exit status is 0 where none failed.
+With --picture one page is drawn into a file. The last line is 'N passed, M failed', and the exit status is 0 if none
+failed.
 """
 import argparse
 import json
@@ -24,14 +27,19 @@ import rules
 from fuzz import built
 from rules import Geometry, Record
 
-BROWSER = ["chromium", "--headless", "--no-sandbox", "--disable-gpu", "--hide-scrollbars", "--virtual-time-budget=60000"]
+BROWSER = [
+    "chromium", "--headless", "--no-sandbox", "--disable-gpu", "--hide-scrollbars", "--virtual-time-budget=60000",
+]
 # What is noted: errors from the beginning on, and then what a user sees.
 WATCH = '<script>window.thrown = []; window.onerror = (message) => { window.thrown.push(message); };</script>'
 TRY = """<script>
 (() => {
   const grid = document.getElementById("grid"), place = grid.getBoundingClientRect(), noted = { clicked: {} };
   noted.first = document.getElementById("headers").textContent;
-  const middle = (p) => ({ clientX: place.left + (p % columns + 0.5) * cell, clientY: place.top + (Math.floor(p / columns) + 0.5) * cell });
+  const middle = (p) => ({
+    clientX: place.left + (p % columns + 0.5) * cell,
+    clientY: place.top + (Math.floor(p / columns) + 0.5) * cell,
+  });
   for (const p of WANTED) {
     grid.dispatchEvent(new MouseEvent("click", middle(p)));
     noted.clicked[p] = [document.getElementById("which").textContent, document.getElementById("headers").textContent];
@@ -61,7 +69,7 @@ TRY = """<script>
 
 
 def filler(geometry, rng, records, sqnum):
-    """An eraseblock that holds nothing of a volume's contents: mostly a free one, or one that is older than others."""
+    """An eraseblock that holds no contents of a volume: mostly a free one, or one that is older than others."""
     kind, ec = rng.random(), rules.put_ec(geometry, rng.randrange(400))
     if kind < 0.6:
         return rules.put_block(geometry, ec)
@@ -75,16 +83,18 @@ def filler(geometry, rng, records, sqnum):
 
 
 def image(geometry, records, count, rng):
-    """An image with these volumes, each of whose LEBs is mapped, worn, in any order, and with others to that count."""
+    """An image with these volumes, whose LEBs are all mapped, with wear, in any order, and with others up to that
+    count."""
     blocks = []
     table = rules.put_table(geometry, records)
     for copy in range(2):
-        vid = rules.Vid(1, 0, 5, rules.LAYOUT, copy, 0, 0, 0, 0, copy + 1)
-        blocks.append(rules.put_block(geometry, rules.put_ec(geometry, rng.randrange(400)), rules.put_vid(vid), table))
+        vid = rules.put_vid(rules.Vid(1, 0, 5, rules.LAYOUT, copy, 0, 0, 0, 0, copy + 1))
+        blocks.append(rules.put_block(geometry, rules.put_ec(geometry, rng.randrange(400)), vid, table))
     for number, record in records.items():
         for lnum in range(record.reserved):
-            vid = rules.Vid(1, 0, 0, number, lnum, 0, 0, 0, 0, count + len(blocks))
-            blocks.append(rules.put_block(geometry, rules.put_ec(geometry, rng.randrange(400)), rules.put_vid(vid), rng.randbytes(16)))
+            vid = rules.put_vid(rules.Vid(1, 0, 0, number, lnum, 0, 0, 0, 0, count + len(blocks)))
+            ec = rules.put_ec(geometry, rng.randrange(400))
+            blocks.append(rules.put_block(geometry, ec, vid, rng.randbytes(16)))
     while len(blocks) < count:
         blocks.append(filler(geometry, rng, records, len(blocks)))
     rng.shuffle(blocks)
@@ -94,7 +104,10 @@ def image(geometry, records, count, rng):
 def cases():
     """The name of each page, its image, and whether it is refused."""
     rng, small = random.Random(1), Geometry(512, 64, 64, 128, 70000)
-    of = lambda reserved, *names: {k: Record(reserved, 1, 1, 0, name, 0) for k, name in enumerate(names)}
+
+    def of(reserved, *names):
+        return {k: Record(reserved, 1, 1, 0, name, 0) for k, name in enumerate(names)}
+
     geometry = Geometry(2048, 512, 512, 1024, 4096)
     accepted = image(geometry, of(120, b"kernel", b"rootfs", b"data"), 500, rng)
     yield "accepted", geometry, accepted, False
@@ -110,38 +123,43 @@ def cases():
 
 
 def tried(folder, name, page, wanted):
-    """What is noted of a page in the browser, and how many lines its console has."""
-    path = f"{folder}/{name}.html"
+    """What is noted about a page in the browser, and how many lines its console has."""
+    path, script = f"{folder}/{name}.html", TRY.replace("WANTED", json.dumps(wanted))
     with open(path, "w", encoding="ascii") as file:
-        file.write(page.replace("<head>", "<head>" + WATCH, 1).replace("</body>", TRY.replace("WANTED", json.dumps(wanted)) + "</body>", 1))
-    run = subprocess.run([*BROWSER, "--enable-logging=stderr", "--dump-dom", f"file://{path}"], capture_output=True, text=True, timeout=300)
+        file.write(page.replace("<head>", "<head>" + WATCH, 1).replace("</body>", script + "</body>", 1))
+    command = [*BROWSER, "--enable-logging=stderr", "--dump-dom", f"file://{path}"]
+    run = subprocess.run(command, capture_output=True, text=True, timeout=300)
     noted = re.search(r'<pre id="noted">(.*?)</pre>', run.stdout, re.S)
     text = noted[1].replace("&lt;", "<").replace("&gt;", ">").replace("&amp;", "&") if noted else "null"
     return json.loads(text), run.stderr.count("CONSOLE")
 
 
 def faults(name, blocks, data, noted, console, wanted, is_refused):
-    """What is wrong of a page."""
+    """What is wrong with a page."""
     if noted is None:
         return ["it isn't drawn"]
-    rows = noted["size"]
+    columns, rows = noted["size"]
+    is_whole = columns * rows >= len(blocks) > columns * (rows - 1)
+    says_refused = noted["verdict"].startswith("Refused: ")
     wrong = [
-        ("it isn't drawn whole", noted["drawn"] == "yes" and noted["inked"] and rows[0] * rows[1] >= len(blocks) > rows[0] * (rows[1] - 1)),
+        ("it isn't drawn whole", noted["drawn"] == "yes" and noted["inked"] and is_whole),
         (f"it throws {noted['thrown']}", not noted["thrown"] and console == 0),
         (f"it asks for {noted['asked']}", not noted["asked"]),
         (f"the key shows {noted['key']}", noted["key"] == f"Eraseblock {max(wanted[-1] - 1, 0)}"),
         ("a legend is empty", all(noted["legends"]) and len(noted["legends"]) == 3),
-        (f"it says {noted['verdict']}", noted["verdict"].startswith("Refused: ") == is_refused and ("refusal" in data) == is_refused),
+        (f"it says {noted['verdict']}", says_refused == is_refused and ("refusal" in data) == is_refused),
     ]
     for p in wanted:
         which, shown = noted["clicked"][str(p)]
         ec, vid = (line.split(" ") for line in data["blocks"][p].splitlines())
         digits = [words[2] for words in (ec, vid) if words[1] != "blank"]
         states = [f"erase counter header: {ec[1]}", f"volume identifier header: {vid[1]}"]
-        wrong.append((f"a click on {p} shows {which}: {shown}", which == f"Eraseblock {p}" and all(text in shown for text in digits + states)))
+        is_right = which == f"Eraseblock {p}" and all(text in shown for text in digits + states)
+        wrong.append((f"a click on {p} shows {which}: {shown}", is_right))
     if is_refused:
         cause = data["refusal"]["refused"]
-        wrong.append((f"the eraseblock at fault isn't shown first, but {noted['first']}", "the image is refused because of this eraseblock" in noted["first"]))
+        is_first = "the image is refused because of this eraseblock" in noted["first"]
+        wrong.append((f"the eraseblock at fault isn't shown first, but {noted['first']}", is_first))
         wrong.append((f"it says {noted['verdict']}", all(str(value) in noted["verdict"] for value in cause.values())))
     else:
         names = [volume["name"] for volume in data["list"]["volumes"]]
@@ -162,8 +180,7 @@ def main():
             path, page = f"{folder}/image", f"{folder}/page.html"
             with open(path, "wb") as file:
                 file.write(b"".join(blocks))
-            sizes = ["--peb", g.peb, "--page", g.page, "--vid", g.vid, "--data", g.data, "--pebs", g.pebs]
-            subprocess.run([tool, "map", path, *map(str, sizes), "--out", page], stdout=subprocess.DEVNULL)
+            subprocess.run([tool, "map", path, *g.words(), "--out", page], stdout=subprocess.DEVNULL)
             with open(page, encoding="ascii") as file:
                 text = file.read()
             data = json.loads(re.search(r'id="data">(.*?)</script>', text, re.S)[1])
@@ -179,7 +196,8 @@ def main():
                 with open(page, "w", encoding="ascii") as file:
                     file.write(text.replace("</body>", "<script>choose(12);</script></body>", 1))
                 picture = f"--screenshot={os.path.abspath(words.picture)}"
-                subprocess.run([*BROWSER, "--window-size=1240,660", picture, f"file://{page}"], stderr=subprocess.DEVNULL)
+                command = [*BROWSER, "--window-size=1240,660", picture, f"file://{page}"]
+                subprocess.run(command, stderr=subprocess.DEVNULL)
     print(f"{passed} passed, {failed} failed")
     sys.exit(1 if failed else 0)
 

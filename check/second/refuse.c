@@ -1,5 +1,5 @@
-/* What stands before the C library's malloc and realloc in refuse.sh and starve.py: one growth is refused, which the
- * environment variable REFUSE_AT counts from 1, and said so on standard error. */
+/* Wraps the C library's malloc and realloc for refuse.sh and starve.py: refuses one allocation, which the environment
+ * variable REFUSE_AT counts from 1, and says so on standard error. */
 #define _GNU_SOURCE
 #include <dlfcn.h>
 #include <stdlib.h>
@@ -7,11 +7,12 @@
 
 static long count;
 
-/* Whether this growth is the one to refuse. */
+/* Whether this allocation is the one to refuse. */
 static int is_refused(void) {
     const char *at = getenv("REFUSE_AT");
     if (!at || ++count != atol(at)) return 0;
-    (void)!write(2, "refused a growth\n", 17);
+    static const char said[] = "refused an allocation\n";
+    (void)!write(2, said, sizeof said - 1);
     return 1;
 }
 

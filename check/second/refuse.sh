@@ -1,16 +1,16 @@
 #!/bin/sh
-# Refuses each growth of memory in turn: of the scan, of detecting a geometry, of reading a table and renaming a volume of it,
-# of attaching and reading, of planning a rename and a change, of reading a config and the composer's text, of building an image, and of the
-# commands over bytes and by their words.
+# Refuses each allocation in turn: when scanning, detecting a geometry, reading a table and renaming a volume in it,
+# attaching and reading, planning a rename and a change, reading a config and the composer's text, building an image,
+# and running the commands on bytes and by their words.
 #
 # usage: check/second/refuse.sh [CRATE TEST]
 #
-# Runs a test again and again: of the first run the first growth is refused, of the second the second, and so on until a run
-# meets no refusal. Without words these are the tests of the list below, in the programs that `rt test` leaves in the
-# crates' folders out/ (each is built first where it isn't there). Each run has to pass, and each run that meets a refusal
-# has to print the line by which the test says that memory ran out; the last one mustn't print it.
+# Runs a test again and again: the first run has its first allocation refused, the second its second, and so on until a
+# run meets no refusal. By default the tests are those of the list below, in the programs that `rt test` leaves in the
+# crates' folders out/ (each is built first if it isn't there). Each run has to pass, and each run that meets a refusal
+# has to print the line with which the test reports that memory ran out; the last one mustn't print it.
 #
-# It needs a C compiler (cc, or what CC names), for a few lines that stand before the C library's malloc and realloc.
+# It needs a C compiler (cc, or what CC names), for a few lines that wrap the C library's malloc and realloc.
 set -u
 root=$(CDPATH='' cd -- "$(dirname -- "$0")/../.." && pwd) || exit 1
 room=$(mktemp -d) || exit 1
@@ -18,7 +18,7 @@ trap 'rm -rf "$room"' EXIT
 
 ${CC:-cc} -O1 -shared -fPIC -o "$room/refuse.so" "$root/check/second/refuse.c" -ldl || exit 1
 
-# Refuses each growth of a test in turn, and counts the runs that went wrong.
+# Refuses each allocation of a test in turn, and counts the runs that went wrong.
 refuse_each() {
     crate=$root/crates/$1
     program=$crate/out/$1_tests
@@ -30,9 +30,9 @@ refuse_each() {
         status=$?
         answered=0
         grep -q 'out of memory' "$room/out" && answered=1
-        grep -q 'refused a growth' "$room/err" || break
+        grep -q 'refused an allocation' "$room/err" || break
         if [ $status != 0 ] || [ $answered = 0 ]; then
-            echo "$1 $2, growth $at: status $status, $(tail -n 1 "$room/out")"
+            echo "$1 $2, allocation $at: status $status, $(tail -n 1 "$room/out")"
             failed=$((failed + 1))
         fi
         at=$((at + 1))
@@ -41,7 +41,7 @@ refuse_each() {
         echo "$1 $2, with ample memory: status $status, $(tail -n 1 "$room/out")"
         failed=$((failed + 1))
     fi
-    echo "$1 $2: $((at - 1)) growths refused, $failed of the runs wrong"
+    echo "$1 $2: $((at - 1)) allocations refused, $failed of the runs wrong"
     [ $failed = 0 ] && [ $at -gt 1 ]
 }
 

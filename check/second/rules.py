@@ -1,9 +1,10 @@
-"""A second reading of docs/FORMAT.md: what an image means, or why it is refused, also where some of its eraseblocks are bad, and the
-plans of a change and of a rename with their pages. The geometries of a file of which nothing is known are those of geometry.py.
+"""A second reading of docs/FORMAT.md: what an image means, or why it is refused, also if some of its eraseblocks are
+bad, and the plans of a change and of a rename with their pages. geometry.py finds the geometries of a file that nothing
+is known about.
 
 It was written from that document and not from the program, so that the answers of the program can be compared with it.
-It is short and slow: each rule stands once, in the document's words. A refusal is the exception `Refused`, which holds the
-line that the program prints, without `refused `.
+It is short and slow: it says each rule once, in the document's words. A refusal is the exception `Refused`, which holds
+the line that the program prints, without `refused `.
 """
 import bisect
 import copy
@@ -20,13 +21,14 @@ class Refused(Exception):
     """Why an image, a volume or a change is refused."""
 
 
-def check(message):
-    """The format's check: the usual CRC-32, but not complemented at the end."""
+def crc(message):
+    """The CRC of the format: the usual CRC-32, without the complement at the end."""
     return zlib.crc32(message) ^ 0xFFFFFFFF
 
 
 def sealed(front):
-    return front + struct.pack(">I", check(front))
+    """Bytes with their CRC after them."""
+    return front + struct.pack(">I", crc(front))
 
 
 def is_blank(data):
@@ -38,7 +40,8 @@ EMPTY_RECORD = sealed(bytes(168))
 
 @dataclasses.dataclass(frozen=True)
 class Geometry:
-    """The sizes of a device: bytes of an eraseblock and a page, where the header and the data lie, eraseblocks."""
+    """The sizes of a device: bytes of an eraseblock and of a page, offsets of the VID header and the data,
+    eraseblocks."""
 
     peb: int
     page: int
@@ -67,9 +70,8 @@ class Geometry:
         return next((name for name, holds in limits if not holds), None)
 
     def words(self):
-        """The words that name it on the command line."""
-        pairs = (("--peb", self.peb), ("--page", self.page), ("--vid", self.vid), ("--data", self.data), ("--pebs", self.pebs))
-        return [str(word) for pair in pairs for word in pair]
+        """The words that give it on the command line."""
+        return [str(word) for name, number in dataclasses.asdict(self).items() for word in (f"--{name}", number)]
 
 
 # The eraseblocks that are listed as bad.
@@ -80,7 +82,7 @@ ITEM = re.compile(f"{NUMBER}(?:-{NUMBER})?")
 
 
 def listed(word):
-    """The test whether a LIST lists an eraseblock; None where the word is wrong."""
+    """A function that says whether a LIST lists an eraseblock; None if the LIST is wrong."""
     ranges = set()
     for item in word.split(",") if word else ():
         numbers = ITEM.fullmatch(item)
@@ -101,7 +103,7 @@ def listed(word):
 
 
 def apart(ranges):
-    """Ranges with the same numbers, of which no two have one in common, by rising number."""
+    """Disjoint ranges with the same numbers, by rising number."""
     out = []
     for first, last in sorted(ranges):
         if out and first <= out[-1][1]:
@@ -115,19 +117,20 @@ def none_listed(p):
 
 
 def masked(geometry, image, is_bad):
-    """What is read of an image: each byte of an eraseblock that is listed as 0xFF, and every other as it is."""
+    """What is read of an image: 0xFF for each byte of an eraseblock that is listed as bad, and the other bytes as they
+    are."""
     places = range(0, len(image), geometry.peb)
     blocks = [image[at : at + geometry.peb] for at in places]
     return b"".join(b"\xFF" * len(block) if is_bad(p) else block for p, block in enumerate(blocks))
 
 
-# What is read of 64 bytes: 'blank', 'corrupt', 'valid' or 'fault:NAME', and the fields of a header that is valid.
+# What 64 bytes are: 'blank', 'corrupt', 'valid' or 'fault:NAME', and the fields of a valid header.
 
 
 def read_header(bytes64, magic, rules):
     if bytes64[:4] != magic:
         return ("blank" if is_blank(bytes64) else "corrupt"), None
-    if struct.unpack(">I", bytes64[60:])[0] != check(bytes64[:60]):
+    if struct.unpack(">I", bytes64[60:])[0] != crc(bytes64[:60]):
         return "corrupt", None
     header, broken = rules(bytes64)
     return ("valid" if broken is None else f"fault:{broken}"), header
@@ -161,7 +164,7 @@ class Vid:
     size: int
     used: int
     pad: int
-    data_check: int
+    data_crc: int
     sqnum: int
 
 
@@ -180,15 +183,14 @@ def vid_fault(geometry, h):
             and (not is_static or h.lnum + 1 >= h.used or h.size == usable)),
         ("UsedEbs", (h.used != 0) == is_static),
         ("Lnum", not is_static or h.lnum < h.used),
-        ("CopyFields", is_static or (h.size != 0 if h.copy else h.size == h.data_check == 0)),
+        ("CopyFields", is_static or (h.size != 0 if h.copy else h.size == h.data_crc == 0)),
     )
     return next((name for name, holds in rules if not holds), None)
 
 
 def read_vid(geometry, bytes64):
     def rules(raw):
-        kind, copy, compat, volume, lnum, size, used, pad, data_check, sqnum = struct.unpack(">4xxBBBII4xIIII4xQ12x4x", raw)
-        header = Vid(kind, copy, compat, volume, lnum, size, used, pad, data_check, sqnum)
+        header = Vid(*struct.unpack(">4xxBBBII4xIIII4xQ12x4x", raw))
         return header, vid_fault(geometry, header)
 
     return read_header(bytes64, b"UBI!", rules)
@@ -213,8 +215,8 @@ class Record:
 
 
 def read_record(geometry, raw):
-    """The record, None where it is the empty one, or the name of the first rule that it breaks."""
-    if struct.unpack(">I", raw[168:])[0] != check(raw[:168]):
+    """The record, None if it is the empty one, or the name of the first rule that it breaks."""
+    if struct.unpack(">I", raw[168:])[0] != crc(raw[:168]):
         return "BadCrc"
     if raw == EMPTY_RECORD:
         return None
@@ -237,7 +239,7 @@ def read_record(geometry, raw):
 
 
 class Blocks:
-    """The eraseblocks of an image, the headers of each, and its members."""
+    """The eraseblocks of an image, the headers of each, and the members of volumes."""
 
     def __init__(self, geometry, image):
         self.geometry = geometry
@@ -257,7 +259,7 @@ class Blocks:
             self.judge(p, seen)
 
     def judge(self, p, seen):
-        """The first cause of an eraseblock, or what it is a member of."""
+        """Raises the first cause for which an eraseblock is refused, or notes which LEB it is a member of."""
         (ec_state, ec), (vid_state, vid) = self.ecs[p], self.vids[p]
         if ec_state.startswith("fault"):
             raise Refused(f"S3 Ec block={p} {ec_state[6:]}")
@@ -288,9 +290,9 @@ class Blocks:
         return self.blocks[p][self.geometry.data :]
 
     def is_right(self, p):
-        """Whether the check of the first data_size bytes of an eraseblock's LEB is its data_crc."""
+        """Whether the CRC of the first data_size bytes of an eraseblock's LEB is its data_crc."""
         header = self.members[p]
-        return check(self.leb(p)[: header.size]) == header.data_check
+        return crc(self.leb(p)[: header.size]) == header.data_crc
 
     def winners(self):
         """The eraseblock of each LEB that has members."""
@@ -326,7 +328,7 @@ def read_table(blocks, winners):
 
 
 def read_copy(blocks, winners, copy):
-    """The records of a copy of the table, None where it isn't there or is corrupt."""
+    """The records of a copy of the table; None if the copy isn't there or is corrupt."""
     if (LAYOUT, copy) not in winners:
         return None
     records, geometry, p = {}, blocks.geometry, winners[(LAYOUT, copy)]
@@ -351,16 +353,16 @@ def is_counted(record, lnum):
 
 
 class Meaning:
-    """What is composed, and what an accepted image means: its number, the records of volumes, and what each volume reads.
+    """What is composed, and what an accepted image means: its number, the records of volumes, and the contents of each.
 
-    A content is 'updating', 'damaged', the bytes of a static volume, or the LEBs of a dynamic one that aren't blank.
+    Contents are 'updating', 'damaged', the bytes of a static volume, or the LEBs of a dynamic one that aren't blank.
     """
 
     def __init__(self, geometry, image_seq, records, contents):
         self.geometry, self.image_seq, self.records, self.contents = geometry, image_seq, records, contents
 
     def meaning(self):
-        """What is compared: the number, the records but for what no field says, and the contents."""
+        """What is compared: the number, the fields of the records, and the contents."""
         return self.image_seq, self.records, self.contents
 
     def read_volume(self, number):
@@ -378,9 +380,10 @@ class Meaning:
 
 
 class Image(Meaning):
-    """An accepted image, of whose eraseblocks some may be listed as bad: what it means, and what is said of its eraseblocks.
+    """An accepted image, some of whose eraseblocks may be listed as bad: what it means, and the states of its
+    eraseblocks.
 
-    Of a plan it says whether blank eraseblocks are kept.
+    It also says whether plans keep blank eraseblocks.
     """
 
     keeps_blank = False
@@ -393,13 +396,13 @@ class Image(Meaning):
         self.check_winners()
         self.contents |= {number: self.content(number, record) for number, record in self.records.items()}
         self.states = [self.state(p) for p in range(len(self.found.blocks))]
-        sqnums = [h.sqnum for p, (_, h) in enumerate(self.found.vids) if p in self.found.members or p in self.found.dropped]
-        self.top_sqnum = max(sqnums, default=0)
+        counted = self.found.members.keys() | self.found.dropped
+        self.top_sqnum = max((self.found.vids[p][1].sqnum for p in counted), default=0)
         counters = [ec.counter for state, ec in self.found.ecs if state == "valid"]
         self.mean_counter = sum(counters) // len(counters) if counters else 0
 
     def keeping_blank(self):
-        """The same image, of which a plan takes no eraseblock that is blank."""
+        """The same image, whose plans take no blank eraseblock."""
         other = copy.copy(self)
         other.keeps_blank = True
         return other
@@ -416,15 +419,17 @@ class Image(Meaning):
     def content(self, number, record):
         if record.marker:
             return "updating"
-        mapped = {lnum: p for (volume, lnum), p in self.winners.items() if volume == number and is_counted(record, lnum)}
+        found = self.found
+        lebs = {lnum: p for (volume, lnum), p in self.winners.items() if volume == number}
+        mapped = {lnum: p for lnum, p in lebs.items() if is_counted(record, lnum)}
         if record.kind == 1:
-            read = {lnum: self.found.leb(p)[: record.usable(self.geometry)] for lnum, p in mapped.items()}
-            return {lnum: text for lnum, text in read.items() if not is_blank(text)}
+            read = {lnum: found.leb(p)[: record.usable(self.geometry)] for lnum, p in mapped.items()}
+            return {lnum: data for lnum, data in read.items() if not is_blank(data)}
         for lnum, p in mapped.items():
             whole = len(mapped) <= record.reserved and lnum < len(mapped)
-            if not whole or self.found.members[p].used != len(mapped) or not self.found.is_right(p):
+            if not whole or found.members[p].used != len(mapped) or not found.is_right(p):
                 return "damaged"
-        return b"".join(self.found.leb(mapped[lnum])[: self.found.members[mapped[lnum]].size] for lnum in sorted(mapped))
+        return b"".join(found.leb(p)[: found.members[p].size] for _, p in sorted(mapped.items()))
 
     def state(self, p):
         ec, vid = self.found.ecs[p][0], self.found.vids[p][0]
@@ -449,7 +454,7 @@ def shown(name):
 
 
 def in_quotes(value):
-    """A value of a config, in the quote that it has not."""
+    """A value of a config, in the quotes that it doesn't contain."""
     quote = b"'" if b'"' in value else b'"'
     return quote + value + quote
 
@@ -467,7 +472,7 @@ def folder_file(number, record):
 
 
 def left_out(meaning, number):
-    """Why no config describes a volume; None where one does."""
+    """Why no config describes a volume; None if one does."""
     record = meaning.records[number]
     growing = [r for r in meaning.records.values() if r.flags == 1]
     if meaning.contents[number] == "updating":
@@ -486,17 +491,24 @@ def left_out(meaning, number):
 def folder_config(meaning):
     """The config that is written beside the files of unpacked volumes."""
     g = meaning.geometry
-    lines = [f"# ubi_tool build ubi.ini --out IMAGE --peb {g.peb} --page {g.page} --vid {g.vid} --data {g.data} --pebs {g.pebs} "
-        f"--seq {meaning.image_seq}".encode()]
+    lines = [f"# ubi_tool build ubi.ini --out IMAGE {' '.join(g.words())} --seq {meaning.image_seq}".encode()]
     for number, record in sorted(meaning.records.items()):
         why, flag = left_out(meaning, number), {1: b"autoresize", 2: b"skip-check"}.get(record.flags)
         if why:
             lines += [b"", f"# volume {number} is left out: {why}".encode()]
             continue
-        keys = {"mode": b"ubi", "vol_id": b"%d" % number, "vol_type": {1: b"dynamic", 2: b"static"}[record.kind],
-            "vol_name": in_quotes(record.name), "vol_size": b"%d" % (record.reserved * record.usable(g)), "vol_alignment": b"%d" % record.alignment,
-            "image": in_quotes(folder_file(number, record).encode()), "vol_flags": flag}
-        lines += [b"", b"[volume-%d]" % number, *(f"{key}=".encode() + value for key, value in keys.items() if value is not None)]
+        keys = {
+            "mode": b"ubi",
+            "vol_id": b"%d" % number,
+            "vol_type": {1: b"dynamic", 2: b"static"}[record.kind],
+            "vol_name": in_quotes(record.name),
+            "vol_size": b"%d" % (record.reserved * record.usable(g)),
+            "vol_alignment": b"%d" % record.alignment,
+            "image": in_quotes(folder_file(number, record).encode()),
+            "vol_flags": flag,
+        }
+        lines += [b"", b"[volume-%d]" % number]
+        lines += [f"{key}=".encode() + value for key, value in keys.items() if value is not None]
     return b"".join(line + b"\n" for line in lines)
 
 
@@ -505,7 +517,7 @@ def list_lines(meaning):
     yield f"geometry peb={g.peb} page={g.page} vid={g.vid} data={g.data} leb={g.leb} slots={g.slots} pebs={g.pebs}\n"
     for number, r in sorted(meaning.records.items()):
         content = meaning.contents[number]
-        how = content if isinstance(content, str) else f"bytes={len(content)}" if r.kind == 2 else f"lebs={len(content)}"
+        how = content if isinstance(content, str) else f"{'bytes' if r.kind == 2 else 'lebs'}={len(content)}"
         kind = {1: "dynamic", 2: "static"}[r.kind]
         sizes = f"reserved={r.reserved} alignment={r.alignment} usable={r.usable(g)} flags={r.flags:02x}"
         yield f"volume {number} {kind} {sizes} {how} name={shown(r.name)}\n"
@@ -522,13 +534,23 @@ def check_lines(image):
 # Writing: headers and records as an image holds them, and the normal image of a meaning.
 
 
+def counter_header(counter, vid, data, image_seq=0):
+    return sealed(struct.pack(">4sB3xQIII32x", b"UBI#", 1, counter, vid, data, image_seq))
+
+
 def put_ec(geometry, counter=0, image_seq=0):
-    return sealed(struct.pack(">4sB3xQIII32x", b"UBI#", 1, counter, geometry.vid, geometry.data, image_seq))
+    return counter_header(counter, geometry.vid, geometry.data, image_seq)
 
 
 def put_vid(h):
-    fields = (h.kind, h.copy, h.compat, h.volume, h.lnum, h.size, h.used, h.pad, h.data_check, h.sqnum)
+    fields = (h.kind, h.copy, h.compat, h.volume, h.lnum, h.size, h.used, h.pad, h.data_crc, h.sqnum)
     return sealed(struct.pack(">4sBBBBII4xIIII4xQ12x", b"UBI!", 1, *fields))
+
+
+def dynamic_header(volume, lnum, sqnum, copied=b"", compat=0):
+    """The header of a LEB of a dynamic volume or of the table; with copied bytes that of their copy."""
+    data_crc = crc(copied) if copied else 0
+    return put_vid(Vid(1, int(bool(copied)), compat, volume, lnum, len(copied), 0, 0, data_crc, sqnum))
 
 
 def put_record(geometry, r):
@@ -537,13 +559,14 @@ def put_record(geometry, r):
 
 
 def put_block(geometry, ec, vid=b"", data=b""):
-    """An eraseblock of two headers and data, all else blank."""
+    """An eraseblock with two headers and data, and otherwise blank."""
     front = (ec.ljust(geometry.vid, b"\xFF") + vid).ljust(geometry.data, b"\xFF")
     return (front + data).ljust(geometry.peb, b"\xFF")
 
 
 def put_table(geometry, records):
-    return b"".join(put_record(geometry, records[slot]) if slot in records else EMPTY_RECORD for slot in range(geometry.slots))
+    written = {slot: put_record(geometry, record) for slot, record in records.items()}
+    return b"".join(written.get(slot, EMPTY_RECORD) for slot in range(geometry.slots))
 
 
 def volume_blocks(geometry, number, record, content):
@@ -554,12 +577,12 @@ def volume_blocks(geometry, number, record, content):
     if content == "damaged":
         yield Vid(2, 0, 0, number, 0, 1, 1, pad, 0, 0), b""
     elif record.kind == 1:
-        for lnum, text in sorted(content.items()):
-            yield Vid(1, 0, 0, number, lnum, 0, 0, pad, 0, 0), text
+        for lnum, data in sorted(content.items()):
+            yield Vid(1, 0, 0, number, lnum, 0, 0, pad, 0, 0), data
     else:
         shares = [content[at : at + usable] for at in range(0, len(content), usable)]
         for lnum, share in enumerate(shares):
-            yield Vid(2, 0, 0, number, lnum, len(share), len(shares), pad, check(share), 0), share
+            yield Vid(2, 0, 0, number, lnum, len(share), len(shares), pad, crc(share), 0), share
 
 
 def normal_image(meaning):
@@ -573,19 +596,20 @@ def normal_image(meaning):
 
 
 def composed(meaning, spares):
-    """The normal image, and spare eraseblocks behind it."""
+    """The normal image, and spare eraseblocks after it."""
     geometry, normal = meaning.geometry, normal_image(meaning)
     if len(normal) // geometry.peb + spares > geometry.pebs:
         raise Refused("C1 TooMany")
     return normal + spares * put_block(geometry, put_ec(geometry, image_seq=meaning.image_seq))
 
 
-# The plans of a change and of a rename. A step is ('erase', p) or ('program', p, page, bytes). K10 isn't among the causes, since an
-# eraseblock that is listed reads 0xFF here.
+# The plans of a change and of a rename. A step is ('erase', p) or ('program', p, page, bytes). K10 isn't among the
+# causes, since a listed eraseblock reads as 0xFF here.
 
 
 def stays(image, p, front):
-    """Whether an eraseblock with these bytes 0 to 63 can't count another erase, or is the sole carrier."""
+    """Whether an eraseblock with these first 64 bytes can't count another erase, or is the only carrier of the
+    number."""
     state, ec = read_ec(image.geometry, front)
     return (state == "valid" and ec.counter == TOP_COUNTER) or image.found.carriers == [p]
 
@@ -595,28 +619,30 @@ def is_clean(image, p):
 
 
 def is_kept(image, p):
-    """Whether an eraseblock is listed as bad, or is a blank one where those are kept."""
+    """Whether an eraseblock is listed as bad, or is blank and blank ones are kept."""
     return image.is_bad(p) or (image.keeps_blank and image.states[p] == "blank")
 
 
 def takeable(image):
-    """The eraseblocks that may be taken, in the order in which they are."""
+    """The eraseblocks that may be taken, in the order in which they are taken."""
     states = ("free", "blank", "stale", "orphan", "dropped", "garbage")
-    places = [p for p, block in enumerate(image.found.blocks) if image.states[p] in states and not stays(image, p, block[:64])]
-    return sorted((p for p in places if not is_kept(image, p)), key=lambda p: (not is_clean(image, p), p))
+    blocks = [(p, block) for p, block in enumerate(image.found.blocks) if image.states[p] in states]
+    places = [p for p, block in blocks if not stays(image, p, block[:64]) and not is_kept(image, p)]
+    return sorted(places, key=lambda p: (not is_clean(image, p), p))
 
 
 def weak_pages(geometry, new):
-    """The least number of pages below theirs that, with 0xFF behind them, differ from the new bytes and have their check; or None."""
+    """The least number of first pages, fewer than all, that with 0xFF after them differ from the new bytes and have
+    their CRC; or None."""
     for n in range(len(new) // geometry.page):
         front = new[: n * geometry.page].ljust(len(new), b"\xFF")
-        if front != new and check(front) == check(new):
+        if front != new and crc(front) == crc(new):
             return n
     return None
 
 
 def first_cause(image, new, needed, *causes):
-    """The first that stands of some causes and, behind them, of those of each plan; or None."""
+    """The first that applies of some causes and, after them, of those that apply to each plan; or None."""
     weak = weak_pages(image.geometry, new)
     causes += (
         (f"K7 WeakCheck pages={weak}", weak is not None),
@@ -640,7 +666,8 @@ def change_refusal(image, number, lnum, new):
 
 
 def needs_repair(image):
-    """Whether a copy of the table isn't there, is corrupt, at fault or has a name twice; or the records of the copies differ."""
+    """Whether a copy of the table isn't there, is corrupt, at fault or has a name twice, or whether the copies' records
+    differ."""
     try:
         copies = [read_copy(image.found, image.winners, copy) for copy in range(2)]
     except Refused:
@@ -649,12 +676,12 @@ def needs_repair(image):
 
 
 def with_name(image, number, name):
-    """The records, where a volume has another name."""
+    """The records, with another name for a volume."""
     return image.records | {number: dataclasses.replace(image.records[number], name=name)}
 
 
 def named_table(image, number, name):
-    """The new bytes of a rename: the table with the new name, and 0xFF behind it to whole pages."""
+    """The new bytes of a rename: the table with the new name, and 0xFF after it up to whole pages."""
     table, page = put_table(image.geometry, with_name(image, number, name)), image.geometry.page
     return table.ljust(-(-len(table) // page) * page, b"\xFF")
 
@@ -673,18 +700,18 @@ def rename_refusal(image, number, name):
 
 def copy_header(volume, lnum, new, sqnum, compat=0, pad=0):
     """The header of a copy that holds the new bytes."""
-    return Vid(1, 1, compat, volume, lnum, len(new), 0, pad, check(new), sqnum)
+    return Vid(1, 1, compat, volume, lnum, len(new), 0, pad, crc(new), sqnum)
 
 
 class Plan:
-    """The steps of a plan that isn't refused, and the bytes of the image as they stand by then."""
+    """The steps of a plan that isn't refused, and the bytes of the image after them."""
 
     def __init__(self, image):
         self.image, self.geometry, self.steps = image, image.geometry, []
         self.now = bytearray(b"".join(image.found.blocks))
 
     def front(self, p):
-        """Bytes 0 to 63 of an eraseblock as they stand by then."""
+        """The first 64 bytes of an eraseblock after the steps so far."""
         at = p * self.geometry.peb
         return bytes(self.now[at : at + 64])
 
@@ -693,7 +720,7 @@ class Plan:
         self.steps.append(step)
 
     def program(self, p, page, data):
-        """Gives a page all of its bytes: these, and 0xFF behind them."""
+        """Gives a page all of its bytes: these, and 0xFF after them."""
         self.step("program", p, page, data.ljust(self.geometry.page, b"\xFF"))
 
     def renew(self, p):
@@ -721,7 +748,7 @@ class Plan:
             self.renew(p)
 
     def copy(self, old, place, header, new):
-        """Puts a copy with the new bytes in place of an eraseblock."""
+        """Puts a copy with the new bytes in the place of an eraseblock."""
         self.prepare(place)
         self.head(place, header)
         self.write(place, new)
@@ -739,7 +766,7 @@ class Change(Plan):
         else:
             old, place = takeable(image)[:2]
             self.prepare(old)
-            self.head(old, dataclasses.replace(header, copy=0, size=0, data_check=0))
+            self.head(old, dataclasses.replace(header, copy=0, size=0, data_crc=0))
             header = dataclasses.replace(header, sqnum=image.top_sqnum + 2)
         self.copy(old, place, header, new)
 
@@ -751,11 +778,12 @@ class Rename(Plan):
         super().__init__(image)
         new = named_table(image, number, name)
         for copy, place in enumerate(takeable(image)[:2]):
-            self.copy(image.winners[(LAYOUT, copy)], place, copy_header(LAYOUT, copy, new, image.top_sqnum + 1 + copy, compat=5), new)
+            header = copy_header(LAYOUT, copy, new, image.top_sqnum + 1 + copy, compat=5)
+            self.copy(image.winners[(LAYOUT, copy)], place, header, new)
 
 
 def do(geometry, image, step):
-    """Does a step to the bytes of an image. A program must set no bit."""
+    """Carries out a step on the bytes of an image. A program must set no bit."""
     word, p, *program = step
     page, data = program if word == "program" else (0, b"\xFF" * geometry.peb)
     at = p * geometry.peb + page * geometry.page
@@ -765,7 +793,7 @@ def do(geometry, image, step):
 
 
 def after(geometry, image, steps):
-    """The bytes of an image behind some steps."""
+    """The bytes of an image after some steps."""
     image = bytearray(image)
     for step in steps:
         do(geometry, image, step)
@@ -773,7 +801,7 @@ def after(geometry, image, steps):
 
 
 def pages_of(steps):
-    """The pages of a plan's steps: the bytes that their programs give to pages, one after the other."""
+    """The pages of a plan's steps: the bytes that they program, one page after the other."""
     return b"".join(data for _, _, *program in steps for data in program[1:])
 
 
@@ -784,7 +812,8 @@ def plan_lines(steps):
 
 
 def read_steps(geometry, lines, pages):
-    """The steps of some lines of a plan, whose programs take the bytes of one page after the other; of the last none is left."""
+    """The steps of some lines of a plan, whose programs take the bytes of one page after the other; no page may be left
+    over."""
     for line in lines:
         word, *numbers = line.split()
         size = 0 if word == "erase" else geometry.page
@@ -795,12 +824,12 @@ def read_steps(geometry, lines, pages):
 
 
 def changed(image, number, lnum, new):
-    """What an image means once a LEB has new bytes."""
+    """What an image means after a LEB has got new bytes."""
     lebs = image.contents[number] | {lnum: new.ljust(image.records[number].usable(image.geometry), b"\xFF")}
-    lebs = {lnum: text for lnum, text in lebs.items() if not is_blank(text)}
+    lebs = {lnum: data for lnum, data in lebs.items() if not is_blank(data)}
     return image.image_seq, image.records, image.contents | {number: lebs}
 
 
 def renamed(image, number, name):
-    """What an image means once a volume has another name."""
+    """What an image means after a volume has got another name."""
     return image.image_seq, with_name(image, number, name), image.contents

@@ -1,26 +1,32 @@
 #!/usr/bin/env python3
-"""Runs the program on what is large: files, places in them, eraseblocks, volumes, texts and outputs; and compares what it answers.
+"""Runs the program on large files, places in them, eraseblocks, volumes, texts and outputs, and compares its answers.
 
 usage: sizes.py [--dir FOLDER] [--tool PROGRAM] [FAMILY ..]
 
-A body that takes a size or a place modulo a power of two, or that gives up above some size, answers small images as the rules do.
-So each command is run on images that are made here, up to the largest that may be, and each byte that it writes is compared.
-The families, all of which are run where none is named:
-  headers   headers at 0, 5, 9 and 65 GiB, and at each power of two from 2^31 to 2^43, shown one by one, with what lies beside each, and where they are bad
-  places    an image of 256 GiB and more whose tables and LEBs lie at these places up to 2^38: each command that writes no image of its size
+A program that takes a size or a place modulo a power of two, or that gives up above some size, still answers small
+images as the rules do. So each command is run on images that are made here, up to the largest possible, and each byte
+that it writes is compared. The families, all of which are run by default:
+  headers   headers at 0, 5, 9 and 65 GiB, and at each power of two from 2^31 to 2^43, shown one by one, with those
+            beside each, and if they are bad
+  places    an image of 256 GiB and more whose tables and LEBs lie at these places up to 2^38: each command that writes
+            no image of its size
   beyond    an image that ends beyond 4 GiB: a change and a rename, whose outputs are compared byte for byte
   many      an image of 2^20 eraseblocks, which is the most; and as a pipe of 512 MiB
-  volumes   128 volumes, which are the most, with names of 127 bytes; and a config of 128 sections
-  largest   eraseblocks of 2^24 bytes with pages of 65536, which are the largest; a text of 20 MB; files of 1, 20 and 100 MiB
-  chips     chips with eraseblocks of 131072 and pages of 2048: images of 1, 20 and 100 MiB; and `compose` with outputs of 39 and 100 MB
+  volumes   128 volumes, which is the most, with names of 127 bytes; and a config of 128 sections
+  largest   eraseblocks of 2^24 bytes with pages of 65536, which are the largest; a text of 20 MB; files of 1, 20 and
+            100 MiB
+  chips     chips with eraseblocks of 131072 and pages of 2048: images of 1, 20 and 100 MiB; and `compose` with outputs
+            of 39 and 100 MB
   row       a config whose files end beyond 4 GiB, one by one and in a row
-  geometry  the geometry of files of 1 MiB to 9 GiB, and of those up to 5 GiB where the last eraseblock is no longer the image's
+  geometry  the geometry of files of 1 MiB to 9 GiB; and of those up to 5 GiB if the last eraseblock isn't part of the
+            image
   huge      files of 8 TiB that are named as new bytes, as a text and in a config; and a text of 269 MB
   links     an image above 1 GiB that is the output, or should be the pages, by a link of either kind
 
-Large files are sparse: what wasn't written in them reads zero, which is no header. Large outputs go into a pipe, where they are compared
-as they come. So 3 GB of the disk below FOLDER (/tmp where it is left out) do; they are freed again. Without --tool the program is built
-first where it isn't yet. The last line is 'N passed, M failed', and the exit status is 0 where none failed.
+Large files are sparse: unwritten parts read as zero, which is no header. Large outputs go into a pipe, and are compared
+while they are written. So it needs only 3 GB of the disk below FOLDER (/tmp by default), which are freed afterwards.
+Without --tool the program is built first, unless it is built already. The last line is 'N passed, M failed', and the
+exit status is 0 if none failed.
 """
 import argparse
 import dataclasses
@@ -41,36 +47,36 @@ MIB, GIB, HUGE = 2**20, 2**30, 2**43
 LARGEST = Geometry(2**24, 65536, 65536, 131072, 2**20)
 CHIP = Geometry(131072, 2048, 2048, 4096, 2**20)
 LEAST = Geometry(512, 64, 64, 128, 2**20)
-# Where headers and LEBs lie, beside the beginning.
+# Where headers and LEBs lie, besides the beginning.
 FAR = sorted({5 * GIB, 9 * GIB, 65 * GIB, *(2**k for k in range(31, 44))})
 SEQ = 0x12345678
 # What is compared at once, and how much of the disk has to be free.
 CHUNK, ROOM = 2**24, 3 * 10**9
-# A file of Linux that has fewer bytes than it tells.
+# A file of Linux that has fewer bytes than its size says.
 SHORT = "/sys/kernel/uevent_seqnum"
 ZEROS, BLANKS = bytes(CHUNK), b"\xFF" * CHUNK
 
 
 def noise(seed, size):
-    """Bytes of which no two seeds give the same."""
+    """Random bytes, other ones for each seed."""
     return random.Random(seed).randbytes(size)
 
 
 def run_of(chunk, size):
-    """So many bytes of a chunk of equal ones, piece by piece."""
+    """So many bytes of a chunk of equal bytes, piece by piece."""
     for _ in range(size // CHUNK):
         yield chunk
     yield chunk[: size % CHUNK]
 
 
 class Sparse:
-    """A file that reads zero but for some parts, each at its place."""
+    """A file that reads as zero except for some parts, each at its place."""
 
     def __init__(self, size, parts):
         self.size, self.parts = size, dict(sorted(parts.items()))
 
     def put(self, path):
-        """Writes the file, with holes in it. Gives its path."""
+        """Writes the file, with holes in it. Returns its path."""
         with open(path, "wb") as file:
             file.truncate(self.size)
             for at, data in self.parts.items():
@@ -88,12 +94,12 @@ class Sparse:
         yield from run_of(ZEROS, self.size - done)
 
     def but(self, parts):
-        """The same file with other bytes at some places, which are apart from those that it has, or in place of them."""
+        """The same file with other bytes at some places, beside its parts or in place of them."""
         return Sparse(self.size, self.parts | parts)
 
 
 class Taker(threading.Thread):
-    """Compares what comes out of a pipe, or of a file, with what should, as it comes."""
+    """Compares the bytes of a pipe, or of a file, with those that it should have, while reading them."""
 
     def __init__(self, end, pieces):
         super().__init__()
@@ -105,7 +111,7 @@ class Taker(threading.Thread):
             if self.wrong:
                 break
         while data := os.read(self.end, CHUNK):
-            self.wrong = self.wrong or f"{len(data)} bytes behind the end"
+            self.wrong = self.wrong or f"{len(data)} bytes after the end"
         os.close(self.end)
 
     def take(self, piece):
@@ -118,7 +124,7 @@ class Taker(threading.Thread):
 
 
 def wrong_file(path, pieces):
-    """What is wrong with a file; None where it has these bytes."""
+    """What is wrong with a file; None if it has these bytes."""
     if not os.path.isfile(path):
         return f"no {path}"
     taker = Taker(os.open(path, os.O_RDONLY), pieces)
@@ -142,19 +148,19 @@ class Looker:
         return self.path(name)
 
     def look(self, geometry, words, line, status=0, piped=None, files=(), stdin=None):
-        """Runs a command, of a geometry if it takes one, with a pipe from a file for standard input, if that is given. Gives what it
-        was, and whether it printed the line, and wrote what it should: into a pipe by --out, where something is given for that, and
-        into files."""
+        """Runs a command, with a geometry if it takes one, and with a pipe from a file as standard input, if one is
+        given. Returns what it was, and whether it printed the line, and wrote what it should: into a pipe by --out, if
+        PIPED is given, and into files."""
         words = [str(word) for word in words]
         words = words if geometry is None else [*words, *geometry.words()]
-        came, wrong = self.run(words, piped, stdin)
+        ran, wrong = self.run(words, piped, stdin)
         for name, pieces in files:
             wrong = wrong or wrong_file(self.path(name), pieces)
-        is_right = came == (status, line.encode(), b"") and not wrong
-        return f"{' '.join(words)[-300:]} {came[0]} {came[1][:200]} {came[2][:200]}, wrong: {wrong}", is_right
+        is_right = ran == (status, line.encode(), b"") and not wrong
+        return f"{' '.join(words)[-300:]} {ran[0]} {ran[1][:200]} {ran[2][:200]}, wrong: {wrong}", is_right
 
     def run(self, words, piped, stdin):
-        """What a run ends with, and what is wrong with what it wrote into a pipe."""
+        """The status and both outputs of a run, and what is wrong with what it wrote into a pipe."""
         given = open(stdin or os.devnull, "rb")
         feeder = subprocess.Popen(["cat"], stdin=given, stdout=subprocess.PIPE) if stdin else None
         ends = os.pipe() if piped is not None else ()
@@ -162,7 +168,8 @@ class Looker:
             fcntl.fcntl(ends[1], fcntl.F_SETPIPE_SZ, MIB)
         more = ["--out", f"/dev/fd/{ends[1]}"] if ends else []
         taker = Taker(ends[0], piped) if ends else None
-        child = subprocess.Popen([self.tool, *words, *more], stdin=feeder.stdout if feeder else given, stdout=subprocess.PIPE,
+        child = subprocess.Popen(
+            [self.tool, *words, *more], stdin=feeder.stdout if feeder else given, stdout=subprocess.PIPE,
             stderr=subprocess.PIPE, cwd=self.folder, pass_fds=ends[1:])
         given.close()
         if feeder:
@@ -186,15 +193,17 @@ class Looker:
 
 
 def table_parts(geometry, records, places):
-    """The two copies of a table, at eraseblocks."""
-    table = rules.put_table(geometry, records)
+    """The two copies of a table, in eraseblocks at these places."""
+    table, ec = rules.put_table(geometry, records), rules.put_ec(geometry, 0, SEQ)
     headers = [rules.put_vid(Vid(1, 0, 5, LAYOUT, copy, 0, 0, 0, 0, 0)) for copy in range(2)]
-    return {p * geometry.peb: rules.put_block(geometry, rules.put_ec(geometry, 0, SEQ), header, table) for p, header in zip(places, headers)}
+    blocks = [rules.put_block(geometry, ec, header, table) for header in headers]
+    return {p * geometry.peb: block for p, block in zip(places, blocks)}
 
 
 def leb_parts(geometry, p, header, parts):
-    """An eraseblock at P with a header, and parts of its LEB at their offsets; its other bytes read zero."""
-    at, front = p * geometry.peb, rules.put_ec(geometry, 0, SEQ).ljust(geometry.vid, b"\xFF") + rules.put_vid(header)
+    """An eraseblock at P with a header, and parts of its LEB at their offsets; its other bytes read as zero."""
+    at = p * geometry.peb
+    front = rules.put_ec(geometry, 0, SEQ).ljust(geometry.vid, b"\xFF") + rules.put_vid(header)
     return {at: front} | {at + geometry.data + offset: data for offset, data in parts.items()}
 
 
@@ -204,16 +213,16 @@ def of_leb(lnum, sqnum, **more):
 
 
 def spread(geometry, seed):
-    """Parts of a LEB: its first bytes, some in the middle and its last ones; and all of it."""
+    """Parts of a LEB: its first bytes, some in the middle and its last ones; and the whole LEB."""
     size, middle = geometry.leb, geometry.leb // 2 + 4321
     parts = {0: noise(seed, 70_000), middle: noise(seed + 1000, 5000), size - 333: noise(seed + 2000, 333)}
     return parts, b"".join(Sparse(size, parts).pieces())
 
 
 def checked(blocks, table, used, corrupt, top, free=0, stale=0):
-    """The lines of `check` of an image that is accepted, whose counters are all 0."""
-    return (f"blocks {blocks}\nblank 0\nfree {free}\ntable {table}\nused {used}\nstale {stale}\norphan 0\ndropped 0\ncorrupt {corrupt}\n"
-        f"garbage 0\ntop sqnum {top}\nimage seq {SEQ}\nmean counter 0\naccepted\n")
+    """The lines of `check` for an accepted image whose counters are all 0."""
+    return (f"blocks {blocks}\nblank 0\nfree {free}\ntable {table}\nused {used}\nstale {stale}\norphan 0\ndropped 0\n"
+        f"corrupt {corrupt}\ngarbage 0\ntop sqnum {top}\nimage seq {SEQ}\nmean counter 0\naccepted\n")
 
 
 def listed(geometry, records, how):
@@ -223,7 +232,7 @@ def listed(geometry, records, how):
 
 
 def shown(front, vid):
-    """The lines of `show`, of the states and the bytes of two headers."""
+    """The lines of `show` for the states and the bytes of two headers."""
     return "".join(f"{word} {state} {raw.hex()}\n" for word, (state, raw) in (("ec", front), ("vid", vid)))
 
 
@@ -231,8 +240,10 @@ NONE_THERE, BLANK = ("corrupt", bytes(64)), ("blank", b"\xFF" * 64)
 
 
 def headers(looker):
-    """Headers that are far from the beginning, each another one; and of each eraseblock what it reads where it is bad."""
-    for geometry, places in ((LARGEST, (0, *FAR, 2**44 - 2 * LARGEST.peb)), (CHIP, (0, *(at for at in FAR if at < 2**37)))):
+    """Headers that are far from the beginning, each of them different; and what each eraseblock reads as if it is
+    bad."""
+    cases = (LARGEST, (0, *FAR, 2**44 - 2 * LARGEST.peb)), (CHIP, (0, *(at for at in FAR if at < 2**37)))
+    for geometry, places in cases:
         parts = {}
         for k, at in enumerate(places, 1):
             parts[at] = ec = rules.put_ec(geometry, k, SEQ)
@@ -260,8 +271,9 @@ def places(looker):
         parts |= leb_parts(g, p, of_leb(lnum, lnum), pieces)
     # Another copy of the last LEB, which is newer; and one that is newer still, and cut short.
     (newer, lebs[lnum]), (cut, whole) = spread(g, 100), spread(g, 200)
-    parts |= leb_parts(g, last - 1, of_leb(lnum, 1000, copy=1, size=g.leb, data_check=rules.check(lebs[lnum])), newer)
-    parts |= leb_parts(g, last // 2 + 1, of_leb(lnum, 1001, copy=1, size=g.leb, data_check=rules.check(whole) ^ 1), cut)
+    of_newer = of_leb(lnum, 1000, copy=1, size=g.leb, data_crc=rules.crc(lebs[lnum]))
+    of_cut = of_leb(lnum, 1001, copy=1, size=g.leb, data_crc=rules.crc(whole) ^ 1)
+    parts |= leb_parts(g, last - 1, of_newer, newer) | leb_parts(g, last // 2 + 1, of_cut, cut)
     image = Sparse((last + 2) * g.peb, parts)
     image.put(looker.path("far.img"))
     meant = Meaning(g, SEQ, records, {0: lebs})
@@ -269,7 +281,8 @@ def places(looker):
     looker.put("normal.img", normal)
     yield looker.look(g, ["check", "far.img"], checked(last + 2, 2, used, last - used - 2, 1001, stale=2))
     yield looker.look(g, ["list", "far.img"], listed(g, records, {0: lebs}))
-    yield looker.look(g, ["extract", "far.img", "--name", "far"], f"bytes {40 * g.leb}\n", piped=read_pieces(g, 40, lebs))
+    yield looker.look(g, ["extract", "far.img", "--name", "far"], f"bytes {40 * g.leb}\n",
+        piped=read_pieces(g, 40, lebs))
     yield looker.look(g, ["normalise", "far.img"], f"blocks {used + 2}\n", piped=[normal])
     yield looker.look(g, ["same", "far.img", "normal.img"], "same\n")
     with open(looker.path("normal.img"), "r+b") as file:
@@ -277,36 +290,40 @@ def places(looker):
         file.write(bytes([normal[-1] ^ 1]))
     yield looker.look(g, ["same", "normal.img", "far.img"], "different\n", 1)
     os.remove(looker.path("normal.img"))
-    yield looker.look(g, ["unpack", "far.img", "--out", "made"], f"volume 0 bytes={40 * g.leb} name=far\n", files=[("made/0-far", read_pieces(g, 40, lebs))])
+    yield looker.look(g, ["unpack", "far.img", "--out", "made"], f"volume 0 bytes={40 * g.leb} name=far\n",
+        files=[("made/0-far", read_pieces(g, 40, lebs))])
 
 
 def read_pieces(geometry, reserved, lebs):
-    """What a dynamic volume reads."""
+    """The contents of a dynamic volume, piece by piece."""
     for lnum in range(reserved):
         yield from [lebs[lnum]] if lnum in lebs else run_of(BLANKS, geometry.leb)
 
 
 def moved(steps, places):
-    """The steps of a plan, whose eraseblocks lie at other places."""
+    """The steps of a plan, with its eraseblocks at other places."""
     return [(word, places[p], *more) for word, p, *more in steps]
 
 
 def stretched(geometry, image, places):
     """The eraseblocks of an image at other places, and zeros between them."""
-    blocks = {places[k] * geometry.peb: image[at : at + geometry.peb] for k, at in enumerate(range(0, len(image), geometry.peb))}
-    return Sparse((places[-1] + 1) * geometry.peb, blocks)
+    blocks = (image[at : at + geometry.peb] for at in range(0, len(image), geometry.peb))
+    parts = {p * geometry.peb: block for p, block in zip(places, blocks)}
+    return Sparse((places[-1] + 1) * geometry.peb, parts)
 
 
 def planned(looker, geometry, image, small, places, steps, words):
-    """A change or a rename of an image that goes into a pipe, with its pages, by the plan of its eraseblocks without gaps."""
+    """A change or a rename of an image, which writes into a pipe, with its pages; STEPS is the plan for its eraseblocks
+    without gaps."""
     after = stretched(geometry, rules.after(geometry, small, steps), places)
     lines = "".join(rules.plan_lines(moved(steps, places)))
-    yield looker.look(geometry, [words[0], image, *words[1:], "--pages", "pages"], lines, piped=after.pieces(), files=[("pages", [rules.pages_of(steps)])])
+    yield looker.look(geometry, [words[0], image, *words[1:], "--pages", "pages"], lines, piped=after.pieces(),
+        files=[("pages", [rules.pages_of(steps)])])
     os.remove(looker.path("pages"))
 
 
 def beyond(looker):
-    """An image of which the half that matters lies beyond 4 GiB."""
+    """An image, half of whose contents lie beyond 4 GiB."""
     g, records = LARGEST, {0: Record(40, 1, 1, 0, b"far", 0)}
     ec, table = rules.put_ec(g, 0, SEQ), table_parts(g, records, (0, 1))
     used = [rules.put_block(g, ec, rules.put_vid(of_leb(lnum, 5 + lnum)), noise(lnum, 5000)) for lnum in (0, 3)]
@@ -315,26 +332,29 @@ def beyond(looker):
     places, found = (0, 1, 255, 257, 258, 259), rules.Image(g, small)
     stretched(g, small, places).put(looker.path("far.img"))
     new = looker.put("new", noise(9, 3 * g.page))
-    yield from planned(looker, g, "far.img", small, places, rules.Change(found, 0, 3, noise(9, 3 * g.page)).steps,
+    change, rename = rules.Change(found, 0, 3, noise(9, 3 * g.page)), rules.Rename(found, 0, b"near")
+    yield from planned(looker, g, "far.img", small, places, change.steps,
         ["change", "--id", 0, "--lnum", 3, "--from", new])
-    yield from planned(looker, g, "far.img", small, places, rules.Rename(found, 0, b"near").steps, ["rename", "--id", 0, "--name", "near"])
+    yield from planned(looker, g, "far.img", small, places, rename.steps, ["rename", "--id", 0, "--name", "near"])
 
 
 def many(looker):
     """An image of as many eraseblocks as a device can have: LEBs, then free ones, and the tables at its end."""
     g, count, used = LEAST, 2**20, 2**18 + 1
-    records, ec, free = {0: Record(count - 2, 1, 1, 0, b"many", 0)}, rules.put_ec(LEAST, 0, SEQ), rules.put_block(LEAST, rules.put_ec(LEAST, 0, SEQ))
-    # LEB 7K + 1 lies in eraseblock K, so that they are spread over all that the volume reserves.
+    records, ec = {0: Record(count - 2, 1, 1, 0, b"many", 0)}, rules.put_ec(LEAST, 0, SEQ)
+    free = rules.put_block(LEAST, ec)
+    # LEB 7K + 1 lies in eraseblock K, so they are spread over all LEBs that the volume reserves.
     lnums = [(7 * k + 1) % (count - 2) for k in range(used)]
-    texts = [b"%08d" % k * 48 for k in range(used)]
+    data = [b"%08d" % k * 48 for k in range(used)]
     front, vids = ec.ljust(g.vid, b"\xFF"), [rules.put_vid(of_leb(lnum, k)) for k, lnum in enumerate(lnums)]
     tables = table_parts(g, records, (count - 2, count - 1))
-    image = bytearray(b"".join(front + vid + text for vid, text in zip(vids, texts)) + free * (count - used - 2) + b"".join(tables.values()))
+    blocks = b"".join(front + vid + leb for vid, leb in zip(vids, data))
+    image = bytearray(blocks + free * (count - used - 2) + b"".join(tables.values()))
     looker.put("many.img", image)
-    lebs = dict(zip(lnums, texts))
-    text, blank = bytearray(BLANKS[: g.leb] * (count - 2)), used - 1
-    for lnum, piece in lebs.items():
-        text[lnum * g.leb : (lnum + 1) * g.leb] = piece
+    lebs = dict(zip(lnums, data))
+    contents, blank = bytearray(BLANKS[: g.leb] * (count - 2)), used - 1
+    for lnum, leb in lebs.items():
+        contents[lnum * g.leb : (lnum + 1) * g.leb] = leb
     lines = checked(count, 2, used, 0, used - 1, free=count - used - 2)
     normal = looker.put("normal.img", rules.normal_image(Meaning(g, SEQ, records, {0: lebs})))
     with open(normal, "rb") as file:
@@ -343,52 +363,61 @@ def many(looker):
     yield looker.look(g, ["check", "/dev/stdin"], lines, stdin=looker.path("many.img"))
     yield looker.look(g, ["list", "many.img"], listed(g, records, {0: lebs}))
     yield looker.look(g, ["show", "many.img", "--block", blank], shown(("valid", ec), ("valid", vids[blank])))
-    yield looker.look(g, ["show", "many.img", "--block", count - 1], shown(("valid", ec), ("valid", tables[(count - 1) * g.peb][64:128])))
-    yield looker.look(None, ["geometry", "many.img"], "".join(f"--peb 512 --page {page} --vid 64 --data 128\n" for page in (64, 128)))
-    yield looker.look(g, ["extract", "many.img", "--id", 0, "--out", "text"], f"bytes {len(text)}\n", files=[("text", [text])])
-    yield looker.look(g, ["extract", "/dev/stdin", "--id", 0], f"bytes {len(text)}\n", piped=[text], stdin=looker.path("many.img"))
-    yield looker.look(g, ["unpack", "many.img", "--out", "made"], f"volume 0 bytes={len(text)} name=many\n", files=[("made/0-many", [text])])
-    yield looker.look(g, ["normalise", "many.img", "--out", "out"], f"blocks {used + 2}\n", files=[("out", [whole])])
-    yield looker.look(g, ["normalise", "/dev/stdin"], f"blocks {used + 2}\n", piped=[whole], stdin=looker.path("many.img"))
+    table = tables[(count - 1) * g.peb][64:128]
+    yield looker.look(g, ["show", "many.img", "--block", count - 1], shown(("valid", ec), ("valid", table)))
+    sizes = "".join(f"--peb 512 --page {page} --vid 64 --data 128\n" for page in (64, 128))
+    yield looker.look(None, ["geometry", "many.img"], sizes)
+    size, blocks = f"bytes {len(contents)}\n", f"blocks {used + 2}\n"
+    piped = looker.path("many.img")
+    yield looker.look(g, ["extract", "many.img", "--id", 0, "--out", "read"], size, files=[("read", [contents])])
+    yield looker.look(g, ["extract", "/dev/stdin", "--id", 0], size, piped=[contents], stdin=piped)
+    yield looker.look(g, ["unpack", "many.img", "--out", "made"], f"volume 0 bytes={len(contents)} name=many\n",
+        files=[("made/0-many", [contents])])
+    yield looker.look(g, ["normalise", "many.img", "--out", "out"], blocks, files=[("out", [whole])])
+    yield looker.look(g, ["normalise", "/dev/stdin"], blocks, piped=[whole], stdin=piped)
     yield looker.look(g, ["same", "many.img", "normal.img"], "same\n")
     yield looker.look(dataclasses.replace(g, pebs=count - 1), ["check", "many.img"], "refused S2 TooMany\n", 1)
-    # The plans are those of the eraseblocks that they speak of: the first that are free, the last LEB, and the tables.
-    at, small = (blank, used, used + 1, count - 2, count - 1), bytes(image[blank * 512 : (used + 2) * 512] + image[-1024:])
+    # The plans are those for the eraseblocks that they name: the first free ones, the last LEB, and the tables.
+    at = (blank, used, used + 1, count - 2, count - 1)
+    small = bytes(image[blank * 512 : (used + 2) * 512] + image[-1024:])
     found = rules.Image(dataclasses.replace(g, pebs=count), small)
     new, lnum = noise(5, 128), lnums[blank]
-    for words, plan in ((["change", "--id", 0, "--lnum", lnum, "--from", looker.put("new", new)], rules.Change(found, 0, lnum, new)),
-                        (["rename", "--id", 0, "--name", "few"], rules.Rename(found, 0, b"few"))):
+    change = ["change", "--id", 0, "--lnum", lnum, "--from", looker.put("new", new)]
+    rename = ["rename", "--id", 0, "--name", "few"]
+    for words, plan in ((change, rules.Change(found, 0, lnum, new)), (rename, rules.Rename(found, 0, b"few"))):
         steps, after = moved(plan.steps, at), bytearray(image)
         for step in steps:
             rules.do(g, after, step)
-        yield looker.look(g, [words[0], "many.img", *words[1:], "--out", "out", "--pages", "pages"], "".join(rules.plan_lines(steps)),
+        words = [words[0], "many.img", *words[1:], "--out", "out", "--pages", "pages"]
+        yield looker.look(g, words, "".join(rules.plan_lines(steps)),
             files=[("out", [after]), ("pages", [rules.pages_of(steps)])])
 
 
-# Images that the program makes, and every command over them.
+# Images that the program makes, and every command on them.
 
 
 def spec_of(meant):
-    """A composer's text, line by line, of volumes that can be read."""
+    """A composer's text for volumes that can be read, line by line."""
     for number, r in meant.records.items():
-        yield f"volume {number} {'static' if r.kind == 2 else 'dynamic'} {r.reserved} {r.alignment} {r.flags:02x} {rules.shown(r.name)}\n"
+        kind = "static" if r.kind == 2 else "dynamic"
+        yield f"volume {number} {kind} {r.reserved} {r.alignment} {r.flags:02x} {rules.shown(r.name)}\n"
         if r.kind == 2:
             yield f"bytes {number} {meant.contents[number].hex()}\n"
         else:
-            yield from (f"leb {number} {lnum} {text.hex()}\n" for lnum, text in meant.contents[number].items())
+            yield from (f"leb {number} {lnum} {data.hex()}\n" for lnum, data in meant.contents[number].items())
 
 
 def config_of(looker, meant):
-    """A config of volumes that can be read, line by line. Puts their files."""
+    """A config for volumes that can be read, section by section. Writes their files."""
     for number, r in meant.records.items():
-        text = meant.read_volume(number)
-        looker.put(f"v{number}", text)
-        yield (f"[{number}]\nmode=ubi\nvol_id={number}\nvol_name={r.name.decode()}\nvol_type={'static' if r.kind == 2 else 'dynamic'}\n"
-            f"vol_size={r.reserved * r.usable(meant.geometry)}\nvol_alignment={r.alignment}\nimage=v{number}\n")
+        looker.put(f"v{number}", meant.read_volume(number))
+        kind, size = "static" if r.kind == 2 else "dynamic", r.reserved * r.usable(meant.geometry)
+        yield (f"[{number}]\nmode=ubi\nvol_id={number}\nvol_name={r.name.decode()}\nvol_type={kind}\n"
+            f"vol_size={size}\nvol_alignment={r.alignment}\nimage=v{number}\n")
 
 
 def made(looker, meant, spares, ways):
-    """An image as `compose` and `build` make it, each by its text. Leaves it in image."""
+    """An image as `compose` and `build` make it, from a text or a config. Leaves it in image."""
     image, g = rules.composed(meant, spares), meant.geometry
     more = ["--out", "image", "--seq", meant.image_seq, "--spares", spares]
     for way in ways:
@@ -397,41 +426,46 @@ def made(looker, meant, spares, ways):
 
 
 def all_commands(looker, g, new):
-    """Every command over the image in image; a change of volume 0, which is dynamic, and a rename of the last volume."""
+    """Every command on the image in image; a change of volume 0, which is dynamic, and a rename of the last volume."""
     with open(looker.path("image"), "rb") as file:
         image = file.read()
     found = rules.Image(g, image)
     normal, last = rules.normal_image(found), max(found.records)
-    texts = {number: found.read_volume(number) for number in found.records}
+    blocks = f"blocks {len(normal) // g.peb}\n"
+    contents = {number: found.read_volume(number) for number in found.records}
     yield looker.look(None, ["geometry", "image"], *printed(image))
     yield looker.look(g, ["check", "image"], "".join(rules.check_lines(found)))
     yield looker.look(g, ["list", "image"], "".join(rules.list_lines(found)))
-    yield looker.look(g, ["normalise", "image", "--out", "out"], f"blocks {len(normal) // g.peb}\n", files=[("out", [normal])])
-    yield looker.look(g, ["normalise", "/dev/stdin"], f"blocks {len(normal) // g.peb}\n", piped=[normal], stdin=looker.path("image"))
+    yield looker.look(g, ["normalise", "image", "--out", "out"], blocks, files=[("out", [normal])])
+    yield looker.look(g, ["normalise", "/dev/stdin"], blocks, piped=[normal], stdin=looker.path("image"))
     yield looker.look(g, ["same", "image", "out"], "same\n")
     for number in (0, last):
-        name = f"--name={rules.shown(found.records[number].name)}"
-        yield looker.look(g, ["extract", "image", name, "--out", "out"], f"bytes {len(texts[number])}\n", files=[("out", [texts[number]])])
+        name, data = f"--name={rules.shown(found.records[number].name)}", contents[number]
+        yield looker.look(g, ["extract", "image", name, "--out", "out"], f"bytes {len(data)}\n",
+            files=[("out", [data])])
     names = {number: rules.shown(r.name) for number, r in sorted(found.records.items())}
-    yield looker.look(g, ["unpack", "image", "--out", "made"], "".join(f"volume {n} bytes={len(texts[n])} name={name}\n" for n, name in names.items()),
-        files=[*((f"made/{n}-{name}", [texts[n]]) for n, name in names.items()), ("made/ubi.ini", [rules.folder_config(found)])])
+    lines = "".join(f"volume {n} bytes={len(contents[n])} name={name}\n" for n, name in names.items())
+    files = [(f"made/{n}-{name}", [contents[n]]) for n, name in names.items()]
+    files.append(("made/ubi.ini", [rules.folder_config(found)]))
+    yield looker.look(g, ["unpack", "image", "--out", "made"], lines, files=files)
     shutil.rmtree(looker.path("made"))
     looker.put("new", new)
-    for words, plan in ((["change", "--id", 0, "--lnum", 0, "--from", "new"], rules.Change(found, 0, 0, new)),
-                        (["rename", "--id", last, "--name", "n" * 127], rules.Rename(found, last, b"n" * 127))):
-        yield looker.look(g, [words[0], "image", *words[1:], "--out", "out", "--pages", "pages"], "".join(rules.plan_lines(plan.steps)),
+    change, rename = ["change", "--id", 0, "--lnum", 0, "--from", "new"], ["rename", "--id", last, "--name", "n" * 127]
+    for words, plan in ((change, rules.Change(found, 0, 0, new)), (rename, rules.Rename(found, last, b"n" * 127))):
+        words = [words[0], "image", *words[1:], "--out", "out", "--pages", "pages"]
+        yield looker.look(g, words, "".join(rules.plan_lines(plan.steps)),
             files=[("out", [rules.after(g, image, plan.steps)]), ("pages", [rules.pages_of(plan.steps)])])
 
 
 def dynamic(geometry, seed, size):
-    """A dynamic volume of so many bytes: what it reserves, and its LEBs, the last of them with 0xFF behind its bytes."""
+    """A dynamic volume of so many bytes: what it reserves, and its LEBs, the last of them with 0xFF after its bytes."""
     data, leb = noise(seed, size), geometry.leb
     lebs = {lnum: data[at : at + leb].ljust(leb, b"\xFF") for lnum, at in enumerate(range(0, size, leb))}
     return len(lebs), lebs
 
 
 def meant_of(geometry, sizes):
-    """A dynamic volume and static ones behind it, of so many bytes."""
+    """A dynamic volume and static ones after it, of so many bytes."""
     reserved, lebs = dynamic(geometry, 1, sizes[0])
     records, contents = {0: Record(reserved, 1, 1, 0, b"first", 0)}, {0: lebs}
     for number, size in enumerate(sizes[1:], 1):
@@ -441,16 +475,20 @@ def meant_of(geometry, sizes):
 
 
 def volumes(looker):
-    """As many volumes as there can be, with names that are as long as they can be; every second is static."""
+    """As many volumes as there can be, with the longest names; every second one is static."""
     g, records, contents = CHIP, {}, {}
     for number in range(128):
         kind = 1 + number % 2
-        records[number] = Record(2, 1, kind, 0, (b"%03d-" % number).ljust(127, b"abcdefg"[number % 7 :][:1]), 0)
-        contents[number] = noise(number, g.leb + 1 + number) if kind == 2 else {0: noise(number, 3000).ljust(g.leb, b"\xFF")}
+        name = (b"%03d-" % number).ljust(127, b"abcdefg"[number % 7 :][:1])
+        records[number] = Record(2, 1, kind, 0, name, 0)
+        if kind == 2:
+            contents[number] = noise(number, g.leb + 1 + number)
+        else:
+            contents[number] = {0: noise(number, 3000).ljust(g.leb, b"\xFF")}
     meant = Meaning(g, SEQ, records, contents)
     yield from made(looker, meant, 3, ("build", "compose"))
     yield from all_commands(looker, g, noise(77, g.leb))
-    # The size of this file of the system is told as 4096, and it has fewer bytes. It is the file of a volume in the middle.
+    # The system gives the size of this file as 4096, and it has fewer bytes. It is the file of a volume in the middle.
     if os.path.exists(SHORT):
         config = "".join(config_of(looker, meant)).replace("image=v100\n", f"image={SHORT}\n")
         for text in (config, "[" + "[".join(config.split("[")[:0:-1])):
@@ -459,17 +497,19 @@ def volumes(looker):
 
 
 def largest(looker):
-    """The largest eraseblocks, with files of 1, 20 and 100 MiB; and a text of 20 MB, of which one line has most."""
+    """The largest eraseblocks, with files of 1, 20 and 100 MiB; and a text of 20 MB, most of it in one line."""
     g = LARGEST
-    yield from made(looker, Meaning(g, SEQ, {0: Record(3, 1, 1, 0, b"long", 0)}, {0: {1: noise(3, 10**7).ljust(g.leb, b"\xFF")}}), 1, ("compose",))
+    records, contents = {0: Record(3, 1, 1, 0, b"long", 0)}, {0: {1: noise(3, 10**7).ljust(g.leb, b"\xFF")}}
+    yield from made(looker, Meaning(g, SEQ, records, contents), 1, ("compose",))
     yield from made(looker, meant_of(g, (20 * MIB, 100 * MIB, MIB)), 3, ("build",))
     yield from all_commands(looker, g, noise(78, g.leb))
 
 
 def chips(looker):
-    """Images of chips of three sizes, and outputs of two that aren't multiples of much."""
+    """Images of chips of three sizes, and outputs of two odd sizes."""
     for size in (MIB, 20 * MIB, 100 * MIB):
-        yield from made(looker, meant_of(CHIP, (size // 2, size // 3, 1)), 4, ("build", "compose") if size == 20 * MIB else ("build",))
+        ways = ("build", "compose") if size == 20 * MIB else ("build",)
+        yield from made(looker, meant_of(CHIP, (size // 2, size // 3, 1)), 4, ways)
         yield from all_commands(looker, CHIP, noise(79, CHIP.leb))
     small = Meaning(CHIP, SEQ, {0: Record(1, 1, 1, 0, b"a", 0)}, {0: {0: noise(4, CHIP.leb)}})
     for spares in (299, 761):
@@ -477,10 +517,15 @@ def chips(looker):
 
 
 def row(looker):
-    """Sparse files that end beyond 4 GiB, one of them alone, and that begin there."""
+    """Sparse files in a row, which end beyond 4 GiB, or begin there."""
     g, sizes = LARGEST, (GIB + 12345, 3 * GIB + 999, 50 * MIB + 77)
-    files = [Sparse(size, {100: noise(k, 999), size // 2 + 1: noise(k + 10, 999), size - 999: noise(k + 20, 999)}) for k, size in enumerate(sizes)]
-    config = "".join(f"[{k}]\nmode=ubi\nvol_id={k}\nvol_name=v{k}\nvol_type={('static', 'dynamic')[k % 2]}\nimage=v{k}\n" for k in range(3))
+    files = []
+    for k, size in enumerate(sizes):
+        parts = {100: noise(k, 999), size // 2 + 1: noise(k + 10, 999), size - 999: noise(k + 20, 999)}
+        files.append(Sparse(size, parts))
+    kinds = ("static", "dynamic", "static")
+    config = "".join(f"[{k}]\nmode=ubi\nvol_id={k}\nvol_name=v{k}\nvol_type={kind}\nimage=v{k}\n"
+        for k, kind in enumerate(kinds))
     for k, file in enumerate(files):
         file.put(looker.path(f"v{k}"))
     looker.put("config", config.encode())
@@ -490,18 +535,19 @@ def row(looker):
 
 
 def built_pieces(geometry, records, files):
-    """The image of volumes over files, eraseblock by eraseblock."""
+    """The image of volumes with these files, eraseblock by eraseblock."""
     yield from table_parts(geometry, records, (0, 1)).values()
     for number, r in records.items():
         for lnum, data in enumerate(shares(files[number], geometry.leb)):
             header = of_leb(lnum, 0, volume=number)
             if r.kind == 2:
-                header = dataclasses.replace(header, kind=2, size=len(data), used=r.reserved, data_check=rules.check(data))
+                size, crc = len(data), rules.crc(data)
+                header = dataclasses.replace(header, kind=2, size=size, used=r.reserved, data_crc=crc)
             yield rules.put_block(geometry, rules.put_ec(geometry, 0, SEQ), rules.put_vid(header), data)
 
 
 def shares(file, size):
-    """The bytes of a file in pieces of one size, but for the last."""
+    """The bytes of a file in pieces of one size, except the last."""
     rest = b""
     for piece in file.pieces():
         rest += piece
@@ -513,23 +559,28 @@ def shares(file, size):
 
 
 def geometry(looker):
-    """Files of the two tables and headers alone, up to 9 GiB; then the last eraseblock has a header of other offsets, which is no image's."""
+    """Files with only the two tables and headers, up to 9 GiB; and the same with a header of other offsets in the last
+    eraseblock, which is no part of the image then."""
     for g, size in ((CHIP, MIB), (CHIP, 20 * MIB), (CHIP, 100 * MIB), (LARGEST, 5 * GIB), (LARGEST, 9 * GIB)):
         last = size - g.peb
         headers = {at: rules.put_ec(g, at // g.peb, SEQ) for at in range(0, size, g.peb)}
         file = Sparse(size, headers | table_parts(g, {}, (0, 1)))
         file.put(looker.path("far.img"))
-        lines = [f"--peb {g.peb} --page {page} --vid {g.vid} --data {g.data}" for page in ((2048, 4096) if g == CHIP else (65536,))]
+        pages = (2048, 4096) if g == CHIP else (65536,)
+        lines = [f"--peb {g.peb} --page {page} --vid {g.vid} --data {g.data}" for page in pages]
         yield looker.look(None, ["geometry", "far.img"], "".join(f"{line}\n" for line in lines))
         if size == 9 * GIB:
             break
         file.but({last: rules.put_ec(dataclasses.replace(g, vid=64))}).put(looker.path("far.img"))
-        yield looker.look(None, ["geometry", "far.img"], "".join(f"{line} --start 0 --length {last}\n" for line in lines))
+        parts = [f"{line} --start 0 --length {last}\n" for line in lines]
+        yield looker.look(None, ["geometry", "far.img"], "".join(parts))
 
 
 def huge(looker):
-    """Files of 8 TiB, of which no more is read than a device has or a text may have; and a text that is long, mostly by its comments."""
-    few, volume = dataclasses.replace(LEAST, pebs=64), Meaning(LEAST, SEQ, {0: Record(1, 1, 1, 0, b"a", 0)}, {0: {0: noise(1, LEAST.leb)}})
+    """Files of 8 TiB, which are read no further than a device or a text may be long; and a long text, mostly of
+    remarks."""
+    records, contents = {0: Record(1, 1, 1, 0, b"a", 0)}, {0: {0: noise(1, LEAST.leb)}}
+    few, volume = dataclasses.replace(LEAST, pebs=64), Meaning(LEAST, SEQ, records, contents)
     Sparse(HUGE, {}).put(looker.path("huge"))
     looker.put("image", rules.composed(volume, 2))
     # A volume of so many bytes reserves more eraseblocks than there are.
@@ -542,17 +593,22 @@ def huge(looker):
         yield looker.look(few, [command, "huge", "--out", "out"], "cannot read huge\n", 1)
     os.remove(looker.path("huge"))
     looker.put("text", (b"#".ljust(MIB - 1) + b"\n") * 257 + "".join(spec_of(volume)).encode())
-    yield looker.look(LEAST, ["compose", "text", "--seq", SEQ, "--out", "out"], "blocks 3\n", files=[("out", [rules.composed(volume, 0)])])
+    yield looker.look(LEAST, ["compose", "text", "--seq", SEQ, "--out", "out"], "blocks 3\n",
+        files=[("out", [rules.composed(volume, 0)])])
 
 
 def links(looker):
     """An image above 1 GiB that is the output, or should be the pages, by a link. It is read before it is written."""
     g, records = LARGEST, {0: Record(3, 1, 1, 0, b"far", 0)}
-    pieces, text = spread(g, 1)
-    image = Sparse(80 * g.peb, table_parts(g, records, (0, 78)) | leb_parts(g, 79, of_leb(2, 9), pieces)
-        | {77 * g.peb: rules.put_block(g, rules.put_ec(g, 0, SEQ))})
-    normal, read = [rules.normal_image(Meaning(g, SEQ, records, {0: {2: text}}))], list(read_pieces(g, 3, {2: text}))
-    for words, line, right in ((["normalise", "far.img"], "blocks 3\n", normal), (["extract", "far.img", "--id", 0], f"bytes {3 * g.leb}\n", read)):
+    pieces, leb = spread(g, 1)
+    free = {77 * g.peb: rules.put_block(g, rules.put_ec(g, 0, SEQ))}
+    image = Sparse(80 * g.peb, table_parts(g, records, (0, 78)) | leb_parts(g, 79, of_leb(2, 9), pieces) | free)
+    normal = [rules.normal_image(Meaning(g, SEQ, records, {0: {2: leb}}))]
+    read = list(read_pieces(g, 3, {2: leb}))
+    for words, line, right in (
+        (["normalise", "far.img"], "blocks 3\n", normal),
+        (["extract", "far.img", "--id", 0], f"bytes {3 * g.leb}\n", read),
+    ):
         for make in (os.link, os.symlink):
             image.put(looker.path("far.img"))
             make(looker.path("far.img"), looker.path("link"))
@@ -563,9 +619,12 @@ def links(looker):
     os.link(looker.path("far.img"), looker.path("link"))
     new = looker.put("new", noise(1, g.page))
     # A rename would take two free eraseblocks, and there is one.
-    for words, line in ((["change", "far.img", "--id", 0, "--lnum", 2, "--from", new], "cannot write link\n"),
-                        (["rename", "far.img", "--id", 0, "--name", "a"], "refused K9 NoFree\n")):
-        yield looker.look(g, [*words, "--out", "/dev/null", "--pages", "link"], line, 1, files=[("far.img", image.pieces())])
+    for words, line in (
+        (["change", "far.img", "--id", 0, "--lnum", 2, "--from", new], "cannot write link\n"),
+        (["rename", "far.img", "--id", 0, "--name", "a"], "refused K9 NoFree\n"),
+    ):
+        yield looker.look(g, [*words, "--out", "/dev/null", "--pages", "link"], line, 1,
+            files=[("far.img", image.pieces())])
 
 
 FAMILIES = (headers, places, beyond, many, volumes, largest, chips, row, geometry, huge, links)
@@ -574,7 +633,7 @@ FAMILIES = (headers, places, beyond, many, volumes, largest, chips, row, geometr
 def main():
     words = argparse.ArgumentParser(description=__doc__, formatter_class=argparse.RawDescriptionHelpFormatter)
     words.add_argument("--dir", default="/tmp")
-    words.add_argument("--tool", help="the program; the one that ./ubi_tool starts where it is left out")
+    words.add_argument("--tool", help="the program; the one that ./ubi_tool starts by default")
     words.add_argument("families", nargs="*", metavar="FAMILY")
     words = words.parse_args()
     if not {family.__name__ for family in FAMILIES}.issuperset(words.families):
@@ -585,10 +644,10 @@ def main():
     for family in FAMILIES:
         if not words.families or family.__name__ in words.families:
             with tempfile.TemporaryDirectory(dir=words.dir) as folder:
-                for told, is_right in family(Looker(tool, folder)):
+                for what, is_right in family(Looker(tool, folder)):
                     passed, failed = passed + is_right, failed + (not is_right)
                     if not is_right:
-                        print(f"{family.__name__}: {told}", flush=True)
+                        print(f"{family.__name__}: {what}", flush=True)
     finish(passed, failed)
 
 

@@ -1,17 +1,18 @@
 #!/usr/bin/env python3
-"""Refuses each growth of memory of the program in turn, over random images.
+"""Refuses each allocation of the program in turn, with random images.
 
 usage: starve.py [--seed N] [--count N] [--first N] [--dir FOLDER] [--tool PROGRAM]
 
-The images are those of fuzz.py that are accepted, some of them with eraseblocks that are listed as bad. Each command is run over an
-image again and again: of the first run the first growth is refused, of the second the second, and so on until a run meets no
-refusal. Each run that meets one has to print `out of memory` with the status 1, and to leave the output and the pages as they
-were: no file, and no folder. The last one has to answer as with ample memory. check/second/refuse.sh does the same with the program's tests.
+The images are those of fuzz.py that are accepted, some of them with eraseblocks that are listed as bad. Each command is
+run on an image again and again: the first run has its first allocation refused, the second its second, and so on until
+a run meets no refusal. Each run that meets one has to print `out of memory`, end with status 1, and leave the output
+and the pages as they were: no file, and no folder. The last one has to answer as with ample memory.
+check/second/refuse.sh does the same with tests of the libraries.
 
-Without words there are 20 images (--count) of the seed 1 (--seed). They lie in a new folder below FOLDER (/tmp where it is
-left out), which is removed again. Without --tool the program is built first where it isn't yet. It needs a C compiler (cc,
-or what CC names), for a few lines that stand before the C library's malloc and realloc. The last line is 'N passed,
-M failed', of runs, and the exit status is 0 where none failed.
+By default there are 20 images (--count) of the seed 1 (--seed). They lie in a new folder below FOLDER (/tmp by
+default), which is removed afterwards. Without --tool the program is built first, unless it is built already. It needs a
+C compiler (cc, or what CC names), for a few lines that wrap the C library's malloc and realloc. The last line is 'N
+passed, M failed', which counts runs, and the exit status is 0 if none failed.
 """
 import os
 import random
@@ -23,9 +24,10 @@ from fuzz import ROOT, Case, Failure, Maker, built, finish, options, renumbered,
 
 
 def refusing(folder):
-    """The path of a library that refuses one growth, which REFUSE_AT counts from 1."""
+    """The path of a library that refuses one allocation, which REFUSE_AT counts from 1."""
     source, library = os.path.join(ROOT, "check", "second", "refuse.c"), os.path.join(folder, "refuse.so")
-    subprocess.run([os.environ.get("CC", "cc"), "-O1", "-shared", "-fPIC", "-o", library, source, "-ldl"], check=True)
+    compiler = os.environ.get("CC", "cc")
+    subprocess.run([compiler, "-O1", "-shared", "-fPIC", "-o", library, source, "-ldl"], check=True)
     return library
 
 
@@ -45,7 +47,7 @@ image=new
 
 
 class Starved(Case):
-    """An accepted image, and the commands over it."""
+    """An accepted image, and the commands on it."""
 
     def __init__(self, rng, tool, folder, maker):
         super().__init__(rng, tool, folder, maker)
@@ -68,28 +70,30 @@ class Starved(Case):
         yield ["build", self.put("config", CONFIG.encode()), "--out", self.out]
         yield ["normalise", self.path, "--out", self.out]
         yield self.compose_words(image, 1)
-        yield ["change", self.path, "--id", number, "--lnum", "0", "--from", new, "--out", self.out, "--pages", self.pages]
-        yield ["rename", self.path, "--id", number, "--name", "another", "--out", self.out, "--pages", self.pages]
-        yield ["rename", self.path, "--id", number, "--name", "another", "--out", self.out, "--blank", "keep"]
+        common = [self.path, "--id", number, "--out", self.out]
+        yield ["change", *common, "--lnum", "0", "--from", new, "--pages", self.pages]
+        yield ["rename", *common, "--name", "another", "--pages", self.pages]
+        yield ["rename", *common, "--name", "another", "--blank", "keep"]
 
     def run(self, words, **environment):
         ran = subprocess.run([self.tool, *self.whole(words)], capture_output=True, env={**os.environ, **environment})
         left = (taken(self.volumes), self.written(), taken_file(self.pages))
-        return ran.stdout, ran.returncode, left, b"refused a growth" in ran.stderr
+        return ran.stdout, ran.returncode, left, b"refused an allocation" in ran.stderr
 
     def starve(self, words, library):
-        """Refuses each growth of a run. Gives how many there are."""
+        """Refuses each allocation of a run. Returns how many there are."""
         ample, nothing = self.run(words), (None, None, None)
-        growth = 1
+        place = 1
         while True:
-            answer = self.run(words, LD_PRELOAD=library, REFUSE_AT=str(growth))
+            answer = self.run(words, LD_PRELOAD=library, REFUSE_AT=str(place))
             if not answer[3]:
                 if answer != ample:
-                    raise Failure(f"{words[0]} answers {answer[:2]} in place of {ample[:2]}")
-                return growth - 1
+                    raise Failure(f"{words[0]} answers {answer[:2]} and not {ample[:2]}")
+                return place - 1
             if answer[:3] != (b"out of memory\n", 1, nothing):
-                raise Failure(f"{words[0]} answers {answer[:2]} where growth {growth} is refused, and writes {answer[2]!r:.60}")
-            growth += 1
+                written = f"{answer[2]!r:.60}"
+                raise Failure(f"{words[0]} answers {answer[:2]} if allocation {place} is refused, and writes {written}")
+            place += 1
 
 
 def main():

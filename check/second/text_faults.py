@@ -1,15 +1,16 @@
-"""A text of each form of line, and each way that it isn't composed: the family `texts` of hostile.py.
+"""A text with each form of line, and each way in which it is refused: the family `texts` of hostile.py.
 
-A case is a text, the spare eraseblocks that are asked for, and what is expected: the line of a refusal, or the lines of
-`list` that tell the volumes.
+A case is a text, the number of spare eraseblocks that is asked for, and what is expected: the line of a refusal, or the
+lines that `list` prints for the volumes.
 """
+import functools
 import itertools
 
 from rules import Geometry
 
 GEOMETRY = Geometry(1024, 64, 64, 128, 1048576)
 USABLE = 896
-# Line 1 is the first. Line 9 and all below but 12 are the lines that faults are made in, one of each form.
+# Line 1 is the first. Faults are made in line 9 and all below except 12, one of each form.
 TEXT = (
     "# A right text.",
     "volume 0 dynamic 20 1 00 root",
@@ -33,10 +34,12 @@ LISTED = (
     "volume 3 dynamic reserved=2 alignment=1 usable=896 flags=00 updating name=a\\x20name",
     "volume 4 static reserved=1 alignment=1 usable=896 flags=00 damaged name=gone",
 )
-# The causes, in the order in which those of one line are told, and then those of the volumes together.
-CAUSES = ("P1 Word", "P2 Number", "P3 Hex", "P4 Name", "P5 Order", "P6 Record NotEmpty", "P6 Record Negative",
-    "P6 Record Alignment", "P6 Record AlignmentPage", "P7 Twice", "P8 Long", "M1", "M4", "M5", "M6", "C1")
-# Of each form its line; and of each of its words, counted from 0, what breaks which rule.
+# The causes: those of one line in their order, and then those of the volumes together.
+CAUSES = (
+    "P1 Word", "P2 Number", "P3 Hex", "P4 Name", "P5 Order", "P6 Record NotEmpty", "P6 Record Negative",
+    "P6 Record Alignment", "P6 Record AlignmentPage", "P7 Twice", "P8 Long", "M1", "M4", "M5", "M6", "C1",
+)
+# The line of each form; for each of its words, counted from 0, what breaks which rule.
 NO_NUMBERS = ("x", "00", "01", "+1", "-1", "1.", "0x1", "1e1", "4294967296", "18446744073709551616")
 NO_HEX = ("f", "fff", "fg", "0xff", "f.")
 OF_WORDS = {
@@ -47,7 +50,8 @@ OF_WORDS = {
         4: {"P2 Number": NO_NUMBERS, "P6 Record Negative": ("2147483648", "4294967295"),
             "P6 Record Alignment": ("0", "897", "960", "2147483647"), "P6 Record AlignmentPage": ("2", "63", "895")},
         5: {"P3 Hex": ("0", "000", "0000", "0g", "0x")},
-        6: {"P4 Name": ("\\", "a\\", "\\x", "\\x4", "\\x4g", "\\X41", "\\x00", "a\\x00b", "\\n", 128 * "a", 128 * "\\xff")},
+        6: {"P4 Name": ("\\", "a\\", "\\x", "\\x4", "\\x4g", "\\X41", "\\x00", "a\\x00b", "\\n", 128 * "a",
+            128 * "\\xff")},
     },
     10: {
         1: {"P2 Number": NO_NUMBERS, "P5 Order": ("1", "2", "4", "5", "4294967295")},
@@ -58,7 +62,7 @@ OF_WORDS = {
     13: {1: {"P2 Number": NO_NUMBERS, "P5 Order": ("0", "1", "3", "4", "5")}},
     14: {1: {"P2 Number": NO_NUMBERS, "P5 Order": ("0", "1", "2", "4", "5")}},
 }
-# What makes any line a P1: of the line, the line that it becomes.
+# What makes any line a P1: a function from the line to the line that it becomes.
 OF_LINES = (
     lambda line: " " + line,
     lambda line: line + " ",
@@ -73,7 +77,7 @@ OF_LINES = (
     lambda line: line[0].upper() + line[1:],
     lambda line: " # " + line,
 )
-# What gives volumes that have no meaning together: other lines, and what is printed. Volumes are counted by their lines.
+# Volumes that have no meaning together: other lines, and what is printed. Volumes are counted by their lines.
 TOGETHER = (
     ({12: "volume 5 static 1 1 00 broken", 13: "damaged 5"}, "M1 IdRange item=4"),
     ({12: "volume 4294967295 static 1 1 00 broken", 13: "damaged 4294967295"}, "M1 IdRange item=4"),
@@ -89,13 +93,15 @@ TOGETHER = (
 
 
 class Fault:
-    """What is wrong with one line, or with the volumes together: its rank, its line, and how lines are changed for it."""
+    """What is wrong with one line, or with the volumes together: its rank, its line, and how lines are changed for
+    it."""
 
     def __init__(self, line, cause, change, place=None):
         self.line, self.cause, self.change, self.place = line, cause, change, place
         self.rank = (line, CAUSES.index(cause if line in OF_WORDS else cause[:2]))
-        number, name, *behind = cause.split()
-        self.printed = " ".join(("refused", number, name, *([f"line={line}"] if line in OF_WORDS else []), *behind)) + "\n"
+        number, name, *rest = cause.split()
+        place_of_line = [f"line={line}"] if line in OF_WORDS else []
+        self.printed = " ".join(("refused", number, name, *place_of_line, *rest)) + "\n"
 
 
 def with_word(line, place, word):
@@ -109,7 +115,8 @@ def faults():
         for place, causes in places.items():
             for cause, words in causes.items():
                 for word in words:
-                    yield Fault(line, cause, {line: lambda old, place=place, word=word: with_word(old, place, word)}, place)
+                    change = functools.partial(with_word, place=place, word=word)
+                    yield Fault(line, cause, {line: change}, place)
         for change in OF_LINES:
             yield Fault(line, "P1 Word", {line: change})
     for lines, cause in TOGETHER:
@@ -117,7 +124,7 @@ def faults():
 
 
 def changed(*some):
-    """The text with some faults, those of whole lines last."""
+    """The text with some faults; those of whole lines are made last."""
     lines = list(TEXT)
     for fault in sorted(some, key=lambda fault: fault.place is None):
         for line, change in fault.change.items():
@@ -130,7 +137,7 @@ def as_bytes(lines, end="\n"):
 
 
 def representatives():
-    """One fault of each line, place and cause, and all of the volumes together."""
+    """One fault for each line, place and cause, and all faults of the volumes together."""
     seen = set()
     for fault in faults():
         key = (fault.line, fault.place, fault.cause)
@@ -145,7 +152,7 @@ def are_apart(one, other):
 
 
 def refused():
-    """Each fault, each two of them, and each with more spares than the device has room for."""
+    """Each fault, each pair of them, and each with more spares than the device has room for."""
     yield as_bytes(TEXT), 1048570, "refused C1 TooMany\n"
     for fault in faults():
         yield changed(fault), 0, fault.printed
@@ -157,7 +164,7 @@ def refused():
 
 
 def of_bytes():
-    """Each byte in place of the space of a line, in a name, in a remark, and behind the last line."""
+    """Each byte in place of the space of a line, in a name, in a remark, and after the last line."""
     for byte in range(256):
         char = chr(byte)
         front, back = as_bytes(("volume 0 dynamic 1 1 00",), ""), b"root"
@@ -177,7 +184,8 @@ SMALL = "volume 0 dynamic reserved=1 alignment=1 usable=896 flags=00 lebs=0 name
 
 
 def right():
-    """Texts that are composed: without the last newline, with others between, of no line, and at the limits."""
+    """Texts that are composed: without the last newline, with empty lines and remarks, without any line, and at the
+    limits."""
     yield as_bytes(TEXT), 0, LISTED
     yield as_bytes(TEXT, ""), 0, LISTED
     yield as_bytes(TEXT, "\n\n\n# "), 0, LISTED
@@ -186,23 +194,25 @@ def right():
     yield b"\n", 0, ()
     yield b"#", 0, ()
     heading = "volume 0 {} {} {} {} {}"
-    for alignment, usable in (("1", 896), ("64", 896), ("128", 896), ("320", 640), ("512", 512), ("832", 832), ("896", 896)):
+    alignments = {"1": 896, "64": 896, "128": 896, "320": 640, "512": 512, "832": 832, "896": 896}
+    for alignment, usable in alignments.items():
         for flags in ("00", "01", "02", "fF", "Ff"):
-            tells = f"alignment={alignment} usable={usable} flags={flags.lower()}"
+            numbers = f"alignment={alignment} usable={usable} flags={flags.lower()}"
             whole = usable * "5A"
-            yield as_bytes((heading.format("dynamic", 1, alignment, flags, 127 * "n"), f"leb 0 0 {whole}")), 0, (
-                f"volume 0 dynamic reserved=1 {tells} lebs=1 name={127 * 'n'}",)
-            yield as_bytes((heading.format("static", 2, alignment, flags, "n"), f"bytes 0 {whole}{whole}")), 0, (
-                f"volume 0 static reserved=2 {tells} bytes={2 * usable} name=n",)
-            yield as_bytes((heading.format("static", 2, alignment, flags, "n"), f"bytes 0 {whole}", f"bytes 0 {whole}00")), 0, (
-                "refused M6 ContentRange item=0\n")
-            yield as_bytes((heading.format("dynamic", 1, alignment, flags, "n"), f"leb 0 0 {whole}00")), 0, "refused P8 Long line=2\n"
-    for kind in ("dynamic", "static"):
+            dynamic = heading.format("dynamic", 1, alignment, flags, "n")
+            static = heading.format("static", 2, alignment, flags, "n")
+            yield as_bytes((f"{dynamic}{126 * 'n'}", f"leb 0 0 {whole}")), 0, (
+                f"volume 0 dynamic reserved=1 {numbers} lebs=1 name={127 * 'n'}",)
+            yield as_bytes((static, f"bytes 0 {whole}{whole}")), 0, (
+                f"volume 0 static reserved=2 {numbers} bytes={2 * usable} name=n",)
+            yield as_bytes((static, f"bytes 0 {whole}", f"bytes 0 {whole}00")), 0, "refused M6 ContentRange item=0\n"
+            yield as_bytes((dynamic, f"leb 0 0 {whole}00")), 0, "refused P8 Long line=2\n"
+    for kind, count in (("dynamic", "lebs=0"), ("static", "bytes=0")):
         yield as_bytes((heading.format(kind, 1048574, 1, "00", "n"),)), 0, (
-            f"volume 0 {kind} reserved=1048574 alignment=1 usable=896 flags=00 {'lebs' if kind == 'dynamic' else 'bytes'}=0 name=n",)
+            f"volume 0 {kind} reserved=1048574 alignment=1 usable=896 flags=00 {count} name=n",)
         yield as_bytes((heading.format(kind, 1048575, 1, "00", "n"),)), 0, "refused M5 NoSpace\n"
         yield as_bytes((heading.format(kind, 2147483647, 1, "00", "n"),)), 0, "refused M5 NoSpace\n"
-    # A LEB of 0xFF throughout is given by its line all the same, and is no eraseblock.
+    # A LEB that is all 0xFF counts as given by its line, but takes no eraseblock.
     blank = heading.format("dynamic", 1, 1, "00", "n")
     yield as_bytes((blank, "leb 0 0 ff")), 0, (f"{SMALL}n",)
     yield as_bytes((blank, "leb 0 0 ff", "leb 0 0 ff")), 0, "refused P7 Twice line=3\n"

@@ -1,8 +1,8 @@
 """A second reading of docs/SPEC-FORMAT.md: which volumes a text describes, or why it isn't read or composed.
 
-It was written from that document and not from the program, as rules.py was from docs/FORMAT.md. Each rule stands once, in
-the document's words, and looks at its line and at all lines above it. `Described` is a text that is composed; a refusal is
-the exception `Refused` of rules.py.
+It was written from that document and not from the program, as rules.py was from docs/FORMAT.md. It says each rule once,
+in the document's words; a rule looks at its line and at all lines above it. `Described` is a text that is composed; a
+refusal is the exception `Refused` of rules.py.
 """
 import dataclasses
 import re
@@ -18,7 +18,8 @@ FORMS = {
     b"updating": ("id",),
 }
 KINDS = {b"dynamic": 1, b"static": 2}
-NUMBER, HEX, FLAGS = re.compile(rb"0|[1-9][0-9]*"), re.compile(rb"([0-9A-Fa-f]{2})+"), re.compile(rb"[0-9A-Fa-f]{2}")
+NUMBER = re.compile(rb"0|[1-9][0-9]*")
+HEX, FLAGS = re.compile(rb"([0-9A-Fa-f]{2})+"), re.compile(rb"[0-9A-Fa-f]{2}")
 BYTE_OF_NAME = re.compile(rb"\\x([0-9A-Fa-f]{2})|([!-\[\]-~])")
 NAME = re.compile(rb"(\\x[0-9A-Fa-f]{2}|[!-\[\]-~])+")
 
@@ -36,7 +37,7 @@ class Line:
 
 
 class Fault(Exception):
-    """The cause that a line has, and what is said behind its number."""
+    """The cause that a line has, and what is printed after its number."""
 
 
 def kind_of(word):
@@ -66,7 +67,8 @@ def flags_of(word):
 def name_of(word):
     if not NAME.fullmatch(word):
         raise Fault("P4 Name")
-    name = b"".join(bytes.fromhex(digits.decode()) if digits else plain for digits, plain in BYTE_OF_NAME.findall(word))
+    found = BYTE_OF_NAME.findall(word)
+    name = b"".join(bytes.fromhex(digits.decode()) if digits else plain for digits, plain in found)
     if len(name) > 127 or 0 in name:
         raise Fault("P4 Name")
     return name
@@ -76,7 +78,7 @@ READERS = {"id": number_of, "number": number_of, "kind": kind_of, "hex": hex_of,
 
 
 def read_line(raw):
-    """What a line says by itself. Of several causes the first stands, which is the one with the least number."""
+    """What a line says by itself. If there are several causes, the one with the least number counts."""
     words = raw.split(b" ")
     if any(not 0x20 <= byte <= 0x7E for byte in raw) or b"" in words:
         raise Fault("P1 Word")
@@ -95,7 +97,7 @@ def read_line(raw):
 
 
 def heading(above, number):
-    """The line of a volume; None where there is none."""
+    """The line of a volume; None if there is none."""
     return next((line for line in above if line.said == b"volume" and line.volume == number), None)
 
 
@@ -110,7 +112,7 @@ def record_of(line):
 
 
 def judge_volume(geometry, above, line):
-    """What is wrong with the line of a volume behind those above it."""
+    """Raises what is wrong with the line of a volume after those above it."""
     if heading(above, line.volume) is not None:
         raise Fault("P5 Order")
     _, _, reserved, alignment, _, _ = line.values
@@ -125,7 +127,7 @@ def judge_volume(geometry, above, line):
 
 
 def judge_content(geometry, above, line):
-    """What is wrong with another line behind those above it."""
+    """Raises what is wrong with another line after those above it."""
     head = heading(above, line.volume)
     if head is None:
         raise Fault("P5 Order")
@@ -154,14 +156,14 @@ def read_lines(geometry, text):
             judge = judge_volume if line.said == b"volume" else judge_content
             judge(geometry, above, line)
         except Fault as fault:
-            cause, *behind = fault.args
-            raise Refused(" ".join((cause, f"line={number}", *behind))) from None
+            cause, *rest = fault.args
+            raise Refused(" ".join((cause, f"line={number}", *rest))) from None
         above.append(line)
     return above
 
 
 def content_of(geometry, record, others):
-    """What a volume reads, by its other lines."""
+    """The contents of a volume, by its other lines."""
     if others and others[0].said in (b"damaged", b"updating"):
         return others[0].said.decode()
     if record.kind == 2:
@@ -170,7 +172,7 @@ def content_of(geometry, record, others):
 
 
 def judge_together(geometry, volumes):
-    """Why volumes, each a number, a record and a content, have no meaning together."""
+    """Raises why volumes, each a number, a record and its contents, have no meaning together."""
     for item, (number, _, _) in enumerate(volumes):
         if number >= geometry.slots:
             raise Refused(f"M1 IdRange item={item}")
@@ -188,7 +190,7 @@ def judge_together(geometry, volumes):
 
 
 class Described(rules.Meaning):
-    """What a text describes, with the number that is given beside it."""
+    """What a text describes, with the given image sequence number."""
 
     def __init__(self, geometry, text, image_seq=0):
         lines = read_lines(geometry, text)
@@ -209,5 +211,5 @@ class Described(rules.Meaning):
 
 
 def most(geometry):
-    """How many bytes a text may have: a file that is longer can't be read."""
+    """The most bytes that a text may have: a longer file can't be read."""
     return 4 * geometry.peb * geometry.pebs + 65536

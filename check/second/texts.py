@@ -1,43 +1,44 @@
 #!/usr/bin/env python3
-"""Compares what `compose` answers of random texts with what docs/SPEC-FORMAT.md says, as check/second/text_rules.py reads it.
+"""Compares the answers of `compose` for random texts with docs/SPEC-FORMAT.md, as check/second/text_rules.py reads it.
 
 usage: texts.py [--seed N] [--count N] [--first N] [--dir FOLDER] [--tool PROGRAM]
 
-A text describes random volumes of all kinds and states: its lines in a random order, so far as the order is free, names and
-hexadecimal digits in random forms, with remarks and empty lines between, the last newline there or not. Three of four texts
-are then changed up to three times: a word, a line or a byte, the spaces, the ends of the lines, or the length.
-Of each text `compose`, also with spares and with an image sequence number, has to print the line of the first cause and write
-nothing; or to write what the rules give, byte for byte. Then `list` and `extract` of that say what the text says, and `same`
-compares it with the image without spares, with that of another number, which is different, and with that of another text. A
-text that wasn't changed has to read as the volumes that it was made from.
+A text describes random volumes of all kinds and states: its lines are in a random order, as far as the order is free,
+names and hexadecimal digits in random forms, with remarks and empty lines between, and with or without the last
+newline. Three of four texts are then changed up to three times: a word, a line or a byte, the spaces, the line ends, or
+the length. For each text `compose`, also with spares and with an image sequence number, has to print the line of the
+first cause and write nothing; or to write what the rules give, byte for byte. Then `list` and `extract` of that have to
+say what the text says, and `same` compares it with the image without spares, with that of another number, which is
+different, and with that of another text. A text that wasn't changed has to read as the volumes that it was made from.
 
-Without words there are 500 texts (--count) of the seed 1 (--seed). They lie in a new folder below FOLDER (/tmp where it is
-left out), which is removed again. Without --tool the program is built first where it isn't yet. Each cause is counted. The last line is
-'N passed, M failed', and the exit status is 0 where none failed; a text that failed can be made again by its number.
+By default there are 500 texts (--count) of the seed 1 (--seed). They lie in a new folder below FOLDER (/tmp by
+default), which is removed afterwards. Without --tool the program is built first, unless it is built already. It counts
+each cause. The last line is 'N passed, M failed', and the exit status is 0 if none failed; a text that failed can be
+made again by its number.
 """
-import collections
 import re
 
 import rules
 import text_rules
-from fuzz import Failure, Maker, Runner, built, far, finish, given, options, run_cases
+from fuzz import Failure, Maker, Runner, built, cased, far, finish, given, options, print_causes, run_cases
 from rules import Refused
 from text_rules import Described
 
-NUMBERS = ("0", "00", "01", "007", "1", "2", "3", "4", "5", "+1", "-1", "0x1", "1.0", "64", "127", "128", "192", "896", "897",
-    "2147483647", "2147483648", "4294967295", "4294967296", "4294967297", "18446744073709551616", "18446744073709551617")
-OTHERS = ("", "#", "x", "dynamic", "static", "Static", "volume", "leb", "LEB", "bytes", "damaged", "updating", "f", "fg", "FF",
-    "000", "\\x41", "\\x0A", "a" * 127, "a" * 128, "\\xff" * 127, "\\xFF" * 128)
+NUMBERS = (
+    "0", "00", "01", "007", "1", "2", "3", "4", "5", "+1", "-1", "0x1", "1.0", "64", "127", "128", "192", "896", "897",
+    "2147483647", "2147483648", "4294967295", "4294967296", "4294967297", "18446744073709551616",
+    "18446744073709551617",
+)
+OTHERS = (
+    "", "#", "x", "dynamic", "static", "Static", "volume", "leb", "LEB", "bytes", "damaged", "updating", "f", "fg",
+    "FF", "000", "\\x41", "\\x0A", "a" * 127, "a" * 128, "\\xff" * 127, "\\xFF" * 128,
+)
 SEQS = (0, 1, 0x12345678, 0xFFFFFFFF)
 IN_NAMES = ("\\", "\\x", "\\x4", "\\x4g", "\\X41", "\\x00", "\\x01", "\\xaF", "\\\\", "\\n", "~", "!")
 
 
-def cased(rng, digits):
-    return "".join(rng.choice((digit, digit, digit.upper())) for digit in digits)
-
-
 def shown(rng, name):
-    """A name as it may stand in a text: any byte in two digits, and most of those that may as they are."""
+    """A name as a text may have it: any byte as two digits, and most printable ones as they are."""
     def of(byte):
         is_plain = 0x21 <= byte <= 0x7E and byte != 0x5C and rng.random() < 0.9
         return chr(byte) if is_plain else "\\x" + cased(rng, f"{byte:02x}")
@@ -46,7 +47,7 @@ def shown(rng, name):
 
 
 class Writer:
-    """Makes random volumes, a text that describes them, and the number that is given beside it."""
+    """Makes random volumes, a text that describes them, and the image sequence number that goes with it."""
 
     def __init__(self, rng):
         self.rng, maker = rng, Maker(rng)
@@ -60,11 +61,12 @@ class Writer:
         if record.marker:
             return "updating"
         if record.kind == 1:
-            lebs = {lnum: self.maker.text(usable) for lnum in range(record.reserved) if rng.random() < 0.5}
+            lebs = {lnum: self.maker.contents(usable) for lnum in range(record.reserved) if rng.random() < 0.5}
             return {lnum: data for lnum, data in lebs.items() if not rules.is_blank(data)}
         if rng.random() < 0.2:
             return "damaged"
-        return rng.randbytes(rng.choice((0, 1, usable, usable * record.reserved, rng.randrange(usable * record.reserved + 1))))
+        most = usable * record.reserved
+        return rng.randbytes(rng.choice((0, 1, usable, most, rng.randrange(most + 1))))
 
     def heading(self, number):
         r = self.meant.records[number]
@@ -81,13 +83,14 @@ class Writer:
             return [f"bytes {number} {cased(self.rng, piece.hex())}".encode() for piece in self.pieces(content)]
         lines = [f"leb {number} {lnum} {cased(self.rng, self.first_of(data).hex())}" for lnum, data in content.items()]
         record = self.meant.records[number]
+        most = record.usable(self.geometry)
         blank = [lnum for lnum in range(record.reserved) if lnum not in content and self.rng.random() < 0.2]
-        lines += [f"leb {number} {lnum} {'ff' * self.rng.randrange(1, record.usable(self.geometry) + 1)}" for lnum in blank]
+        lines += [f"leb {number} {lnum} {'ff' * self.rng.randrange(1, most + 1)}" for lnum in blank]
         self.rng.shuffle(lines)
         return [line.encode() for line in lines]
 
     def first_of(self, data):
-        """The bytes of a LEB that a line gives: all, or as few as may be."""
+        """The bytes of a LEB that a line gives: all, or as few as possible."""
         return data if self.rng.random() < 0.5 else data.rstrip(b"\xFF")
 
     def pieces(self, data):
@@ -97,12 +100,13 @@ class Writer:
             data = data[size:]
 
     def mixed(self, volumes):
-        """The lines of all volumes, each volume's in their order, with lines between that say nothing."""
+        """The lines of all volumes, those of each volume in their order, with lines between that say nothing."""
         lines = []
         while any(volumes):
             lines.append(self.rng.choice([volume for volume in volumes if volume]).pop(0))
             if self.rng.random() < 0.1:
-                lines.append(self.rng.choice((b"", b"#", b"# a remark", b"#" + self.rng.randbytes(9).replace(b"\n", b"\r"))))
+                remark = b"#" + self.rng.randbytes(9).replace(b"\n", b"\r")
+                lines.append(self.rng.choice((b"", b"#", b"# a remark", remark)))
         return lines
 
 
@@ -118,10 +122,13 @@ class Mutator:
         of_words = (self.word_changed,) * 6 + (self.word_added, self.word_removed, self.words_swapped, self.spaced)
         of_lines = (self.line_doubled, self.line_removed, self.lines_swapped) + (self.line_added, self.volume_added) * 4
         self.ways = of_words + of_lines
-        self.of_bytes = (self.byte_changed, self.byte_changed, self.byte_added, self.byte_removed, self.cut_off, self.returned, self.filled)
+        self.of_bytes = (
+            self.byte_changed, self.byte_changed, self.byte_added, self.byte_removed, self.cut_off, self.returned,
+            self.filled,
+        )
 
     def mutate(self, lines):
-        """The bytes of the text of some lines, and whether something was done to them."""
+        """The bytes of a text with these lines, and whether something was done to them."""
         rng, lines = self.rng, list(lines)
         ways = rng.choice((0, 1, 1, 2, 2, 3, 4))
         for _ in range(max(0, ways - 1)):
@@ -134,7 +141,7 @@ class Mutator:
         return self.rng.randrange(len(lines))
 
     def change_words(self, lines, change):
-        """Changes the words of a line that isn't a remark, where there is one."""
+        """Changes the words of a line that isn't a remark, if there is one."""
         said = [at for at, line in enumerate(lines) if line and not line.startswith(b"#")]
         if said:
             at = self.rng.choice(said)
@@ -143,14 +150,16 @@ class Mutator:
             lines[at] = b" ".join(words)
 
     def other_word(self, word):
-        """A word in place of another one: a number near it or one of those above, or its text with one byte changed."""
+        """A word in place of another one: a number near it, one of the words above, or the same with one byte
+        changed."""
         rng = self.rng
         if re.fullmatch(rb"[0-9]{1,10}", word) and rng.random() < 0.8:
             near = int(word) + rng.choice((-1, 1, 1, self.geometry.page))
             return rng.choice((str(max(0, near)), str(max(0, near)), rng.choice(NUMBERS))).encode()
         byte = bytes([rng.randrange(0x21, 0x7F)])
         at = rng.randrange(len(word) + 1)
-        return rng.choice((rng.choice(OTHERS).encode(), word + byte, word[:-1], word[:at] + byte + word[at + 1 :], word.swapcase()))
+        other, changed = rng.choice(OTHERS).encode(), word[:at] + byte + word[at + 1 :]
+        return rng.choice((other, word + byte, word[:-1], changed, word.swapcase()))
 
     def other_name(self, word):
         at = self.rng.randrange(len(word) + 1)
@@ -160,7 +169,8 @@ class Mutator:
         def change(words):
             at = self.rng.randrange(len(words))
             is_name = words[0] == b"volume" and at == 6
-            words[at] = self.other_name(words[at]) if is_name and self.rng.random() < 0.7 else self.other_word(words[at])
+            other = self.other_name if is_name and self.rng.random() < 0.7 else self.other_word
+            words[at] = other(words[at])
 
         self.change_words(lines, change)
 
@@ -210,7 +220,8 @@ class Mutator:
         names = [line.split(b" ")[-1] for line in lines if line.startswith(b"volume ")] or [b"new"]
         reserved = rng.choice((0, 1, 1, 1, 2, 9, 38, 2**31 - 1, 2**31, 2**32 - 1))
         alignment = rng.choice((0, 1, 1, 1, 1, page, 2 * page, 2, leb, leb + page, 2**31))
-        front = f"volume {rng.randrange(self.geometry.slots + 2)} {rng.choice(('dynamic', 'static'))} {reserved} {alignment} 00 "
+        number, kind = rng.randrange(self.geometry.slots + 2), rng.choice(("dynamic", "static"))
+        front = f"volume {number} {kind} {reserved} {alignment} 00 "
         lines.insert(rng.randrange(len(lines) + 1), front.encode() + rng.choice((b"new", rng.choice(names))))
 
     def byte_changed(self, text):
@@ -219,7 +230,8 @@ class Mutator:
 
     def byte_added(self, text):
         at = self.rng.randrange(len(text) + 1)
-        return text[:at] + self.rng.choice((b" ", b"\n", b"\r", b"\t", b"\0", b"#", b"0", self.rng.randbytes(1))) + text[at:]
+        new = self.rng.choice((b" ", b"\n", b"\r", b"\t", b"\0", b"#", b"0", self.rng.randbytes(1)))
+        return text[:at] + new + text[at:]
 
     def byte_removed(self, text):
         at = self.place(text)
@@ -229,17 +241,17 @@ class Mutator:
         return text[: self.place(text)]
 
     def returned(self, text):
-        """The ends of the lines as a file of Windows has them, of all lines or of one."""
+        """A text with line ends of Windows, in all lines or in one."""
         return text.replace(b"\n", b"\r\n") if self.rng.random() < 0.5 else text.replace(b"\n", b"\r\n", 1)
 
     def filled(self, text):
-        """As long as a text may be, or longer by a byte: by a remark behind it."""
+        """A text that is as long as a text may be, or longer by a byte, with a remark at the end."""
         room = text_rules.most(self.geometry) + self.rng.choice((0, 1)) - len(text)
         return text + b"\n#".ljust(room, b"-")[:room]
 
 
 class Case(Runner):
-    """A text, and what the program is to answer of it."""
+    """A text, and the answers that the program has to give for it."""
 
     def __init__(self, rng, tool, folder):
         self.writer = Writer(rng)
@@ -253,10 +265,11 @@ class Case(Runner):
 
     def words(self, seq, spares):
         """The words that compose the text with a number and spare eraseblocks."""
-        return ["compose", self.path, "--out", self.out, *given(self.rng, "--seq", seq), *given(self.rng, "--spares", spares)]
+        words = ["compose", self.path, "--out", self.out]
+        return words + given(self.rng, "--seq", seq) + given(self.rng, "--spares", spares)
 
     def look(self):
-        """Compares each answer. Gives the cause of a refusal, or 'composed'."""
+        """Compares each answer. Returns the cause of a refusal, or 'composed'."""
         words = self.words(self.seq, self.spares)
         if len(self.text) > text_rules.most(self.geometry):
             self.expect(words, f"cannot read {self.path}\n", 1)
@@ -269,8 +282,8 @@ class Case(Runner):
             if not self.is_changed and str(refused) not in ("M5 NoSpace", "C1 TooMany"):
                 raise Failure(f"a right text is refused: {refused}") from None
             self.expect(words, f"refused {refused}\n", 1)
-            cause, _, behind = str(refused).partition(" line=")
-            return " ".join((cause, *behind.split()[1:]))
+            cause, _, rest = str(refused).partition(" line=")
+            return " ".join((cause, *rest.split()[1:]))
         self.expect(words, f"blocks {len(image) // self.geometry.peb}\n", 0, image)
         self.look_composed(described, image)
         return "composed"
@@ -280,9 +293,9 @@ class Case(Runner):
             raise Failure("a right text isn't read as the volumes that it was made from")
 
     def look_composed(self, described, image):
-        """Compares what is read of a composed image with what the text says."""
+        """Compares what is read from a composed image with what the text says."""
         if rules.Image(self.geometry, image).meaning() != described.meaning():
-            raise Failure("the two readings differ over the composed image")
+            raise Failure("the two readings of the composed image differ")
         path = self.put("composed", image)
         self.expect(["list", path], "".join(rules.list_lines(described)), 0)
         self.look_read(path, described, self.rng.choice((*described.records, 127)))
@@ -291,29 +304,27 @@ class Case(Runner):
         self.look_other(described, path)
 
     def look_number(self, path):
-        """Composes the text with another number, and compares with that."""
+        """Composes the text with another number, and compares with the result."""
         seq = self.rng.choice((*(seq for seq in SEQS if seq != self.seq), self.seq ^ 1 << self.rng.randrange(32)))
         image = rules.composed(Described(self.geometry, self.text, seq), 0)
         self.expect(self.words(seq, 0), f"blocks {len(image) // self.geometry.peb}\n", 0, image)
         self.expect(["same", path, self.put("other", image)], "different\n", 1)
 
     def look_other(self, described, path):
-        """Compares with what another text of the same lines describes, where that is composed."""
+        """Compares with what another text from the same lines describes, if that is composed."""
         try:
             other = Described(self.geometry, self.mutator.mutate(self.writer.lines)[0], self.seq)
         except Refused:
             return
-        is_same = other.meaning() == described.meaning()
-        image = rules.composed(other, 0)
-        self.expect(["same", path, self.put("other", image)], "same\n" if is_same else "different\n", 0 if is_same else 1)
+        answer = ("same\n", 0) if other.meaning() == described.meaning() else ("different\n", 1)
+        self.expect(["same", path, self.put("other", rules.composed(other, 0))], *answer)
 
 
 def main():
     words = options(__doc__, 500)
     tool = built(words.tool)
     answers, failed = run_cases(words, {"": (lambda rng, folder: Case(rng, tool, folder).look(), words.count)})
-    for cause, count in sorted(collections.Counter(re.sub(r"=\d+", "", answer) for answer in answers).items()):
-        print(f"{count:>6} {cause}")
+    print_causes(answers)
     finish(len(answers), failed)
 
 

@@ -1,16 +1,17 @@
 #!/usr/bin/env python3
-"""Compares what the program answers of a view of a file (--start, --length, --oob, --bad) with what it answers of a file that holds just the
-bytes that are seen, which are made here, by docs/FORMAT.md.
+"""Compares the program's answers for a view of a file (--start, --length, --oob, --bad) with its answers for a file
+that holds just the bytes of the view, which are made here, by docs/FORMAT.md.
 
 usage: views.py [--seed N] [--count N] [--tool PROGRAM]
 
-A file is an image with junk before and behind it, and with out-of-band bytes behind each page, or not; now and then it is cut. The words
-say so, or something else: other places, lengths and numbers of out-of-band bytes, at the edges of the file and far out. Each is asked of
-the file and of a pipe, by `check`, `list`, `show`, `normalise`, `extract` and `same`; and of a part by `geometry`. What can't be seen so
-has to be refused by the first cause that stands, F7 or F8, with its number, and no output may be there then.
+A file is an image with junk before and after it, and with out-of-band bytes after each page, or without; now and then
+it is cut. The words say so, or something else: other places, lengths and numbers of out-of-band bytes, at the edges of
+the file and far out. `check`, `list`, `show`, `normalise`, `extract`, `rename` and `same` read each view from the file
+and from a pipe, and `geometry` reads a part. An impossible view has to be refused for the first cause that applies, F7
+or F8, with its number, and no output may be written then.
 
-Without words there are 500 files of the seed 1. Without --tool the program is built first where it isn't yet. The last line is 'N passed,
-M failed', and the exit status is 0 where none failed.
+By default there are 500 files of the seed 1. Without --tool the program is built first, unless it is built already. The
+last line is 'N passed, M failed', and the exit status is 0 if none failed.
 """
 import argparse
 import random
@@ -26,16 +27,16 @@ NUMBERS = ['--peb', str(PEB), '--page', str(PAGE), '--pebs', str(PEBS)]
 
 
 def laid(rng, oob):
-    """A file in which an image lies, the place of the image and how many bytes it has there."""
+    """A file in which an image lies, the place of the image and its number of bytes there."""
     image = IMAGE if rng.random() < 0.8 else IMAGE + b'\xff' * PEB * rng.randrange(1, 40)
     pages = b''.join(image[at:at + PAGE] + rng.randbytes(oob) for at in range(0, len(image), PAGE))
     before = rng.randbytes(rng.choice([0, 0, 1, PEB, rng.randrange(5000)]))
-    behind = rng.randbytes(rng.choice([0, 0, 1, rng.randrange(5000)]))
-    return before + pages + behind, len(before), len(pages)
+    after = rng.randbytes(rng.choice([0, 0, 1, rng.randrange(5000)]))
+    return before + pages + after, len(before), len(pages)
 
 
 def near(rng, number, file):
-    """A number that may be that, or another."""
+    """The number, or another one."""
     kind = rng.random()
     if kind < 0.6:
         return number
@@ -45,7 +46,7 @@ def near(rng, number, file):
 
 
 class View:
-    """A view: a place, a length or none, how many out-of-band bytes, and the words that say so."""
+    """A view: a place, a length or none, the number of out-of-band bytes, and the words that say so."""
 
     def __init__(self, start, length, oob):
         self.start, self.length, self.oob = start, length, oob
@@ -57,7 +58,8 @@ class View:
         return words + (['--oob', str(self.oob)] if self.oob else [])
 
     def refusal(self, file, is_pipe, device):
-        """The line of a file that can't be seen so; or none. Of a pipe no more is read, and looked for, than the device has and a page."""
+        """The line that refuses a view that is impossible; None if it is possible. No more is read from a pipe, and
+        missed, than the device and a page have."""
         count, length = len(file), self.length
         if is_pipe:
             most = (device // PAGE + 1) * (PAGE + self.oob)
@@ -69,7 +71,7 @@ class View:
         return f'refused F8 Pages rest={rest}\n' if self.oob and rest else None
 
     def seen(self, file):
-        """The bytes that are seen."""
+        """The bytes of the view."""
         part = file[self.start:] if self.length is None else file[self.start:self.start + self.length]
         return b''.join(part[at:at + PAGE] for at in range(0, len(part), PAGE + self.oob))
 
@@ -81,13 +83,15 @@ def run(tool, words, stdin=None):
 
 
 def placed(lines, start, length, is_whole):
-    """The lines of `geometry` of a part of so many bytes, as they are for the file around it, if it was looked at to its end or not."""
+    """The lines of `geometry` for a part of so many bytes, as they are for the file around it; IS_WHOLE: the part goes
+    to the end of the file."""
     there = []
     for line in lines.splitlines():
         numbers, _, place = line.partition(' --start ')
         at, _, count = place.partition(' --length ')
         at, count = start + int(at or 0), int(count or length)
-        there.append(numbers if (at, count) == (0, start + length) and is_whole else f'{numbers} --start {at} --length {count}')
+        is_all = is_whole and (at, count) == (0, start + length)
+        there.append(numbers if is_all else f'{numbers} --start {at} --length {count}')
     return ''.join(line + '\n' for line in there)
 
 
@@ -105,7 +109,7 @@ class Case:
         self.bad = ['--bad', rng.choice(['0', '3', '1-2,4', '9', '']) + ''] if rng.random() < 0.3 else []
 
     def compare(self, words, is_pipe, view, device, numbers):
-        """Compares an answer: words with the place of the image left open."""
+        """Compares an answer to words in which `{image}` stands for the image."""
         raw, seen, out, want_out = (self.folder / name for name in ('raw', 'seen', 'out', 'want'))
         for path in (out, want_out):
             path.unlink(missing_ok=True)

@@ -1,15 +1,16 @@
-# What the fake tools of carry_out.py share: a file plays the chip /dev/mtd0. To be read by them, not to be run.
+# What the fake tools of carry_out.py share: a file simulates the chip /dev/mtd0. They source this file; it isn't run
+# itself.
 #
 # The folder FAKE_CHIP has
 #   mtd0     the bytes of the chip; DEVICE of the script
 #   bad      the numbers of the eraseblocks that are bad
-#   locked   of those that are locked
+#   locked   the numbers of the eraseblocks that are locked
 #   unread   the numbers of the pages, counted over the whole chip, whose bits ECC can't correct
-#   flipped  of those of which it corrects some
+#   flipped  the numbers of the pages in which it corrects some bits
 #   fault    a line `N HOW`: what goes wrong with the write number N, an erase or a program, counted from 1
 #   mtdinfo  a word: what goes wrong with mtdinfo
 #   log      a line for each write, `erase P` or `program OFFSET LENGTH`
-#   blank    an eraseblock of 0xFF
+#   blank    an eraseblock of 0xFF bytes
 # The sizes are those of $CARRY_OUT_ROOT/sys/class/mtd/mtd0. FAKE_DD is the real dd.
 # shellcheck shell=sh disable=SC2034
 chip=$FAKE_CHIP
@@ -20,7 +21,7 @@ read -r peb < "$class/erasesize"
 read -r page < "$class/writesize"
 read -r sub < "$class/subpagesize"
 
-# Whether a list of the chip has a number.
+# Whether a list in the chip's folder has a number.
 listed() { # LIST NUMBER
   while read -r one; do
     [ "$one" != "$2" ] || return 0
@@ -42,7 +43,7 @@ count_write() { # LINE
   fi
 }
 
-# Copies bytes of a file, or of the standard input, to a place of the chip.
+# Copies standard input to a place of the chip.
 store() { # OFFSET LENGTH
   "$FAKE_DD" of="$device" bs="$sub" seek=$(($1 / sub)) count=$(($2 / sub)) conv=notrunc iflag=fullblock 2> /dev/null
 }
