@@ -73,7 +73,9 @@ fn is_written(
         }
         Err(error) => {
             assert_eq!(rt; error, ToolError::Memory);
-            assert!(rt; !written.iter().any(|byte| *byte != 0));
+            for byte in written {
+                assert!(rt; *byte == 0);
+            }
             false
         }
     }

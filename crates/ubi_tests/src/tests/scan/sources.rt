@@ -172,6 +172,6 @@ fn scans_a_source_that_changes(rt: HostRuntime) -> Result<(), Fail> {
     let mut source = ChangingSource::new(first.as_slice(), then.as_slice(), 2);
     // Eraseblock 1 was a member when its headers were read, and is none when it meets eraseblock 2.
     let found = winner(scan_from(alloc, &small()?, &mut source));
-    assert!(rt; found.is_some_and(|p| p < 3));
+    assert!(rt; matches!(found, Some(0..=2)));
     Ok(())
 }
