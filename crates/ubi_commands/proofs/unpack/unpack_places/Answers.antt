@@ -36,7 +36,7 @@ returns-in-Ok-clause-image g c = λ bytes holds.
     let old = g.D.Disk.files c.unpack_volumes.new.disk in
     let new = g.D.Disk.files c.write_new.new.disk in
     let text = c.as_slice.ensures.value ∙ config.text_is
-        ∙ ap (λ (z : Sizes). config_in z c.args.places.now) c.requires.places.sizes in
+    ∙ ap (λ (z : Sizes). config_in z c.args.places.now) c.requires.places.sizes in
     all_done _ c.args.places.now p _ c.requires.places.within c.args.dir.now c.in_ok-folder.folder.path.now _ old c.in_ok-outcome.outcome
     c.in_ok-folder.ensures.path new s c.as_str.result.now c.requires.places.sizes (c.as_str.ensures.value ∙ config.path)
     (rw c.in-None.is at (c.in_ok-unpack_volumes.ensures.ends bytes holds p))
