@@ -1,6 +1,6 @@
 -- The steps of a plan that avoids something touch none of it: what is taken isn't avoided, since the plan sees that as
 -- used; and what is given up isn't, since it holds a LEB, and the listed eraseblocks begin blank.
-use Rattle.ubi_change.proofs.Prelude.{◌≡◌, ℕ, zero, suc, ◌<◌, ◌≤◌, Bool, true, false, List, [], ◌∷◌, length, take, get_or, refl, ap, sym, ◌∙◌, subst, arith, ◌&&◌, ◌||◌, IfSome, None, Option, Some, option_map, slice_get, option_map_or, IsGeometry, Sizes, Image, block, ec, eraseblocks, of_blocks, Leb, Wins, layout, Records, IsAttached, BlockStateIs, AttachValue, records_of, BlockState, Volume, found_wins, TouchesOnly, given_up, needs, plan_of, taken, first_cause, rename_plan, MayBeNamed, ReadBlank, MayTouch, Avoided, Avoids, avoiding, is_avoided, is_blank_one, is_listed, state_avoiding, target, ec_at, is_unused, stays, takeable, Step}
+use Rattle.ubi_change.proofs.Prelude.{ready_ec, EcHeader, ◌≡◌, ℕ, zero, suc, ◌<◌, ◌≤◌, Bool, true, false, List, [], ◌∷◌, length, take, get_or, refl, ap, sym, ◌∙◌, subst, arith, ◌&&◌, ◌||◌, IfSome, None, Option, Some, option_map, slice_get, option_map_or, IsGeometry, Sizes, Image, block, ec, eraseblocks, of_blocks, Leb, Wins, layout, Records, IsAttached, BlockStateIs, AttachValue, records_of, BlockState, Volume, found_wins, TouchesOnly, given_up, needs, plan_of, taken, first_cause, rename_plan, MayBeNamed, ReadBlank, MayTouch, Avoided, Avoids, avoiding, is_avoided, is_blank_one, is_listed, state_avoiding, target, ec_at, is_unused, stays, takeable, Step}
 use Rattle.std.specs.Prelude.{not}
 use Rattle.std.specs.FinMap as finite
 use Rattle.ubi_media.specs.declared.ec.EcRead.TheVariants as ec_read
@@ -93,12 +93,12 @@ module _ (image : Image) (av : Avoided) (from : AttachValue) (att : IsAttached i
       (takeable_each s bs a.states))
 
   given_may : (id lnum : ℕ) → needs s bs a id lnum ≤ length (takeable s bs a.states)
-      → MayTouch s bs av (given_up s bs a id lnum)
+      → MayTouch s bs av (given_up s bs a id lnum).0
   given_may id lnum enough = by_winner (finite.get a.scan.winners (id, lnum)) refl enough
     where
       by_winner : (o : Option ℕ) → finite.get a.scan.winners (id, lnum) ≡ o
           → option_map_or (λ _. 1) o 2 ≤ length (takeable s bs a.states)
-          → MayTouch s bs av (option_map_or (λ p. p) o (taken s bs a 0))
+          → MayTouch s bs av (option_map_or {U = ℕ × Option EcHeader} (λ p. (p, ec_at s bs p)) o (taken s bs a 0, ready_ec s bs a (taken s bs a 0))).0
       by_winner (Some p) e l = winner_may s bs av (records_of from.meaning) (id, lnum) p blank
           (found_wins s bs a.scan att.scan (id, lnum) p e)
       by_winner None e l = taken_may (taken s bs a 0) (may_be_taken s bs a.states 0 (omega arith))
@@ -120,7 +120,7 @@ module _ (image : Image) (av : Avoided) (from : AttachValue) (att : IsAttached i
         allowed = allowed;
       } in
       let enough = (no_cause change).enough in
-      avoids_each s bs av (given_up s bs a id lnum ∷ take (needs s bs a id lnum) (takeable s bs a.states))
+      avoids_each s bs av ((given_up s bs a id lnum).0 ∷ take (needs s bs a id lnum) (takeable s bs a.states))
       (plan_of s bs a v.entry id lnum new)
       (plan_touches s bs a v.entry id lnum new enough)
       (given_may id lnum enough, takeable_may (needs s bs a id lnum))

@@ -1,5 +1,5 @@
 -- Once the copy is whole, a plan erases the eraseblock that is given up, unless that is then worn or the sole carrier.
-use Rattle.ubi_change.proofs.Prelude.{◌≡◌, ℕ, zero, suc, ◌+◌, ◌%◌, ◌≤◌, false, cond, List, [], ◌∷◌, ◌++◌, length, refl, ap, ◌∙◌, arith, length-append, None, Option, Some, slice_get, option_map_or, Sizes, EcHeader, VidHeader, AttachValue, turn, given_up, stays_then, Erases, blank_header, copy_header, leb_header, next_ec, atomic_copy, mapped_plan, mount, plan_of, prepare, program_header, program_text, ready_bytes, ready_ec, release, renew, taken, unmapped_plan, ec_at, stays, pages_needed, Step}
+use Rattle.ubi_change.proofs.Prelude.{◌≡◌, ℕ, zero, suc, ◌+◌, ◌%◌, ◌≤◌, false, cond, List, [], ◌∷◌, ◌++◌, length, refl, ap, ◌∙◌, arith, length-append, None, Option, Some, slice_get, option_map_or, Sizes, EcHeader, VidHeader, AttachValue, turn, given_up, Erases, blank_header, copy_header, leb_header, next_ec, atomic_copy, mapped_plan, mount, plan_of, prepare, program_header, program_text, ready_bytes, ready_ec, release, renew, taken, unmapped_plan, ec_at, stays, pages_needed, Step}
 use Rattle.std.specs.FinMap as finite
 use Rattle.ubi_change.proofs.Attached as attached
 use Rattle.ubi_change.proofs.Copied.{length-program_text}
@@ -80,15 +80,15 @@ module _ (change : Changing) where
             ∙ erased_behind s bs a (written s bs a b h new) e (ready_ec s bs a e) fresh,
       )
 
-  pub plan_gives_up : stays_then s bs a id lnum ≡ false
-      → Gives (plan_of s bs a v.entry id lnum new) (given_up s bs a id lnum)
+  pub plan_gives_up : stays s bs (given_up s bs a id lnum).0 (given_up s bs a id lnum).1 ≡ false
+      → Gives (plan_of s bs a v.entry id lnum new) (given_up s bs a id lnum).0
   plan_gives_up = by_winner (finite.get a.scan.winners (id, lnum)) refl
     where
       by_winner : (o : Option ℕ) → finite.get a.scan.winners (id, lnum) ≡ o
-          → stays s bs (option_map_or (λ p. p) o (taken s bs a 0))
-          (option_map_or (ec_at s bs) o (ready_ec s bs a (taken s bs a 0))) ≡ false
+          → stays s bs (option_map_or {U = ℕ × Option EcHeader} (λ p. (p, ec_at s bs p)) o (taken s bs a 0, ready_ec s bs a (taken s bs a 0))).0
+          (option_map_or {U = ℕ × Option EcHeader} (λ p. (p, ec_at s bs p)) o (taken s bs a 0, ready_ec s bs a (taken s bs a 0))).1 ≡ false
           → Gives (option_map_or (mapped_plan s bs a v.entry id lnum new (taken s bs a 0)) o
           (unmapped_plan s bs a v.entry id lnum new (taken s bs a 0) (taken s bs a 1)))
-          (option_map_or (λ p. p) o (taken s bs a 0))
+          (option_map_or {U = ℕ × Option EcHeader} (λ p. (p, ec_at s bs p)) o (taken s bs a 0, ready_ec s bs a (taken s bs a 0))).0
       by_winner (Some old) e = mapped_gives old e
       by_winner None e = unmapped_gives e

@@ -114,7 +114,7 @@ pub use Rattle.ubi_volume.specs.declared.content.Volume.{Volume}
 pub use Rattle.ubi_change.specs.Avoided.{Avoided, Avoids, BlankBelow, MayTouch, ReadBlank, avoiding, is_avoided, is_blank_one, nothing, state_avoiding, states_avoiding}
 pub use Rattle.ubi_change.specs.Cuts.{SurvivesCuts, changed, header_in, is_copy, programs_copy, turn, volume_with, with_leb}
 pub use Rattle.ubi_change.specs.Fitting.{AllFit, AllWithin, FitsBlock, fits, only_clears, page_of}
-pub use Rattle.ubi_change.specs.Frugal.{CountsErases, IsFrugal, TouchesOnly, counter_after, erases, given_up, stays_then, touched}
+pub use Rattle.ubi_change.specs.Frugal.{CountsErases, IsFrugal, TouchesOnly, counter_after, erases, given_up, touched}
 pub use Rattle.ubi_change.specs.Laws.{PlanSurvives, RenameSurvives, left}
 pub use Rattle.ubi_change.specs.Order.{ComesFirst, Erases, NoErase, Programs, RisesBetweenErases}
 pub use Rattle.ubi_change.specs.Pages.{PagesCarry, line_of, programmed, with_pages}

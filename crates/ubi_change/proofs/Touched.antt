@@ -64,11 +64,11 @@ module _ (s : Sizes) (bs : List (List ℕ)) (a : AttachValue) (ps : List ℕ) wh
 module _ (s : Sizes) (bs : List (List ℕ)) (a : AttachValue) (r : VolumeRecord) (id lnum : ℕ) (new : List ℕ)
     (enough : needs s bs a id lnum ≤ length (takeable s bs a.states)) where
   -- the eraseblock that is given up is the first of those that a plan may touch
-  given : (p : ℕ) → given_up s bs a id lnum ≡ p → Contains (touched s bs a id lnum) p
+  given : (p : ℕ) → (given_up s bs a id lnum).0 ≡ p → Contains (touched s bs a id lnum) p
   given p e = (0, omega arith, e)
 
   taken_touched : (n : ℕ) → n < needs s bs a id lnum → Contains (touched s bs a id lnum) (taken s bs a n)
-  taken_touched n l = in_front (needs s bs a id lnum) n (takeable s bs a.states) (given_up s bs a id lnum) l
+  taken_touched n l = in_front (needs s bs a id lnum) n (takeable s bs a.states) (given_up s bs a id lnum).0 l
       (omega arith)
 
   pub plan_touches : TouchesOnly (touched s bs a id lnum) (plan_of s bs a r id lnum new)
@@ -84,7 +84,7 @@ module _ (s : Sizes) (bs : List (List ℕ)) (a : AttachValue) (r : VolumeRecord)
           copy_touches s bs a (touched s bs a id lnum) (taken s bs a 0)
           (copy_header (leb_header s r id lnum) (a.scan.top_sqnum + 1) new) new old (ec_at s bs old)
           (taken_touched 0 (omega arith))
-          (given old (ap (λ (o : Option ℕ). option_map_or (λ p. p) o (taken s bs a 0)) e))
+          (given old (ap (λ (o : Option ℕ). (option_map_or {U = ℕ × Option EcHeader} (λ p. (p, ec_at s bs p)) o (taken s bs a 0, ready_ec s bs a (taken s bs a 0))).0) e))
       by_winner None e =
           let n : needs s bs a id lnum ≡ 2 = ap (λ (o : Option ℕ). option_map_or (λ _. 1) o 2) e in
           let first = taken s bs a 0 in

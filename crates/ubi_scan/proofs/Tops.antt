@@ -1,5 +1,5 @@
 -- No member has a sequence number above the greatest one so far.
-use Rattle.ubi_scan.proofs.Prelude.{◌≡◌, ℕ, ◌<◌, ◌≤◌, inl, inr, Bool, true, false, cond, ap, refl, subst, arith, IfSome, IsSome, None, Option, Some, option_and_then, unwrap_or, BTreeMap, then_some, same_Some, EcRead, VidHeader, VidRead, beaten, held_of, kept, known, takes_over, sqnum_if, AreAtMost, IsPutAside, Stamp, stamp_cmp, Leb, has_members, header_if, member_if, sqnum_in_use, Candidate, Meeting, ◌==◌}
+use Rattle.ubi_scan.proofs.Prelude.{◌≡◌, ℕ, ◌<◌, ◌≤◌, inl, inr, Bool, true, false, cond, ap, refl, subst, arith, IfSome, IsSome, None, Option, Some, option_and_then, unwrap_or, BTreeMap, then_some, same_Some, EcRead, VidHeader, VidRead, beaten, held_of, kept, known, takes_over, sqnum_if, AreAtMost, IsPutAside, Stamp, stamp_cmp, Leb, has_members, header_if, member_if, sqnum_in_use, Candidate, Meeting, ◌==◌, ◌||◌}
 use Rattle.std.specs.BTreeMap as tree
 use Rattle.ubi_scan.proofs.Keys.{stamp_exact, stamp_total, told}
 
@@ -10,8 +10,7 @@ pub used_by : (o : Option VidHeader) (h : VidHeader)
 used_by None h e = absurd (cc)
 used_by (Some k) h e = by_test (has_members k.vol_id) e
   where
-    by_test : (b : Bool) → then_some b k ≡ Some h → cond b (Some k.sqnum) (then_some (k.compat == 1) k.sqnum)
-        ≡ Some h.sqnum
+    by_test : (b : Bool) → then_some b k ≡ Some h → then_some (b || (k.compat == 1)) k.sqnum ≡ Some h.sqnum
     by_test true e = ap (λ (h : VidHeader). Some h.sqnum) (same_Some k h e)
     by_test false e = absurd (cc)
 
