@@ -12,7 +12,7 @@ ghost use Rattle.ubi_commands.specs.Show.{Shows};
 ghost use Rattle.ubi_commands.specs.declared.comparison.Comparison.TheVariants as comparison;
 ghost use Rattle.ubi_commands.specs.declared.format.Format.TheVariants as format;
 ghost use Rattle.ubi_calls.specs.Calls.{Fills, FillsBoth, Streams, Under, printed};
-ghost use Rattle.ubi_calls.specs.Contents.{Normal, ReadsVolume};
+ghost use Rattle.ubi_calls.specs.Contents.{Normal, ReadsContents};
 ghost use Rattle.ubi_calls.specs.Edits.{PlansChange, PlansRename};
 
 use std::alloc::Global;
@@ -93,7 +93,7 @@ pub extern "C" fn ubi_read(
     out: &mut [u8],
     len: &mut usize,
 ) -> u32
-    ensures { Streams (Under sizes.now (λ s. ReadsVolume (image_of s image.now) id)) out.old out.new len.new result }
+    ensures { Streams (Under sizes.now (λ s. ReadsContents (image_of s image.now) id)) out.old out.new len.new result }
 {
     ubi_calls::read(alloc, sizes, image, id, out, len)
 }

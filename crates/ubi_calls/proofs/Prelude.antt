@@ -35,7 +35,7 @@ pub use Rattle.ubi_volume.specs.Extract.{extent_len}
 pub use Rattle.ubi_volume.specs.Places.{ArePlaces, ArePlacesOf, Placed}
 pub use Rattle.ubi_volume.specs.Reading.{read_volume, volume_len}
 pub use Rattle.ubi_calls.specs.Calls.{Fills, FillsBoth, MayTell, Streams, Under, bad_limit, both, ended, filled, named_sizes, neither, no_memory, printed, put_into, uncounted, under}
-pub use Rattle.ubi_calls.specs.Contents.{Normal, ReadsVolume, no_normal, normal, read, refused, unread}
+pub use Rattle.ubi_calls.specs.Contents.{Normal, ReadsContents, no_normal, normal, read, refused, unread}
 pub use Rattle.ubi_calls.specs.Edits.{PlansChange, PlansRename}
 pub use Rattle.ubi_calls.specs.declared.numbers.DeviceSizes.{DeviceSizes}
 pub use Rattle.ubi_calls.specs.declared.streams.Content.{Content}

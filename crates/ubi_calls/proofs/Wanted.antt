@@ -1,12 +1,12 @@
 -- The bytes that are asked for: what writing them over memory answers, and that there is only one answer.
-use Rattle.ubi_calls.proofs.Prelude.{List, ap, arith, length, refl, subst, sym, ℕ, ◌∙◌, ◌≡◌, IfOk-weaker, Err, IfErr, IfOk, Ok, Option, Result, Sizes, Image, image_of, Narrows, Source, WhereHeld, holds, memory, still, ArePlaces, ArePlacesOf, Placed, read_volume, volume_len, Accepts-unique, normal_bytes, IsNormalisedTo, after_run, Outcome, ToolError, Extracts, IsExtractError, IsNormaliseError, Normalises, Id, has_text, Normal, ReadsVolume, no_normal, normal, read, refused, unread, Content, IsUnwritten, Writes, said, wanted, wrote}
+use Rattle.ubi_calls.proofs.Prelude.{List, ap, arith, length, refl, subst, sym, ℕ, ◌∙◌, ◌≡◌, IfOk-weaker, Err, IfErr, IfOk, Ok, Option, Result, Sizes, Image, image_of, Narrows, Source, WhereHeld, holds, memory, still, ArePlaces, ArePlacesOf, Placed, read_volume, volume_len, Accepts-unique, normal_bytes, IsNormalisedTo, after_run, Outcome, ToolError, Extracts, IsExtractError, IsNormaliseError, Normalises, Id, has_text, Normal, ReadsContents, no_normal, normal, read, refused, unread, Content, IsUnwritten, Writes, said, wanted, wrote}
 use Rattle.ubi_files.specs.declared.outcome.ToolError.TheVariants as tool
 use Rattle.ubi_commands.specs.Extract as extract
 use Rattle.ubi_commands.specs.Normalise as normalise
 use Rattle.ubi_calls.specs.declared.streams.Content.TheVariants as content
 
 -- an image has one text of either sort
-one_volume : (image : Image) (id : ℕ) (x y : List ℕ) → ReadsVolume image id x 0 → ReadsVolume image id y 0 → x ≡ y
+one_volume : (image : Image) (id : ℕ) (x y : List ℕ) → ReadsContents image id x 0 → ReadsContents image id y 0 → x ≡ y
 one_volume image id x y (read m a is zero) (read n b of zero') =
     let same : m ≡ n = Accepts-unique image m n a b in cc
 one_volume image id x y (unread m e why a is why_is line one) h = absurd (let bad = one in omega (arith, bad))
@@ -33,7 +33,7 @@ no_read start left (Err tool.Memory) known is = cc
 
 module _ (image : Image) (old new : Option (List ℕ)) where
   -- what extracting answers
-  of_extract : (id : ℕ) (o : Outcome) → Extracts image (Id id) old new o → Writes (ReadsVolume image id) old new o
+  of_extract : (id : ℕ) (o : Outcome) → Extracts image (Id id) old new o → Writes (ReadsContents image id) old new o
   of_extract id o (extract.accepted m a (extract.read text is gives got)) = wrote text (read m a is refl) gives.status got
   of_extract id o (extract.accepted m a (extract.unread e is line kept)) =
       said (unread m e line.0 a is line.1 line.2.text refl) line.2.status kept
@@ -45,11 +45,11 @@ module _ (image : Image) (old new : Option (List ℕ)) where
   of_normalise o (normalise.refused c is gives kept) = said (no_normal c is gives.text refl) gives.status kept
 
 module _ (image : Image) (old new : Option (List ℕ)) (id : ℕ) where
-  pub volume_written : (r : Result Outcome ToolError) → IfOk r (Extracts image (Id id) old new) → IfOk r (Writes (ReadsVolume image id) old new)
+  pub volume_written : (r : Result Outcome ToolError) → IfOk r (Extracts image (Id id) old new) → IfOk r (Writes (ReadsContents image id) old new)
   volume_written r h = IfOk-weaker r _ _ (of_extract image old new id) h
 
   pub volume_unwritten : (r : Result Outcome ToolError) → IfErr r (IsExtractError image (Id id) old new)
-      → IfErr r (IsUnwritten (ReadsVolume image id) old new)
+      → IfErr r (IsUnwritten (ReadsContents image id) old new)
   volume_unwritten (Ok o) h = tt
   volume_unwritten (Err tool.Memory) h = h
   volume_unwritten (Err tool.Read) h = h.2
@@ -83,7 +83,7 @@ module _ (s : Sizes) (image start left : List ℕ) (same : start ≡ image) (nar
 -- and what a volume reads
 pub volume_counted : (s : Sizes) (image start left : List ℕ) → start ≡ image → Narrows (holds start) (holds left) → (id : ℕ) (p : Placed)
     (n : ℕ) → ArePlacesOf s (memory start) (holds left) p → ((h : ArePlaces (image_of s image) p) → Ok n ≡ volume_len h.meaning id)
-    → (bytes : List ℕ) × ReadsVolume (image_of s image) id bytes 0 × (n ≡ length bytes)
+    → (bytes : List ℕ) × ReadsContents (image_of s image) id bytes 0 × (n ≡ length bytes)
 volume_counted s image start left same narrows id p n places many =
     let h = places.held image (subst (λ (b : List ℕ). holds left b) same (still start left narrows)) in
     let text = has_text (read_volume h.meaning id) n (many h) in

@@ -11,11 +11,11 @@ use Rattle.ubi_files.specs.Lines.{refusal_line, refused_line}
 use Rattle.ubi_commands.specs.Extract.{read_refusal}
 
 -- what is answered for the volume with a number: what it reads; or the line for which it isn't read, or that of the image's refusal
-pub data ReadsVolume (image : Image) (id : ℕ) (bytes : List ℕ) (status : ℕ) : Type 0 where
-  read : (m : Meant) → Accepts image m → read_volume m id ≡ Ok bytes → status ≡ 0 → ReadsVolume image id bytes status
+pub data ReadsContents (image : Image) (id : ℕ) (bytes : List ℕ) (status : ℕ) : Type 0 where
+  read : (m : Meant) → Accepts image m → read_volume m id ≡ Ok bytes → status ≡ 0 → ReadsContents image id bytes status
   unread : (m : Meant) (e : ReadError) (why : List ℕ) → Accepts image m → read_volume m id ≡ Err e → read_refusal e ≡ Ok why
-      → bytes ≡ refused_line why → status ≡ 1 → ReadsVolume image id bytes status
-  refused : (c : Refusal) → Refuses image c → bytes ≡ refusal_line c → status ≡ 1 → ReadsVolume image id bytes status
+      → bytes ≡ refused_line why → status ≡ 1 → ReadsContents image id bytes status
+  refused : (c : Refusal) → Refuses image c → bytes ≡ refusal_line c → status ≡ 1 → ReadsContents image id bytes status
 
 -- what is answered for the normal image: that of what the image means; or the line of the image's refusal
 pub data Normal (image : Image) (bytes : List ℕ) (status : ℕ) : Type 0 where

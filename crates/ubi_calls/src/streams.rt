@@ -3,7 +3,7 @@
 ghost use Rattle.std.specs.Prelude.{◌≡◌, ◌≤◌, ◌<◌, [], IfErr, IfOk, IfSome, List, Some, drop, length, take, ℕ};
 ghost use Rattle.ubi_scan.specs.Image.{image_of};
 ghost use Rattle.ubi_calls.specs.Calls.{Fills, Streams, Under};
-ghost use Rattle.ubi_calls.specs.Contents.{Normal, ReadsVolume};
+ghost use Rattle.ubi_calls.specs.Contents.{Normal, ReadsContents};
 ghost use Rattle.ubi_calls.specs.inner.Streaming.{IsUnwritten, Writes, wanted};
 
 use crate::answer::{NO_MEMORY, hand, hand_outcome, limit_outcome};
@@ -41,8 +41,8 @@ fn write_volume<W: Write>(
     id: u32,
     writer: &mut W,
 ) -> Result<Outcome, ToolError>
-    ensures ok { IfOk result (Writes (ReadsVolume (image_of geometry.now image.now) id) (W.contents writer.old) (W.contents writer.new)) }
-    ensures err { IfErr result (IsUnwritten (ReadsVolume (image_of geometry.now image.now) id) (W.contents writer.old) (W.contents writer.new)) }
+    ensures ok { IfOk result (Writes (ReadsContents (image_of geometry.now image.now) id) (W.contents writer.old) (W.contents writer.new)) }
+    ensures err { IfErr result (IsUnwritten (ReadsContents (image_of geometry.now image.now) id) (W.contents writer.old) (W.contents writer.new)) }
 {
     run_extract(alloc, geometry, image, VolumeKey::Id(id), writer)
 }
@@ -67,7 +67,7 @@ fn write_normal<W: Write>(
 
 /// How many bytes a volume of an image reads, if it can be read. None of its contents are read.
 fn volume_len(alloc: Global, geometry: &Geometry, image: &[u8], id: u32) -> Option<usize>
-    ensures { IfSome result (λ n. (bytes : List ℕ) × ReadsVolume (image_of geometry.now image.now) id bytes 0 × (n ≡ length bytes)) }
+    ensures { IfSome result (λ n. (bytes : List ℕ) × ReadsContents (image_of geometry.now image.now) id bytes 0 × (n ≡ length bytes)) }
 {
     let mut source = MemorySource::new(image);
     let Ok(places) = attach_places(alloc, geometry, &mut source) else {
@@ -246,7 +246,7 @@ pub fn read(
     out: &mut [u8],
     len: &mut usize,
 ) -> u32
-    ensures { Streams (Under sizes.now (λ s. ReadsVolume (image_of s image.now) id)) out.old out.new len.new result }
+    ensures { Streams (Under sizes.now (λ s. ReadsContents (image_of s image.now) id)) out.old out.new len.new result }
 {
     Content::Volume(id).tell(alloc, sizes, image, out, len)
 }

@@ -1,5 +1,5 @@
 -- How a build into a file ends.
-use Rattle.ubi_commands.proofs.Prelude.{None, Agreed, All, AllByRecursion, AllStay, AllocError, Answers, AreAnswers, AreBesideOut, AreGathered, BuildError, Builds, BuildsParts, CanBuild, Contains, Err, Files, ForSome, HaveImage, HaveMeaning, IfErr, IfOk, IfSome, IsBuildError, IsKept, IsNotBegun, IsOk, IsSome, IsToldOf, IsUnreadLine, List, Ok, OnErr, Option, Outcome, Part, Parts, Result, Section, Sizes, Source, WhereNotBegun, Wrote, [], ap, arith, built, contents_of, crowded, first_fault, fresh, gathered, get_or, image_built, image_paths, inl, inr, known_after, known_by, length, numbered_parts, refl, row_bytes, sections_of, subst, suc, sym, unread, unwritten, zero, ℕ, ◌<◌, ◌∙◌, ◌∷◌, ◌≡◌, ◌⊎◌}
+use Rattle.ubi_commands.proofs.Prelude.{None, Agreed, All, AllByRecursion, AllStay, AllocError, Answers, AreAnswers, AreBesideOut, AreGathered, BuildError, Builds, BuildsParts, CanBuild, Contains, Err, Files, ForSome, HaveImage, HaveMeaning, IfErr, IfOk, IfSome, IsBuildError, IsKept, IsNotBegun, IsOk, IsSome, IsToldOf, IsUnreadLine, List, Ok, OnErr, Option, Outcome, Part, Parts, Result, Section, Sizes, Source, WhereNotBegun, Wrote, [], ap, arith, built, contents_of, crowded, first_config_fault, fresh, gathered, get_or, image_built, image_paths, inl, inr, known_after, known_by, length, numbered_parts, refl, row_bytes, sections_of, subst, suc, sym, unread, unwritten, zero, ℕ, ◌<◌, ◌∙◌, ◌∷◌, ◌≡◌, ◌⊎◌}
 use Rattle.ubi_compose.specs.declared.errors.BuildError.TheVariants as build
 use Rattle.ubi_commands.proofs.Outcomes.{holds_received}
 
@@ -118,7 +118,7 @@ module _ {F : Type 0} (contents : F → Option (List ℕ)) (at : F → List ℕ)
 
 -- what is answered of the sections of a text that were gathered
 pub of_gathered : (d e : Files) (config out : List ℕ) (s : Sizes) (text : List ℕ) (spares seq : ℕ) (xs : List Section) (parts : List Part)
-    (held : List (Option (List ℕ))) (o : Outcome) → first_fault text ≡ None → xs ≡ sections_of text → AreGathered d s config xs parts held
+    (held : List (Option (List ℕ))) (o : Outcome) → first_config_fault text ≡ None → xs ≡ sections_of text → AreGathered d s config xs parts held
     → AreBesideOut config out xs → BuildsParts d e config out xs (numbered_parts s seq parts) (row_bytes held) spares o
     → Builds d e config out s text spares seq o
 of_gathered d e config out s text spares seq xs parts held o none same are apart h =

@@ -101,7 +101,7 @@ pub use Rattle.ubi_config.proofs.CanSay.{is_said, reserved_some}
 pub use Rattle.ubi_config.proofs.GivenRecord.{section_gives_record}
 pub use Rattle.ubi_config.proofs.WrittenReads.{written_reads}
 pub use Rattle.ubi_config.specs.Config.{line_number, sections_of}
-unfoldable pub use Rattle.ubi_config.specs.Config.{first_fault}
+unfoldable pub use Rattle.ubi_config.specs.Config.{first_config_fault}
 unfoldable pub use Rattle.ubi_config.specs.Records.{record_in}
 pub use Rattle.ubi_config.specs.Written.{bytes_reserved, config_text, may_grow, volume_lines}
 unfoldable pub use Rattle.ubi_config.specs.Written.{left_out}

@@ -7,7 +7,7 @@ use Rattle.ubi_media.specs.Geometry.{Sizes}
 use Rattle.ubi_media.specs.declared.record.VolumeRecord.{VolumeRecord}
 use Rattle.ubi_scan.specs.Source.{known_by}
 use Rattle.ubi_volume.specs.Wrote.{All, Wrote}
-use Rattle.ubi_config.specs.Config.{first_fault, sections_of}
+use Rattle.ubi_config.specs.Config.{first_config_fault, sections_of}
 use Rattle.ubi_config.specs.ErrorTexts.{config_error_text}
 use Rattle.ubi_config.specs.Records.{record_in}
 use Rattle.ubi_config.specs.declared.errors.ConfigCause.{ConfigCause}
@@ -128,10 +128,10 @@ pub data BuildsParts (d e : Files) (config out : List ℕ) (sections : List Sect
 
 -- what the command answers for a config, and what becomes of the files
 pub data Builds (d e : Files) (config out : List ℕ) (s : Sizes) (text : List ℕ) (spares seq : ℕ) : Outcome → Type 0 where
-  faulty : {o : Outcome} (n : ℕ) (c : ConfigCause) → first_fault text ≡ Some (n, c) → Gives o (says (config_line n c) 1)
+  faulty : {o : Outcome} (n : ℕ) (c : ConfigCause) → first_config_fault text ≡ Some (n, c) → Gives o (says (config_line n c) 1)
       → AllStay d e → Builds d e config out s text spares seq o
-  ungathered : {o : Outcome} → first_fault text ≡ None → IsUngathered d s config (sections_of text) o → AllStay d e → Builds d e config out s text spares seq o
-  gathered : {o : Outcome} (parts : List Part) (held : List (Option (List ℕ))) → first_fault text ≡ None
+  ungathered : {o : Outcome} → first_config_fault text ≡ None → IsUngathered d s config (sections_of text) o → AllStay d e → Builds d e config out s text spares seq o
+  gathered : {o : Outcome} (parts : List Part) (held : List (Option (List ℕ))) → first_config_fault text ≡ None
       → AreGathered d s config (sections_of text) parts held → AreBesideOut config out (sections_of text)
       → BuildsParts d e config out (sections_of text) (numbered_parts s seq parts) (row_bytes held) spares o
       → Builds d e config out s text spares seq o

@@ -15,7 +15,7 @@ use Rattle.ubi_files.specs.Answer.{Gives, says}
 use Rattle.ubi_json.specs.Check.{check_data}
 use Rattle.ubi_json.specs.Line.{json_line}
 use Rattle.ubi_json.specs.Words.{count_of}
-use Rattle.ubi_commands.specs.Formats.{refusal_told}
+use Rattle.ubi_commands.specs.Formats.{refusal_by_format}
 use Rattle.ubi_commands.specs.declared.format.Format.{Format}
 use Rattle.ubi_commands.specs.declared.format.Format.TheVariants as format
 use Rattle.ubi_files.specs.declared.outcome.Outcome.{Outcome}
@@ -61,14 +61,14 @@ check_told format.Json a = json_line (check_data a)
 -- what the command answers for an image: its lines, or the cause of its refusal
 pub data Checks (format : Format) (image : Image) : Outcome → Type 0 where
   accepted : {o : Outcome} (a : Seen) → IsSurvey image a → Gives o (says (check_told format a) 0) → Checks format image o
-  refused : {o : Outcome} (c : Refusal) → Refuses image c → Gives o (says (refusal_told format c) 1) → Checks format image o
+  refused : {o : Outcome} (c : Refusal) → Refuses image c → Gives o (says (refusal_by_format format c) 1) → Checks format image o
 
 -- what it answers for any source: what is printed for its survey, or the cause of its refusal
 pub data ChecksFrom (format : Format) (s : Sizes) (k : Source) (agrees : Agreed) : Outcome → Type 0 where
   surveyed : {o : Outcome} (a : Seen) → IsSurveyOf s k agrees a → Gives o (says (check_told format a) 0)
       → ChecksFrom format s k agrees o
   unsurveyed : {o : Outcome} (c : Refusal) → ArePlacesError s k agrees (stream.Refused c)
-      → Gives o (says (refusal_told format c) 1) → ChecksFrom format s k agrees o
+      → Gives o (says (refusal_by_format format c) 1) → ChecksFrom format s k agrees o
 
 -- what it answers for a source: the answer for the image, whatever the source may hold
 abbrev pub ChecksOf : Format → Sizes → Source → Agreed → Outcome → Type 0

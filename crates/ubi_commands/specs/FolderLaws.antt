@@ -6,7 +6,7 @@ use Rattle.ubi_scan.specs.Image.{Image}
 use Rattle.ubi_volume.specs.Accepts.{Accepts}
 use Rattle.ubi_volume.specs.Meant.{Meant}
 use Rattle.ubi_volume.specs.Reading.{read_volume, volume_len}
-use Rattle.ubi_config.specs.Config.{first_fault, sections_of}
+use Rattle.ubi_config.specs.Config.{first_config_fault, sections_of}
 use Rattle.ubi_config.specs.Written.{left_out, may_grow}
 use Rattle.ubi_config.specs.WrittenLaws.{sections_written}
 use Rattle.ubi_compose.specs.Normal.{normal_bytes}
@@ -18,7 +18,7 @@ use Rattle.ubi_commands.specs.Unpack.{all_described, file_name, folder_config, l
 -- the config of an accepted image has no fault, and its sections are those of the volumes that aren't left out
 abbrev pub FolderConfigReads : Type 0
 FolderConfigReads = (image : Image) (m : Meant) → IsGeometry image.sizes → Accepts image m
-    → (first_fault (folder_config m) ≡ None)
+    → (first_config_fault (folder_config m) ≡ None)
     × (sections_of (folder_config m) ≡ sections_written m.sizes (all_described (volume_len m) (listed m)))
 
 -- every volume is described

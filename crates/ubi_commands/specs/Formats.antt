@@ -16,9 +16,9 @@ format_word format.Text = codes "text"
 format_word format.Json = codes "json"
 
 -- what is printed for an image that is refused: the line of the cause, or the line of its object
-abbrev pub refusal_told : Format → Refusal → List ℕ
-refusal_told format.Text c = refusal_line c
-refusal_told format.Json c = json_line (refusal_data c)
+abbrev pub refusal_by_format : Format → Refusal → List ℕ
+refusal_by_format format.Text c = refusal_line c
+refusal_by_format format.Json c = json_line (refusal_data c)
 
 -- what is printed if one of two images is refused
 abbrev pub side_told : Format → Side → Refusal → List ℕ

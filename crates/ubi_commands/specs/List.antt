@@ -22,7 +22,7 @@ use Rattle.ubi_commands.specs.Lines.{layout_words}
 use Rattle.ubi_json.specs.Line.{json_line}
 use Rattle.ubi_json.specs.List.{list_data}
 use Rattle.ubi_json.specs.Words.{kind_word, shown}
-use Rattle.ubi_commands.specs.Formats.{refusal_told}
+use Rattle.ubi_commands.specs.Formats.{refusal_by_format}
 use Rattle.ubi_commands.specs.declared.format.Format.{Format}
 use Rattle.ubi_commands.specs.declared.format.Format.TheVariants as format
 use Rattle.ubi_files.specs.declared.outcome.Outcome.{Outcome}
@@ -72,14 +72,14 @@ list_told format.Json m = json_line (list_data m)
 -- what the command answers for an image: what is printed for its meaning, or the cause of its refusal
 pub data Lists (format : Format) (image : Image) : Outcome → Type 0 where
   accepted : {o : Outcome} (m : Meant) → Accepts image m → Gives o (says (list_told format m) 0) → Lists format image o
-  refused : {o : Outcome} (c : Refusal) → Refuses image c → Gives o (says (refusal_told format c) 1) → Lists format image o
+  refused : {o : Outcome} (c : Refusal) → Refuses image c → Gives o (says (refusal_by_format format c) 1) → Lists format image o
 
 -- what it answers for any source: some text, if its places were found; or the cause of its refusal
 pub data ListsFrom (format : Format) (s : Sizes) (k : Source) (agrees : Agreed) : Outcome → Type 0 where
   listed : {o : Outcome} (p : Placed) (text : List ℕ) → ArePlacesOf s k agrees p → Gives o (says text 0)
       → ListsFrom format s k agrees o
   unlisted : {o : Outcome} (c : Refusal) → ArePlacesError s k agrees (stream.Refused c)
-      → Gives o (says (refusal_told format c) 1) → ListsFrom format s k agrees o
+      → Gives o (says (refusal_by_format format c) 1) → ListsFrom format s k agrees o
 
 -- what it answers for a source: the answer for the image, whatever the source may hold
 abbrev pub ListsOf : Format → Sizes → Source → Agreed → Outcome → Type 0

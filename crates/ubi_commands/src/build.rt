@@ -3,7 +3,7 @@
 ghost use Rattle.std.specs.Prelude.{◌≡◌, ◌+◌, ◌≤◌, ◌⊎◌, ◌∷◌, [], ℕ, Contains, Err, IfErr, IfOk, IsOk, IsSome, List, None, Ok, OnErr, false, map, sum_by, vec_capacity, vec_len};
 ghost use Rattle.ubi_compose.specs.Building.{WhereNotBegun};
 ghost use Rattle.ubi_compose.specs.Built.{HaveMeaning};
-ghost use Rattle.ubi_config.specs.Config.{first_fault, sections_of};
+ghost use Rattle.ubi_config.specs.Config.{first_config_fault, sections_of};
 ghost use Rattle.ubi_config.specs.declared.section.Section.{Section};
 ghost use Rattle.ubi_commands.specs.Build.{Builds, BuildsParts, numbered_parts};
 ghost use Rattle.ubi_commands.specs.inner.Gathering.{AreUnread};
@@ -210,7 +210,7 @@ fn build_sections<D: Disk>(
     sections: &[Section],
     asked: &NewImage<'_>,
 ) -> Result<Outcome, AllocError>
-    ensures answer { (text : List ℕ) → first_fault text ≡ None → sections.now ≡ sections_of text → IfOk result (Builds (D.files disk.old) (D.files disk.new) asked.now.from.now asked.now.out.now geometry.now text asked.now.spares asked.now.image_seq) }
+    ensures answer { (text : List ℕ) → first_config_fault text ≡ None → sections.now ≡ sections_of text → IfOk result (Builds (D.files disk.old) (D.files disk.new) asked.now.from.now asked.now.out.now geometry.now text asked.now.spares asked.now.image_seq) }
     ensures others { OthersStay (D.files disk.old) (D.files disk.new) asked.now.out.now }
     ensures from { Stays (D.files disk.old) (D.files disk.new) asked.now.from.now }
     ensures memory { OnErr result (AllStay (D.files disk.old) (D.files disk.new)) }

@@ -1,7 +1,7 @@
 //! The formats in which commands answer.
 
 ghost use Rattle.std.specs.Prelude.{◌≡◌, IfOk};
-ghost use Rattle.ubi_commands.specs.Formats.{refusal_told, side_told, undetected_in};
+ghost use Rattle.ubi_commands.specs.Formats.{refusal_by_format, side_told, undetected_in};
 ghost use Rattle.ubi_commands.specs.inner.Formatted.{IsLineIn, IsToldIn};
 
 use crate::lines::{side_line, undetected_line};
@@ -23,7 +23,7 @@ pub enum Format {
 
 /// What is printed for an image that is refused.
 pub fn refusal_told(alloc: Global, format: Format, cause: Refusal) -> Result<Vec<u8>, AllocError>
-    ensures { IfOk result (λ text. text.items ≡ refusal_told format cause) }
+    ensures { IfOk result (λ text. text.items ≡ refusal_by_format format cause) }
 {
     match format {
         Format::Text => refusal_line(alloc, cause),

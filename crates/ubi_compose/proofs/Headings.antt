@@ -1,6 +1,5 @@
 -- The record that the lines above give for a volume, and the lines of one volume.
-use Rattle.ubi_compose.proofs.Prelude.{append-nil, ◌≡◌, ℕ, ◌==◌, Bool, true, false, cond, List, [], ◌∷◌, ◌++◌, map, refl, sym, ap, ◌∙◌, Option, Some, None, filter_map, find, option_map, filter-append, filter_map-append, VolumeRecord, volume_of, first_some, heading, of_volume, record_in, Line}
-use Rattle.ubi_compose.specs.Spec.{record_of}
+use Rattle.ubi_compose.proofs.Prelude.{append-nil, ◌≡◌, ℕ, ◌==◌, Bool, true, false, cond, List, [], ◌∷◌, ◌++◌, map, refl, sym, ap, ◌∙◌, Option, Some, None, filter_map, find, option_map, filter-append, filter_map-append, VolumeRecord, volume_of, first_some, heading, of_volume, record_in, Line, record_in_lines}
 use Rattle.ubi_compose.specs.declared.line.Line.TheVariants as line
 
 abbrev pub headings : List Line → List (ℕ × VolumeRecord)
@@ -24,8 +23,8 @@ elsewhere : (id : ℕ) (l : Line) (ls : List Line) (b : Bool) → record_in l �
 elsewhere id l ls true n h = rw n h
 elsewhere id l ls false n h = h
 
-pub record_headed : (id : ℕ) (ls : List Line) → record_of id ls ≡ headed id (headings ls)
-unfolding record_of
+pub record_headed : (id : ℕ) (ls : List Line) → record_in_lines id ls ≡ headed id (headings ls)
+unfolding record_in_lines
 record_headed id [] = refl
 record_headed id (line.Volume q r ∷ ls) = here id q r ls (q == id) (record_headed id ls)
 record_headed id (line.Leb q lnum bytes ∷ ls) =
@@ -42,7 +41,7 @@ pub headings_kept : (ls : List Line) (l : Line) → heading l ≡ None → headi
 headings_kept ls l n = headings_more ls l ∙ rw n (append-nil (headings ls))
 
 pub record_kept : (id : ℕ) (ls : List Line) (l : Line) → heading l ≡ None
-    → record_of id (ls ++ l ∷ []) ≡ record_of id ls
+    → record_in_lines id (ls ++ l ∷ []) ≡ record_in_lines id ls
 record_kept id ls l n =
     record_headed id (ls ++ l ∷ []) ∙ ap (headed id) (headings_kept ls l n) ∙ sym (record_headed id ls)
 

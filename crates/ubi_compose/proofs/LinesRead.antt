@@ -1,5 +1,5 @@
 -- Reading a line of a text after those above it.
-use Rattle.ubi_compose.proofs.Prelude.{append-nil, ◌≡◌, ℕ, Bool, true, false, List, [], ◌∷◌, ◌++◌, refl, ◌∙◌, IfOk, Option, Some, None, Result, Ok, Err, ok_or, option_map_or, filter_map-append, Sizes, VolKind, read, taken, damaged_line, form_of, is_skipped, is_spelled, leb_line, line_of, number_word, said, text_line, updating_line, volume_line, word, words, cause_after, cause_of, saying, sayings, volumes_in, flags_of, hex_of, kind_of, shown_name, SpecCause, Form, Line}
+use Rattle.ubi_compose.proofs.Prelude.{append-nil, ◌≡◌, ℕ, Bool, true, false, List, [], ◌∷◌, ◌++◌, refl, ◌∙◌, IfOk, Option, Some, None, Result, Ok, Err, ok_or, option_map_or, filter_map-append, Sizes, VolKind, read, taken, damaged_line, line_form, is_skipped, is_spelled, leb_line, line_of, number_word, said, text_line, updating_line, line_of_volume, word, words, cause_after, cause_of, saying, sayings, volumes_in, flags_of, hex_of, kind_named, shown_name, SpecCause, Form, Line}
 use Rattle.std.specs.Prelude.{cond}
 use Rattle.ubi_compose.specs.Lines.{◌>>=◌}
 use Rattle.ubi_compose.specs.declared.errors.SpecCause.TheVariants as cause
@@ -50,9 +50,9 @@ updating_filled (Err c) = tt
 updating_filled (Ok id) = refl
 
 said_filled : (ws : List (List ℕ)) (f : Form) → IsFilled (said ws f)
-unfolding volume_line leb_line text_line damaged_line updating_line
+unfolding line_of_volume leb_line text_line damaged_line updating_line
 said_filled ws form.Volume =
-    volume_filled (kind_of (word ws 2)) (number_word (word ws 1)) (number_word (word ws 3)) (number_word (word ws 4))
+    volume_filled (kind_named (word ws 2)) (number_word (word ws 1)) (number_word (word ws 3)) (number_word (word ws 4))
     (flags_of (word ws 5)) (shown_name (word ws 6))
 said_filled ws form.Leb = leb_filled (number_word (word ws 1)) (number_word (word ws 2)) (hex_of (word ws 3))
 said_filled ws form.Text = text_filled (number_word (word ws 1)) (word ws 2) (hex_of (word ws 2)) refl
@@ -66,7 +66,7 @@ filled_by ws _ _ = tt
 
 line_filled : (text : List ℕ) → IsFilled (line_of text)
 unfolding line_of
-line_filled text = filled_by (words text) (is_spelled text) (form_of (words text))
+line_filled text = filled_by (words text) (is_spelled text) (line_form (words text))
 
 filled_if : (r : Result Line SpecCause) (l : Line) → r ≡ Ok l → IsFilled r → is_filled l ≡ true
 filled_if (Ok k) l e h = let same : k ≡ l = cc in rw (← same) h

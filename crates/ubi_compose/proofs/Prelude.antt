@@ -139,16 +139,16 @@ pub use Rattle.ubi_compose.specs.Composed.{HasRoom, composed, spare}
 pub use Rattle.ubi_compose.specs.ErrorTexts.{spec_error_text}
 pub use Rattle.ubi_compose.specs.Laws.{MeanTheSame, Normalising}
 pub use Rattle.ubi_compose.specs.Lines.{first_word, forms, is_form, is_skipped, is_spelled, number_word, said, volume_of, word, word_count, words}
-unfoldable pub use Rattle.ubi_compose.specs.Lines.{damaged_line, form_of, leb_line, line_of, text_line, updating_line, volume_line}
+unfoldable pub use Rattle.ubi_compose.specs.Lines.{damaged_line, leb_line, line_form, line_of, line_of_volume, text_line, updating_line}
 pub use Rattle.ubi_compose.specs.Normal.{IsNormalised, Laid, damaged_block, dynamic_block, laid_blocks, laid_bytes, layout_block, new_ec, normal_blocks, piece_header, static_block, static_blocks, static_part, volume_blocks}
 unfoldable pub use Rattle.ubi_compose.specs.Normal.{normal_bytes}
 pub use Rattle.ubi_compose.specs.PageLaws.{LesserAcceptsMore, NormalWithLesserPage}
 pub use Rattle.ubi_compose.specs.Spec.{IsSpecError, cause_after, cause_at, first_some, gives, heading, is_content, is_damaged, is_dynamic, is_updating, is_whole, leb_in, line_number, lines, may_follow, numbered_volume, of_volume, record_in, suits, text_in, volumes_of}
-unfoldable pub use Rattle.ubi_compose.specs.Spec.{cause_of, content_cause, first_cause, later_cause, saying, sayings, volume_from, volumes_in}
+unfoldable pub use Rattle.ubi_compose.specs.Spec.{cause_of, content_cause, first_cause, later_cause, record_in_lines, saying, sayings, volume_from, volumes_in}
 pub use Rattle.ubi_compose.specs.Streamed.{HasGot, IsNormaliseToError, IsNormalisedTo}
 pub use Rattle.ubi_compose.specs.TextLaws.{ComesTo}
 pub use Rattle.ubi_compose.specs.Words.{escaped, escaped_byte, is_escape, only_byte, some_name}
-unfoldable pub use Rattle.ubi_compose.specs.Words.{flags_of, hex_of, kind_of, shown_bytes, shown_name}
+unfoldable pub use Rattle.ubi_compose.specs.Words.{flags_of, hex_of, kind_named, shown_bytes, shown_name}
 pub use Rattle.ubi_compose.specs.declared.built_image.Part.{Part}
 pub use Rattle.ubi_compose.specs.declared.errors.LineError.{LineError}
 pub use Rattle.ubi_compose.specs.declared.errors.PutError.{PutError}

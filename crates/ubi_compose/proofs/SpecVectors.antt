@@ -1,6 +1,5 @@
 -- The composer's text on literals: the first line with a cause, and the volumes.
-use Rattle.ubi_compose.proofs.Prelude.{◌≡◌, ℕ, List, Option, SpecCause, map, false, true, [], ◌∷◌, ◌++◌, replicate, refl, ⊤, Some, None, codes, from_entries, digits, decode_pairs, filled, breaks, fields_from, first_fault, VolumeRecord, small, spec_error_text, damaged_line, form_of, leb_line, line_of, text_line, updating_line, volume_line, cause_of, content_cause, first_cause, later_cause, saying, sayings, volume_from, volumes_in, volumes_of, flags_of, hex_of, is_number, kind_of, number_within, shown_bytes, shown_name}
-use Rattle.ubi_compose.specs.Spec.{record_of}
+use Rattle.ubi_compose.proofs.Prelude.{◌≡◌, ℕ, List, Option, SpecCause, map, false, true, [], ◌∷◌, ◌++◌, replicate, refl, ⊤, Some, None, codes, from_entries, digits, decode_pairs, filled, breaks, fields_from, first_fault, VolumeRecord, small, spec_error_text, damaged_line, line_form, leb_line, line_of, text_line, updating_line, line_of_volume, cause_of, content_cause, first_cause, later_cause, saying, sayings, volume_from, volumes_in, volumes_of, flags_of, hex_of, is_number, kind_named, number_within, shown_bytes, shown_name, record_in_lines}
 use Rattle.ubi_media.specs.declared.record.RecFault.TheVariants as fault
 use Rattle.ubi_media.specs.declared.vid.VolKind.TheVariants as kind
 use Rattle.ubi_volume.specs.declared.content.Content.TheVariants as content
@@ -9,8 +8,8 @@ use Rattle.ubi_compose.specs.declared.errors.SpecError.TheVariants as error
 
 -- what is unfolded to compute a text on a literal
 unfoldable spec_on_literals : ⊤
-unfolding first_cause cause_of later_cause content_cause sayings saying line_of form_of number_within is_number hex_of
-    flags_of kind_of shown_bytes shown_name decode_pairs record_of first_fault breaks fields_from volume_line leb_line
+unfolding first_cause cause_of later_cause content_cause sayings saying line_of line_form number_within is_number hex_of
+    flags_of kind_named shown_bytes shown_name decode_pairs record_in_lines first_fault breaks fields_from line_of_volume leb_line
     text_line damaged_line updating_line volumes_in volume_from filled
 spec_on_literals = tt
 

@@ -1,6 +1,5 @@
 -- Taking a line into the volumes that the lines above it give: the volumes with one more line, or its cause.
-use Rattle.ubi_compose.proofs.Prelude.{◌≡◌, ℕ, ◌==◌, Bool, true, false, List, [], ◌∷◌, ◌++◌, map, refl, sym, ap, ◌∙◌, Option, Some, None, Result, Ok, Err, is_some, option_map, slice_set, list_all, position_from, option_map_or, result_map_both, map-append, map-map, Sizes, rec_fault, RecFault, VolumeRecord, Items, Volume, changed, changed_at, opened, place_of, taken, with_line, volume_of, content_cause, heading, later_cause, numbered_volume, of_volume, volume_from, volumes_in, SpecCause, Line}
-use Rattle.ubi_compose.specs.Spec.{record_of}
+use Rattle.ubi_compose.proofs.Prelude.{◌≡◌, ℕ, ◌==◌, Bool, true, false, List, [], ◌∷◌, ◌++◌, map, refl, sym, ap, ◌∙◌, Option, Some, None, Result, Ok, Err, is_some, option_map, slice_set, list_all, position_from, option_map_or, result_map_both, map-append, map-map, Sizes, rec_fault, RecFault, VolumeRecord, Items, Volume, changed, changed_at, opened, place_of, taken, with_line, volume_of, content_cause, heading, later_cause, numbered_volume, of_volume, volume_from, volumes_in, SpecCause, Line, record_in_lines}
 use Rattle.std.specs.Prelude.{cond}
 use Rattle.ubi_compose.specs.declared.errors.SpecCause.TheVariants as cause
 use Rattle.ubi_compose.specs.declared.line.Line.TheVariants as line
@@ -44,7 +43,7 @@ at_place : (s : Sizes) (ls : List Line) (l : Line) (place : ℕ) → heading l �
 unfolding volumes_in
 at_place s ls l place n t takes c =
     let id = volume_of l in
-    let found : record_of id ls ≡ Some c.at.1 =
+    let found : record_in_lines id ls ≡ Some c.at.1 =
     record_headed id ls ∙ ap (option_map (λ (e : ℕ × VolumeRecord). e.1)) (found_cut id place (headings ls) c) in
     let own : of_volume c.at.0 ls ≡ of_volume id ls = ap (λ q. of_volume q ls) c.is in
     let made = takes c.at.1 (of_volume id ls) (t.suited id c.at.1 found) in
@@ -83,8 +82,8 @@ changed_by : (s : Sizes) (ls : List Line) (l : Line) (o : Option ℕ) → headin
 changed_by s ls l (Some place) n t takes h =
     at_place s ls l place n t takes (cut_of (volume_of l) 0 place (headings ls) h)
 changed_by s ls l None n t takes h =
-    let none : record_of (volume_of l) ls ≡ None =
-    not_some (record_of (volume_of l) ls)
+    let none : record_in_lines (volume_of l) ls ≡ None =
+    not_some (record_in_lines (volume_of l) ls)
     (ap is_some (record_headed (volume_of l) ls) ∙ sym (place_is_some (volume_of l) 0 (headings ls)) ∙ ap is_some h) in
     rw none refl
 
@@ -99,7 +98,7 @@ first_line : (s : Sizes) (id : ℕ) (r : VolumeRecord) → volume_from s r (line
 unfolding volume_from
 first_line s id r = refl
 
-pushed : (s : Sizes) (ls : List Line) (id : ℕ) (r : VolumeRecord) → IsSoundText s ls → record_of id ls ≡ None
+pushed : (s : Sizes) (ls : List Line) (id : ℕ) (r : VolumeRecord) → IsSoundText s ls → record_in_lines id ls ≡ None
     → volumes_in s ls ++ (id, volume_from s r []) ∷ [] ≡ volumes_in s (ls ++ line.Volume id r ∷ [])
 unfolding volumes_in
 pushed s ls id r t n =
@@ -118,26 +117,26 @@ pushed s ls id r t n =
     ∙ ap (map (numbered_volume s (ls ++ line.Volume id r ∷ []))) (sym (headings_more ls (line.Volume id r)))
 
 opened_by : (s : Sizes) (ls : List Line) (id : ℕ) (r : VolumeRecord) (b : Bool) (f : Option RecFault) → IsSoundText s ls
-    → is_some (record_of id ls) ≡ b
+    → is_some (record_in_lines id ls) ≡ b
     → cond b (Err cause.Order)
     (option_map_or (λ fault. Err (cause.Record fault)) f (Ok (volumes_in s ls ++ (id, volume_from s r []) ∷ [])))
     ≡ answer (cond b (Some cause.Order) (option_map cause.Record f)) (volumes_in s (ls ++ line.Volume id r ∷ []))
 opened_by s ls id r true f t e = refl
 opened_by s ls id r false (Some fault) t e = refl
 opened_by s ls id r false None t e =
-    ap (λ (items : Items). Ok items) (pushed s ls id r t (not_some (record_of id ls) e))
+    ap (λ (items : Items). Ok items) (pushed s ls id r t (not_some (record_in_lines id ls) e))
 
 opened_more : (s : Sizes) (ls : List Line) (id : ℕ) (r : VolumeRecord) → IsSoundText s ls
     → opened s (volumes_in s ls) id r
-    ≡ answer (cond (is_some (record_of id ls)) (Some cause.Order) (option_map cause.Record (rec_fault s r)))
+    ≡ answer (cond (is_some (record_in_lines id ls)) (Some cause.Order) (option_map cause.Record (rec_fault s r)))
     (volumes_in s (ls ++ line.Volume id r ∷ []))
 opened_more s ls id r t =
-    let p : is_some (place_of id (volumes_in s ls)) ≡ is_some (record_of id ls) =
+    let p : is_some (place_of id (volumes_in s ls)) ≡ is_some (record_in_lines id ls) =
     ap is_some (place_headed s ls id) ∙ place_is_some id 0 (headings ls) ∙ sym (ap is_some (record_headed id ls)) in
     ap
     (λ b. cond b (Err cause.Order) (option_map_or (λ fault. Err (cause.Record fault)) (rec_fault s r)
     (Ok (volumes_in s ls ++ (id, volume_from s r []) ∷ [])))) p
-    ∙ opened_by s ls id r (is_some (record_of id ls)) (rec_fault s r) t refl
+    ∙ opened_by s ls id r (is_some (record_in_lines id ls)) (rec_fault s r) t refl
 
 pub taken_more : (s : Sizes) (ls : List Line) (l : Line) → IsSoundText s ls
     → taken s (volumes_in s ls) l ≡ answer (later_cause s ls l) (volumes_in s (ls ++ l ∷ []))

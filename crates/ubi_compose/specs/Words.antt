@@ -26,8 +26,8 @@ unfoldable pub flags_of : List ℕ → Option ℕ
 flags_of word = option_and_then only_byte (hex_of word)
 
 -- the kind of a volume: `dynamic` or `static`
-unfoldable pub kind_of : List ℕ → Option VolKind
-kind_of word =
+unfoldable pub kind_named : List ℕ → Option VolKind
+kind_named word =
     if same_bytes word (codes "dynamic") then Some kind.Dynamic
     else (if same_bytes word (codes "static") then Some kind.Static else None)
 

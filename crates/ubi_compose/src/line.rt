@@ -3,8 +3,8 @@
 ghost use Rattle.std.specs.List.{list_all, list_any};
 ghost use Rattle.std.specs.Prelude.{◌≡◌, ◌==◌, IfOk, MatchResult, Ok, length, map, take};
 ghost use Rattle.ubi_compose.specs.inner.Drafts.{IsLineError};
-ghost use Rattle.ubi_compose.specs.Lines.{first_word, form_of, is_form, is_spelled, leb_line, line_of, number_word, said, text_line, volume_line, volume_of, word_count, words};
-ghost use Rattle.ubi_compose.specs.Words.{escaped_byte, flags_of, hex_of, is_between, kind_of};
+ghost use Rattle.ubi_compose.specs.Lines.{first_word, line_form, is_form, is_spelled, leb_line, line_of, number_word, said, text_line, line_of_volume, volume_of, word_count, words};
+ghost use Rattle.ubi_compose.specs.Words.{escaped_byte, flags_of, hex_of, is_between, kind_named};
 
 use crate::errors::{LineError, SpecCause};
 use crate::shown::shown_name;
@@ -101,7 +101,7 @@ fn number(word: &[u8]) -> Result<u32, SpecCause>
 }
 
 /// What a line with a record says.
-#[tactic(auto, unfolding(crate::specs::Lines::volume_line))]
+#[tactic(auto, unfolding(crate::specs::Lines::line_of_volume))]
 fn volume_line(
     id: &[u8],
     kind: &[u8],
@@ -110,7 +110,7 @@ fn volume_line(
     flags: &[u8],
     name: &[u8],
 ) -> Result<Line, SpecCause>
-    ensures { result ≡ volume_line id.now kind.now reserved.now alignment.now flags.now name.now }
+    ensures { result ≡ line_of_volume id.now kind.now reserved.now alignment.now flags.now name.now }
 {
     let kind = kind_of(kind).ok_or(SpecCause::Word)?;
     let id = number(id)?;
@@ -209,9 +209,9 @@ fn is_form(words: &[&[u8]], form: Form) -> bool
 }
 
 /// The form whose first word and number of words these are.
-#[tactic(auto, unfolding(crate::specs::Lines::form_of))]
+#[tactic(auto, unfolding(crate::specs::Lines::line_form))]
 fn form_of(words: &[&[u8]]) -> Option<Form>
-    ensures { result ≡ form_of (map (λ w. w.now) words.now) }
+    ensures { result ≡ line_form (map (λ w. w.now) words.now) }
 {
     FORMS.iter().copied().find(|form| is_form(words, *form))
 }
@@ -268,9 +268,9 @@ pub fn flags_of(word: &[u8]) -> Option<u8>
 }
 
 /// The kind that a word names.
-#[tactic(auto, unfolding(crate::specs::Words::kind_of))]
+#[tactic(auto, unfolding(crate::specs::Words::kind_named))]
 pub fn kind_of(word: &[u8]) -> Option<VolKind>
-    ensures { result ≡ kind_of word.now }
+    ensures { result ≡ kind_named word.now }
 {
     if word == b"dynamic".as_slice() {
         return Some(VolKind::Dynamic);

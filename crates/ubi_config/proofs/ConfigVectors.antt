@@ -1,6 +1,5 @@
 -- A config on literals: its first fault, and its sections.
-use Rattle.ubi_config.proofs.Prelude.{◌≡◌, false, List, Option, ConfigCause, map, ℕ, [], ◌∷◌, ◌++◌, refl, ⊤, Some, None, Ok, Err, codes, replicate, digits, join_with_byte, breaks, fields_from, small, heading_cause, later_cause, setting_cause, cause_at, line_fault, saying, sayings, section_fault, sections_in, sections_of, config_error_text, flag_of, heading_line, is_one_line, kind_of, line_of, line_said, setting, setting_at, setting_line, title_of, record_in, draft_of, finished, key_of, plain_value, quoted_value, value_of, is_number, number_within, size_of, trimmed, unit_named, unit_of, Section, first_fault as config_fault}
-use Rattle.ubi_media.specs.Record.{first_fault}
+use Rattle.ubi_config.proofs.Prelude.{◌≡◌, false, List, Option, ConfigCause, map, ℕ, [], ◌∷◌, ◌++◌, refl, ⊤, Some, None, Ok, Err, codes, replicate, digits, join_with_byte, breaks, fields_from, small, heading_cause, later_cause, setting_cause, cause_at, line_fault, saying, sayings, section_fault, sections_in, sections_of, config_error_text, flag_of, heading_line, is_one_line, kind_named, line_of, line_said, setting, setting_at, setting_line, title_of, record_in, draft_of, finished, key_of, plain_value, quoted_value, value_of, is_number, number_within, size_of, trimmed, unit_named, unit_of, Section, first_config_fault as config_fault, first_fault}
 use Rattle.ubi_media.specs.declared.record.RecFault.TheVariants as fault
 use Rattle.ubi_media.specs.declared.vid.VolKind.TheVariants as kind
 use Rattle.ubi_config.specs.declared.errors.ConfigCause.TheVariants as cause
@@ -10,7 +9,7 @@ use Rattle.ubi_config.specs.declared.key.Key.TheVariants as key
 -- what is unfolded to compute a config on a literal
 unfoldable config_on_literals : ⊤
 unfolding config_fault line_fault cause_at section_fault sections_in sayings saying line_of is_one_line line_said
-    heading_line title_of setting_line setting_at setting flag_of kind_of key_of value_of plain_value quoted_value trimmed
+    heading_line title_of setting_line setting_at setting flag_of kind_named key_of value_of plain_value quoted_value trimmed
     number_within is_number size_of unit_of unit_named later_cause heading_cause setting_cause draft_of finished
 config_on_literals = tt
 

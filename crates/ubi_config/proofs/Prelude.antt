@@ -33,7 +33,7 @@ pub use Rattle.ubi_media.specs.Geometry.{IsGeometry, Sizes, slots}
 pub use Rattle.ubi_media.specs.Kind.{is_static}
 pub use Rattle.ubi_media.specs.Name.{is_name}
 pub use Rattle.ubi_media.specs.Record.{rec_fault, usable}
-unfoldable pub use Rattle.ubi_media.specs.Record.{breaks, fields_from}
+unfoldable pub use Rattle.ubi_media.specs.Record.{breaks, fields_from, first_fault}
 pub use Rattle.ubi_media.specs.Vid.{is_negative}
 pub use Rattle.ubi_media.specs.declared.record.VolumeRecord.{VolumeRecord}
 pub use Rattle.ubi_media.specs.declared.vid.VolKind.{VolKind}
@@ -42,11 +42,11 @@ unfoldable pub use Rattle.ubi_words.specs.Words.{is_number, number_within}
 pub use Rattle.ubi_config.specs.Above.{first_some, gives_id, gives_name, is_autoresize, is_heading, is_setting, is_titled, own, sets, shared_cause}
 unfoldable pub use Rattle.ubi_config.specs.Above.{heading_cause, later_cause, setting_cause}
 pub use Rattle.ubi_config.specs.Config.{Fault, Group, IsFault, cause_after, group_of, groups, groups_of, lack_of, line_at, line_number, lines, section_of, sections_of}
-unfoldable pub use Rattle.ubi_config.specs.Config.{cause_at, first_fault, line_fault, saying, sayings, section_fault, sections_in}
+unfoldable pub use Rattle.ubi_config.specs.Config.{cause_at, first_config_fault, line_fault, saying, sayings, section_fault, sections_in}
 pub use Rattle.ubi_config.specs.ErrorTexts.{config_error_text}
 pub use Rattle.ubi_config.specs.Laws.{SectionsDiffer}
 pub use Rattle.ubi_config.specs.Lines.{is_special, is_title, ◌>>=◌}
-unfoldable pub use Rattle.ubi_config.specs.Lines.{flag_of, heading_line, is_one_line, kind_of, line_of, line_said, setting, setting_at, setting_line, title_of}
+unfoldable pub use Rattle.ubi_config.specs.Lines.{flag_of, heading_line, is_one_line, kind_named, line_of, line_said, setting, setting_at, setting_line, title_of}
 pub use Rattle.ubi_config.specs.Records.{blocks_for, fitting, reserving}
 unfoldable pub use Rattle.ubi_config.specs.Records.{record_in}
 pub use Rattle.ubi_config.specs.Sections.{no_draft, with_line}

@@ -1,6 +1,5 @@
 -- How many eraseblocks a volume reserves changes no fault of its record, as long as there are some and not too many.
-use Rattle.ubi_config.proofs.Prelude.{◌≡◌, ◌<◌, ◌≤◌, ℕ, ◌^◌, false, refl, arith, ◌==◌, nat_tests, Sizes, breaks, fields_from, rec_fault, is_negative, reserving, Section}
-use Rattle.ubi_media.specs.Record.{first_fault}
+use Rattle.ubi_config.proofs.Prelude.{◌≡◌, ◌<◌, ◌≤◌, ℕ, ◌^◌, false, refl, arith, ◌==◌, nat_tests, Sizes, breaks, fields_from, rec_fault, is_negative, reserving, Section, first_fault}
 
 same_fault : (s : Sizes) (section : Section) (n : ℕ) → (n == 0) ≡ false → is_negative n ≡ false
     → rec_fault s (reserving section n) ≡ rec_fault s (reserving section 1)

@@ -1,5 +1,5 @@
 -- There are not too many sections in a config that is read, and they differ.
-use Rattle.ubi_config.proofs.Prelude.{◌≡◌, ◌≤◌, ◌<◌, ◌+◌, ◌∙◌, ℕ, Bool, true, false, List, [], ◌∷◌, ◌++◌, ap, arith, length, refl, sym, Option, Some, None, ◌==◌, count_by, filter_map, nat_le, not, then_some, IsDistinct, before_first, cons_option, list_any, option_map_or, option_or, result_ok, nat_tests, same_bytes, gives_id, gives_name, heading_cause, is_autoresize, is_heading, is_titled, later_cause, own, sets, setting_cause, shared_cause, Group, first_fault, groups, line_fault, lines, section_of, sayings, sections_in, SectionsDiffer, ConfigCause, Line, Section, Key}
+use Rattle.ubi_config.proofs.Prelude.{◌≡◌, ◌≤◌, ◌<◌, ◌+◌, ◌∙◌, ℕ, Bool, true, false, List, [], ◌∷◌, ◌++◌, ap, arith, length, refl, sym, Option, Some, None, ◌==◌, count_by, filter_map, nat_le, not, then_some, IsDistinct, before_first, cons_option, list_any, option_map_or, option_or, result_ok, nat_tests, same_bytes, gives_id, gives_name, heading_cause, is_autoresize, is_heading, is_titled, later_cause, own, sets, setting_cause, shared_cause, Group, first_config_fault, groups, line_fault, lines, section_of, sayings, sections_in, SectionsDiffer, ConfigCause, Line, Section, Key}
 use Rattle.std.specs.Prelude.{◌||◌}
 use Rattle.ubi_config.specs.declared.errors.ConfigCause.TheVariants as cause
 use Rattle.ubi_config.specs.declared.line.Line.TheVariants as line
@@ -172,8 +172,8 @@ grow_step above (line.Kind k) d h = omega (arith, count_more is_autoresize above
 grow_step above (line.Name t) d h = omega (arith, count_more is_autoresize above (line.Name t))
 grow_step above (line.Alignment a) d h = omega (arith, count_more is_autoresize above (line.Alignment a))
 
-lines_none : (text : List ℕ) → first_fault text ≡ None → line_fault text ≡ None
-unfolding first_fault
+lines_none : (text : List ℕ) → first_config_fault text ≡ None → line_fault text ≡ None
+unfolding first_config_fault
 lines_none text h = (or_none (line_fault text) _ h).0
 
 pub sections_differ : SectionsDiffer

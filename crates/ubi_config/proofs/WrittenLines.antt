@@ -1,5 +1,5 @@
 -- What each line of a config that is written says.
-use Rattle.ubi_config.proofs.Prelude.{◌≡◌, ◌<◌, ◌≤◌, ◌+◌, ◌-◌, ◌^◌, ℕ, true, false, List, [], ◌∷◌, ◌++◌, arith, get_or, length, drop, take, refl, ap, ◌∙◌, ◌==◌, codes, Some, None, Ok, list_any, nat_le, nat_tests, position, is_space, flag_of, heading_line, is_one_line, key_of, kind_of, line_of, line_said, plain_value, setting, setting_at, setting_line, title_of, trimmed, value_of, Key, Line, VolKind, length-append, slice_range, get_or-append_right, drop-append-add, take-append_seam, decimal, is_name, is_ascii_digit, is_special, is_title, is_mark, is_remark, most_bytes, kind_word, quote_of, quoted, title, most_number}
+use Rattle.ubi_config.proofs.Prelude.{◌≡◌, ◌<◌, ◌≤◌, ◌+◌, ◌-◌, ◌^◌, ℕ, true, false, List, [], ◌∷◌, ◌++◌, arith, get_or, length, drop, take, refl, ap, ◌∙◌, ◌==◌, codes, Some, None, Ok, list_any, nat_le, nat_tests, position, is_space, flag_of, heading_line, is_one_line, key_of, kind_named, line_of, line_said, plain_value, setting, setting_at, setting_line, title_of, trimmed, value_of, Key, Line, VolKind, length-append, slice_range, get_or-append_right, drop-append-add, take-append_seam, decimal, is_name, is_ascii_digit, is_special, is_title, is_mark, is_remark, most_bytes, kind_word, quote_of, quoted, title, most_number}
 use Rattle.ubi_media.specs.declared.vid.VolKind.TheVariants as kind
 use Rattle.ubi_config.proofs.Digits.{above, none_is, digits_framed, digits_number, digits_short, digits_size, digits_trimmed, digits_value}
 use Rattle.ubi_config.proofs.Framed.{IsFramed, both_none, framed_behind, framed_trimmed, line_read}
@@ -37,7 +37,7 @@ unfolding line_of is_one_line trimmed line_said setting_line setting_at key_of v
 mode_read n = refl
 
 pub kind_read : (n : ℕ) (k : VolKind) → line_of n (codes "vol_type=" ++ kind_word k) ≡ Ok (Some (line.Kind k))
-unfolding line_of is_one_line trimmed line_said setting_line setting_at key_of value_of setting plain_value kind_of
+unfolding line_of is_one_line trimmed line_said setting_line setting_at key_of value_of setting plain_value kind_named
 kind_read n kind.Dynamic = refl
 kind_read n kind.Static = refl
 

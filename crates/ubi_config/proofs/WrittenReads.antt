@@ -1,5 +1,5 @@
 -- The config that is written is read as the sections of its volumes.
-use Rattle.ubi_config.proofs.Prelude.{◌≡◌, ◌<◌, ◌≤◌, ◌+◌, ◌^◌, ℕ, Bool, true, List, [], ◌∷◌, ◌++◌, append-nil, arith, length, refl, subst, sym, ap, ◌∙◌, suc, AllByRecursion, None, count_by, flat_map, first_fault, groups, line_fault, line_number, lines, nat_le, nat_tests, rec_fault, sayings, section_fault, sections_in, sections_of, Line, Sizes, All, IsGeometry, config_lines, config_text, head, is_growing, left_out, may_grow, volume_lines, AreVolumes, WrittenReads, sections_at, ConfigVolume}
+use Rattle.ubi_config.proofs.Prelude.{◌≡◌, ◌<◌, ◌≤◌, ◌+◌, ◌^◌, ℕ, Bool, true, List, [], ◌∷◌, ◌++◌, append-nil, arith, length, refl, subst, sym, ap, ◌∙◌, suc, AllByRecursion, None, count_by, flat_map, first_config_fault, groups, line_fault, line_number, lines, nat_le, nat_tests, rec_fault, sayings, section_fault, sections_in, sections_of, Line, Sizes, All, IsGeometry, config_lines, config_text, head, is_growing, left_out, may_grow, volume_lines, AreVolumes, WrittenReads, sections_at, ConfigVolume}
 use Rattle.ubi_config.proofs.AllMade.{all_made}
 use Rattle.ubi_config.proofs.AllRead.{IsAhead, IsSound, all_read, said_from}
 use Rattle.ubi_config.proofs.AreRead.{AreRead, read-append, skip_line, text_read}
@@ -69,7 +69,7 @@ module _ (s : Sizes) (seq : ℕ) (small : seq < 2 ^ 32) (vs : List ConfigVolume)
   text_lines : (line_fault (config_text s seq vs) ≡ None) × (sayings (lines (config_text s seq vs)) ≡ said)
   text_lines = text_read (config_text s seq vs) said (subst (λ ls. AreRead 0 [] [] ls said) (sym cut) all_lines)
 
-  pub reads : (first_fault (config_text s seq vs) ≡ None)
+  pub reads : (first_config_fault (config_text s seq vs) ≡ None)
       × (sections_of (config_text s seq vs) ≡ sections_at s (may_grow vs) 1 vs)
   reads =
       let made = all_made s (may_grow vs) vs 1 in (

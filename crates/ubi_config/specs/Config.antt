@@ -88,8 +88,8 @@ abbrev pub sections_of : List ℕ → List Section
 sections_of text = sections_in (groups_of text)
 
 -- the first fault: of a line, or else of a section
-unfoldable pub first_fault : List ℕ → Option Fault
-first_fault text = first_some (line_fault text ∷ section_fault (groups_of text) ∷ [])
+unfoldable pub first_config_fault : List ℕ → Option Fault
+first_config_fault text = first_some (line_fault text ∷ section_fault (groups_of text) ∷ [])
 
 -- the error is the first fault, or that memory ran out
 abbrev pub IsFault : Option Fault → ConfigError → Type 0

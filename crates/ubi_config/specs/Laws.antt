@@ -3,7 +3,7 @@ use Rattle.std.specs.Prelude.{◌≡◌, ℕ, ◌≤◌, ◌==◌, List, None, c
 use Rattle.std.specs.List.{IsDistinct}
 use Rattle.ubi_media.specs.Fields.{same_bytes}
 use Rattle.ubi_config.specs.Above.{most_sections}
-use Rattle.ubi_config.specs.Config.{first_fault, sections_of}
+use Rattle.ubi_config.specs.Config.{first_config_fault, sections_of}
 use Rattle.ubi_config.specs.declared.section.Section.{Section}
 
 -- there are not too many sections; no two have one volume number, or one name; and at most one volume grows
@@ -15,4 +15,4 @@ pub record AreApart (sections : List Section) : Type 0 where
 
 -- so are the sections of every config that is read
 abbrev pub SectionsDiffer : Type 0
-SectionsDiffer = (text : List ℕ) → first_fault text ≡ None → AreApart (sections_of text)
+SectionsDiffer = (text : List ℕ) → first_config_fault text ≡ None → AreApart (sections_of text)

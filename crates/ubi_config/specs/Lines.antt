@@ -24,8 +24,8 @@ Ok x >>= f = f x
 Err e >>= f = Err e
 
 -- the kind of a volume that a value names
-unfoldable pub kind_of : List ℕ → Option VolKind
-kind_of value =
+unfoldable pub kind_named : List ℕ → Option VolKind
+kind_named value =
     if same_bytes value (codes "dynamic") then Some kind.Dynamic
     else (if same_bytes value (codes "static") then Some kind.Static else None)
 
@@ -41,7 +41,7 @@ setting key.Mode value = then_some (same_bytes value (codes "ubi")) line.Mode
 setting key.Image value = Some (line.Image value)
 setting key.Id value = option_map line.Id (number_within most_number value)
 setting key.Size value = option_map line.Size (size_of value)
-setting key.Kind value = option_map line.Kind (kind_of value)
+setting key.Kind value = option_map line.Kind (kind_named value)
 setting key.Name value = then_some (is_name value) (line.Name value)
 setting key.Flags value = flag_of value
 setting key.Alignment value = option_map line.Alignment (number_within most_number value)

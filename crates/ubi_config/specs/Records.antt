@@ -11,8 +11,8 @@ use Rattle.ubi_config.specs.declared.errors.ConfigCause.TheVariants as cause
 use Rattle.ubi_config.specs.declared.section.Section.{Section}
 
 -- the bytes of a volume: its size, or else those of its image file
-abbrev pub bytes_of : Section → Option ℕ → ℕ
-bytes_of section image_len = unwrap_or section.size (unwrap_or image_len 0)
+abbrev pub section_bytes : Section → Option ℕ → ℕ
+section_bytes section image_len = unwrap_or section.size (unwrap_or image_len 0)
 
 -- the record of a volume that reserves this many eraseblocks
 abbrev pub reserving : Section → ℕ → VolumeRecord
@@ -54,5 +54,5 @@ is_empty section (Some image_len) = (image_len == 0) && not (is_static section.k
 unfoldable pub record_in : Sizes → Section → Option ℕ → Result VolumeRecord ConfigCause
 record_in s section image_len =
     if is_empty section image_len then Err cause.Empty
-    else (if nat_lt (bytes_of section image_len) (unwrap_or image_len 0) then Err cause.LongImage
-    else sized s section (bytes_of section image_len))
+    else (if nat_lt (section_bytes section image_len) (unwrap_or image_len 0) then Err cause.LongImage
+    else sized s section (section_bytes section image_len))

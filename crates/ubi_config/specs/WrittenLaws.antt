@@ -5,7 +5,7 @@ use Rattle.ubi_media.specs.Fields.{same_bytes}
 use Rattle.ubi_media.specs.Geometry.{IsGeometry, Sizes, slots}
 use Rattle.ubi_media.specs.Record.{rec_fault}
 use Rattle.ubi_config.specs.Above.{most_sections}
-use Rattle.ubi_config.specs.Config.{first_fault, line_number, sections_of}
+use Rattle.ubi_config.specs.Config.{first_config_fault, line_number, sections_of}
 use Rattle.ubi_media.specs.declared.vid.VolKind.TheVariants as kind
 use Rattle.ubi_config.specs.Records.{record_in}
 use Rattle.ubi_config.specs.Written.{bytes_reserved, config_text, left_out, may_grow, volume_lines}
@@ -54,7 +54,7 @@ sections_written s vs = sections_at s (may_grow vs) 1 vs
 abbrev pub WrittenReads : Type 0
 WrittenReads =
     (s : Sizes) (seq : ℕ) (vs : List ConfigVolume) → seq < 2 ^ 32 → AreVolumes s vs
-    → (first_fault (config_text s seq vs) ≡ None) × (sections_of (config_text s seq vs) ≡ sections_written s vs)
+    → (first_config_fault (config_text s seq vs) ≡ None) × (sections_of (config_text s seq vs) ≡ sections_written s vs)
 
 -- the section of a volume gives back its record, for a file with the bytes that it can read: no more than it reserves, and
 -- some if it is dynamic

@@ -2,7 +2,7 @@
 
 ghost use Rattle.std.specs.Prelude.{◌≡◌, ◌++◌, IfErr, IfOk, MatchResult, None, option_to_list};
 ghost use Rattle.std.specs.Result.{result_unwrap_or};
-ghost use Rattle.ubi_config.specs.Config.{IsFault, cause_after, first_fault, group_of, groups, line_fault, lines, sayings, section_fault, sections_in, sections_of};
+ghost use Rattle.ubi_config.specs.Config.{IsFault, cause_after, first_config_fault, group_of, groups, line_fault, lines, sayings, section_fault, sections_in, sections_of};
 ghost use Rattle.ubi_config.specs.inner.Reading.{IsCause};
 ghost use Rattle.ubi_config.specs.Lines.{line_of};
 
@@ -78,8 +78,8 @@ fn sections_of(alloc: Global, said: &[Line]) -> Result<Vec<Section>, ConfigError
 /// order of [`ConfigCause`]. If no line has one, the first section that lacks a key, by the line that begins it.
 /// `Memory` if memory ran out.
 pub fn parse_config(alloc: Global, text: &[u8]) -> Result<Vec<Section>, ConfigError>
-    ensures sections { IfOk result (λ out. (first_fault text.now ≡ None) × (out.items ≡ sections_of text.now)) }
-    ensures refused { IfErr result (IsFault (first_fault text.now)) }
+    ensures sections { IfOk result (λ out. (first_config_fault text.now ≡ None) × (out.items ≡ sections_of text.now)) }
+    ensures refused { IfErr result (IsFault (first_config_fault text.now)) }
 {
     let said = read_lines(alloc, text)?;
     let sections = sections_of(alloc, said.as_slice())?;

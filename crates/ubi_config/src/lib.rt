@@ -12,7 +12,7 @@
 //! /// How many volumes a config describes, or its first fault.
 //! pub fn volume_count(alloc: Global, text: &[u8]) -> Result<usize, ConfigError>
 //!     ensures count { IfOk result (λ count. count ≡ length (sections_of text.now)) }
-//!     ensures refused { IfErr result (IsFault (first_fault text.now)) }
+//!     ensures refused { IfErr result (IsFault (first_config_fault text.now)) }
 //! {
 //!     let sections = parse_config(alloc, text)?;
 //!     Ok(sections.as_slice().len())

@@ -4,7 +4,7 @@ ghost use Rattle.std.specs.List.{list_any};
 ghost use Rattle.std.specs.Prelude.{◌≡◌, ◌==◌, ◌<◌, IfOk, MatchResult, Ok, length, option_map, position};
 ghost use Rattle.ubi_config.specs.Above.{gives_id, gives_name, is_autoresize, is_heading, is_setting, is_titled, key_in, sets};
 ghost use Rattle.ubi_config.specs.inner.Reading.{IsRefused};
-ghost use Rattle.ubi_config.specs.Lines.{flag_of, heading_line, is_one_line, is_special, is_title, kind_of, line_of, line_said, setting, setting_at, setting_line, title_of};
+ghost use Rattle.ubi_config.specs.Lines.{flag_of, heading_line, is_one_line, is_special, is_title, kind_named, line_of, line_said, setting, setting_at, setting_line, title_of};
 
 use crate::errors::{ConfigCause, LineError};
 use crate::key::{Key, is_same_word, key_of};
@@ -130,9 +130,9 @@ const LONGEST_LINE: usize = 1022;
 const LONGEST_TITLE: usize = 128;
 
 /// The kind of a volume that a value names.
-#[tactic(auto, unfolding(crate::specs::Lines::kind_of))]
+#[tactic(auto, unfolding(crate::specs::Lines::kind_named))]
 fn kind_of(value: &[u8]) -> Option<VolKind>
-    ensures { result ≡ kind_of value.now }
+    ensures { result ≡ kind_named value.now }
 {
     if value == b"dynamic".as_slice() {
         return Some(VolKind::Dynamic);

@@ -1,7 +1,7 @@
 //! A section of a config, and the record of its volume.
 
 ghost use Rattle.std.specs.Prelude.{◌≡◌, ◌*◌, ◌≤◌, IfOk, None, unwrap_or};
-ghost use Rattle.ubi_config.specs.Records.{blocks_for, bytes_of, fitting, is_empty, parts_of, record_in, reserving, sized};
+ghost use Rattle.ubi_config.specs.Records.{blocks_for, section_bytes, fitting, is_empty, parts_of, record_in, reserving, sized};
 ghost use Rattle.ubi_media.specs.Record.{rec_fault, usable};
 
 use crate::errors::ConfigCause;
@@ -54,7 +54,7 @@ impl Section {
 
     /// How many bytes are reserved for the volume.
     fn bytes(&self, image_len: Option<u64>) -> u64
-        ensures { result ≡ bytes_of self.now image_len }
+        ensures { result ≡ section_bytes self.now image_len }
     {
         match self.size {
             Some(size) => size,

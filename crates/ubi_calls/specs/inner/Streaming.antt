@@ -6,13 +6,13 @@ use Rattle.ubi_files.specs.declared.outcome.Outcome.{Outcome}
 use Rattle.ubi_files.specs.declared.outcome.ToolError.{ToolError}
 use Rattle.ubi_files.specs.declared.outcome.ToolError.TheVariants as tool
 use Rattle.ubi_calls.specs.Calls.{MayTell}
-use Rattle.ubi_calls.specs.Contents.{Normal, ReadsVolume}
+use Rattle.ubi_calls.specs.Contents.{Normal, ReadsContents}
 use Rattle.ubi_calls.specs.declared.streams.Content.{Content}
 use Rattle.ubi_calls.specs.declared.streams.Content.TheVariants as content
 
 -- what is answered for the bytes that are asked for
 abbrev pub wanted : Content → Image → MayTell
-wanted (content.Volume id) image = ReadsVolume image id
+wanted (content.Volume id) image = ReadsContents image id
 wanted content.Normal image = Normal image
 
 -- all was written, or nothing, and the outcome has the line that is answered
