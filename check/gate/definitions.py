@@ -20,7 +20,8 @@ place, over files that it reads and writes piece by piece, with the call that `m
 With --check it lists the files that the promise rests on, and those that all public contracts rest on. Definitions that
 only private functions' contracts and proofs of one crate cite lie in specs/inner/. The exit status is 1 if a public
 contract, a file above that folder or another crate reaches into it, if no public contract reaches a definition above it
-and no other crate cites that, or if a definition has no sentence before it.
+and no other crate cites that, if a definition has the name of one in a crate that its own stands on, or if it has no
+sentence before it.
 """
 import os
 import re
@@ -346,6 +347,29 @@ def misplaced(public):
                     yield f"{crate}.{name}.{item} is reached by no public contract, and cited by no other crate"
 
 
+def crates_below():
+    """The crates that each crate stands on, directly or not."""
+    below = {}
+    with open(os.path.join(ROOT, "crates.txt"), encoding="utf-8") as file:
+        for name, libraries in re.findall(r"^(\w+)[^:\n]*:(.*)$", file.read(), re.M):
+            below[name] = set().union(*({it} | below[it] for it in libraries.split() if it in below))
+    return below
+
+
+def twins():
+    """The definitions whose name another one has, in a crate that theirs stands on."""
+    below, named = crates_below(), {}
+    for crate in CRATES:
+        for name in all_files(crate):
+            for item in file_of(crate, name).items:
+                named.setdefault(item, set()).add((crate, name))
+    for item, places in sorted(named.items()):
+        for crate, name in sorted(places):
+            for under, other in sorted(places):
+                if under in below[crate]:
+                    yield f"{crate}.{name}.{item} has the name of one in {under}.{other}"
+
+
 def unsaid():
     """The definitions that have no sentence before them."""
     for crate in CRATES:
@@ -367,7 +391,8 @@ def check():
     print_files(promised)
     print("\nAll public contracts rest on")
     print_files(public)
-    return [f"{name} can't be followed" for name in missing + more] + list(misplaced(public)) + list(unsaid())
+    lost = [f"{name} can't be followed" for name in missing + more]
+    return [*lost, *misplaced(public), *twins(), *unsaid()]
 
 
 def print_laws(words):
