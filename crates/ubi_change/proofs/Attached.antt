@@ -1,5 +1,5 @@
 -- The plan of an attached image, with no cause against it, survives every cut.
-use Rattle.ubi_change.proofs.Prelude.{◌≡◌, ◌≢◌, ℕ, suc, ◌+◌, ◌/◌, ◌%◌, ◌^◌, ◌<◌, ◌≤◌, Bool, true, false, not, List, [], ◌∷◌, ◌++◌, append_assoc, length, set, refl, ap, sym, ◌∙◌, subst, arith, length-append, length-set, None, Option, Some, ◌==◌, IfSome, count_by, nat_lt, option_map, then_some, FinMap, option_map_or, nat_cmp, nat_tests, Sizes, IsGeometry, leb_size, is_static, data_pad, usable, vid_bytes, EcHeader, VidHeader, VolKind, VolumeRecord, Image, eraseblocks, of_blocks, NoMember, Wins, Agrees, Records, AllBlank, AcceptsBlocks, AttachValue, Fits, IsVolume, Content, Volume, records_meant, found_wins, none_found, SurvivesCuts, programs_copy, turn, blank_header, copy_header, leb_header, next_ec, mapped_plan, needs, plan_of, prepare, program_header, program_text, ready_bytes, ready_ec, release, taken, unmapped_plan, causes, first_cause, first_of, is_bad_length, ec_at, is_worn, takeable, weak_pages, pages_needed, ChangeRefusal, Step, own_causes, laid, rec_fault, half_pad, reserved_within}
+use Rattle.ubi_change.proofs.Prelude.{◌≡◌, ◌≢◌, ℕ, suc, ◌+◌, ◌/◌, ◌%◌, ◌^◌, ◌<◌, ◌≤◌, Bool, true, false, not, List, [], ◌∷◌, ◌++◌, append_assoc, length, set, refl, ap, sym, ◌∙◌, subst, arith, length-append, length-set, None, Option, Some, ◌==◌, IfSome, count_by, nat_lt, option_map, then_some, FinMap, option_map_or, nat_cmp, nat_tests, Sizes, IsGeometry, leb_size, is_static, data_pad, usable, vid_bytes, EcHeader, VidHeader, VolKind, VolumeRecord, Image, eraseblocks, of_blocks, NoMember, Wins, Agrees, Records, AllBlank, AcceptsBlocks, AttachValue, Fits, IsVolume, Content, Volume, records_meant, found_wins, none_found, SurvivesCuts, programs_copy, turn, blank_header, copy_header, leb_header, next_ec, mapped_plan, needs, plan_of, prepare, program_header, program_text, ready_bytes, ready_ec, release, taken, unmapped_plan, causes, first_cause, first_of, is_bad_length, ec_at, is_worn, takeable, weak_pages, pages_needed, ChangeRefusal, Step, own_causes, laid, rec_fault, half_pad, reserved_within, changed, pages_of, ◌-◌, SurvivesHarm, SurvivesTears}
 use Rattle.std.specs.FinMap as finite
 use Rattle.ubi_media.specs.declared.vid.VolKind.TheVariants as kind
 use Rattle.ubi_volume.specs.declared.content.Content.TheVariants as content
@@ -8,7 +8,10 @@ use Rattle.ubi_change.proofs.CopyReplaced.{IsPrepared, IsRelease}
 use Rattle.ubi_change.proofs.AttachedImage as on
 use Rattle.ubi_change.proofs.Choosing.{MayBeTaken, may_be_taken, two_apart}
 use Rattle.ubi_change.proofs.Mapped as mapped_copy
-use Rattle.ubi_change.proofs.Mapped.{copy_fits, copy_sound, IsNew, mapped, used_by_volume}
+use Rattle.ubi_change.proofs.Mapped.{copy_fits, copy_sound, IsNew, mapped, mapped_tears, used_by_volume}
+use Rattle.ubi_change.proofs.Torn.{whole_place-is}
+use Rattle.ubi_change.proofs.TornCopy.{EitherAt, any_tears, exact_tears}
+use Rattle.ubi_change.proofs.TornRuns.{AtEachTear}
 use Rattle.ubi_change.proofs.Premises.{counter_behind, neither, next_counter, ready, taken_beside, taken_loses, valid_counter}
 use Rattle.ubi_change.proofs.Renewed.{IsCounter}
 use Rattle.ubi_change.proofs.Replaced.{block_other}
@@ -200,6 +203,13 @@ module _ (change : Changing) where
   wide : leb_size s < 2 ^ 31
   wide = omega (arith, g.peb_to)
 
+  -- steps of which the power may fail during each: the turn, and the place from which on the copy is all programmed
+  abbrev Tears : List Step → Type 0
+  Tears steps = (at : ℕ) × (turn s steps new ≡ at) × (last : ℕ)
+      × (last ≡ at + (pages_of s new - pages_needed s new))
+      × AtEachTear s (EitherAt (λ x. AcceptsBlocks s x a.meaning) (λ x. AcceptsBlocks s x (changed a.meaning id lnum new)) at last)
+      bs steps
+
   -- a LEB with a winner
   module _ (old : ℕ) (found : finite.get a.scan.winners (id, lnum) ≡ Some old) where
     needs-one : needs s bs a id lnum ≡ 1
@@ -263,6 +273,23 @@ module _ (change : Changing) where
         (prepare s bs a b) (ready_bytes s bs a b) made.0 made.2 (a.scan.top_sqnum + 1) few_numbers
         (on.above image g a att) old wins (release s bs a old (ec_at s bs old))
         (on.release_is image g a att bs old (ec_at s bs old) (next_counter s bs a few narrow old) (λ n. n)))
+
+    pub mapped_torn : Tears (plan_of s bs a v.entry id lnum new)
+    mapped_torn =
+        subst Tears
+        (sym
+        (ap (λ (o : Option ℕ). option_map_or (mapped_plan s bs a v.entry id lnum new (taken s bs a 0)) o
+        (unmapped_plan s bs a v.entry id lnum new (taken s bs a 0) (taken s bs a 1))) found)) (
+          length (prepare s bs a b) + suc (pages_needed s new),
+          mapped_turn,
+          length (prepare s bs a b) + suc (pages_of s new),
+          (let w = whole_place-is s new paged in let most = w.most in omega arith),
+          mapped_tears s g bs a.meaning acc id lnum v.entry held.0 was slot number half new no_cause.is_new b may.0
+              a.scan.image_seq agrees named (taken_loses s g bs a acc.records states b may)
+              (prepare s bs a b) (ready_bytes s bs a b) made.0 made.2 (a.scan.top_sqnum + 1) few_numbers
+              (on.above image g a att) old wins (release s bs a old (ec_at s bs old))
+              (on.release_is image g a att bs old (ec_at s bs old) (next_counter s bs a few narrow old) (λ n. n)),
+        )
 
     pub survives_mapped : SurvivesCuts s bs a.meaning id lnum new (plan_of s bs a v.entry id lnum new)
     survives_mapped =
@@ -457,6 +484,24 @@ module _ (change : Changing) where
         new no_cause.is_new b1 apart may1.0 named1 loses1 (prepare s bs a b1)
         (ready_bytes s bs a b1) made1.0 made1.2 many rel0 release0)
 
+    pub unmapped_torn : Tears (plan_of s bs a v.entry id lnum new)
+    unmapped_torn =
+        subst Tears
+        (sym
+        (ap (λ (o : Option ℕ). option_map_or (mapped_plan s bs a v.entry id lnum new (taken s bs a 0)) o
+        (unmapped_plan s bs a v.entry id lnum new (taken s bs a 0) (taken s bs a 1))) found
+        ∙ plan-steps)) (
+          length mount0 + (length (prepare s bs a b1) + suc (pages_needed s new)),
+          steps_turn,
+          length mount0 + (length (prepare s bs a b1) + suc (pages_of s new)),
+          (let w = whole_place-is s new paged in let most = w.most in omega arith),
+          first.unmapped_tears s g bs a.meaning acc id lnum v.entry held.0 was slot number half
+              no_cause.is_new.inside e0 may0.0 a.scan.image_seq agrees named0 loses0 (prepare s bs a e0)
+              (ready_bytes s bs a e0) made0.0 made0.2 (a.scan.top_sqnum + 1) some_left (on.above image g a att) none
+              new no_cause.is_new b1 apart may1.0 named1 loses1 (prepare s bs a b1)
+              (ready_bytes s bs a b1) made1.0 made1.2 many rel0 release0,
+        )
+
     pub survives_unmapped : SurvivesCuts s bs a.meaning id lnum new (plan_of s bs a v.entry id lnum new)
     survives_unmapped =
         subst (SurvivesCuts s bs a.meaning id lnum new)
@@ -474,3 +519,30 @@ module _ (change : Changing) where
           → SurvivesCuts s bs a.meaning id lnum new (plan_of s bs a v.entry id lnum new)
       by_winner (Some old) e = survives_mapped old e
       by_winner None e = survives_unmapped e
+
+  either_torn : Tears (plan_of s bs a v.entry id lnum new)
+  either_torn = by_winner (finite.get a.scan.winners (id, lnum)) refl
+    where
+      by_winner : (o : Option ℕ) → finite.get a.scan.winners (id, lnum) ≡ o → Tears (plan_of s bs a v.entry id lnum new)
+      by_winner (Some old) e = mapped_torn old e
+      by_winner None e = unmapped_torn e
+
+  -- it survives each tear too
+  pub tears_all : SurvivesTears s bs a.meaning (changed a.meaning id lnum new) (plan_of s bs a v.entry id lnum new)
+      (turn s (plan_of s bs a v.entry id lnum new) new)
+  tears_all =
+      let t = either_torn in
+      subst (λ (n : ℕ). SurvivesTears s bs a.meaning (changed a.meaning id lnum new) (plan_of s bs a v.entry id lnum new) n)
+      (sym t.1) (exact_tears s bs a.meaning (changed a.meaning id lnum new) (plan_of s bs a v.entry id lnum new) t.0 t.2 t.4)
+
+  -- and if more goes wrong
+  pub harm_all : SurvivesHarm s bs a.meaning (changed a.meaning id lnum new) (plan_of s bs a v.entry id lnum new)
+      (turn s (plan_of s bs a v.entry id lnum new) new)
+      (turn s (plan_of s bs a v.entry id lnum new) new + (pages_of s new - pages_needed s new))
+  harm_all =
+      let t = either_torn in
+      subst (λ (n : ℕ). SurvivesHarm s bs a.meaning (changed a.meaning id lnum new) (plan_of s bs a v.entry id lnum new) n
+      (n + (pages_of s new - pages_needed s new)))
+      (sym t.1) (subst (SurvivesHarm s bs a.meaning (changed a.meaning id lnum new) (plan_of s bs a v.entry id lnum new) t.0)
+      t.3 (any_tears s bs a.meaning (changed a.meaning id lnum new) (plan_of s bs a v.entry id lnum new) t.0 t.2
+      (let e = t.3 in omega arith) t.4))

@@ -10,6 +10,7 @@ use Rattle.ubi_change.proofs.BlankListed.{blank_one}
 use Rattle.ubi_change.proofs.Choosing.{Each, MayBeTaken, each_map, may_be_taken, takeable_each}
 use Rattle.ubi_change.proofs.Premises.{left_of}
 use Rattle.ubi_change.proofs.RenameAttached as rename
+use Rattle.ubi_change.proofs.TableAttached as table
 use Rattle.ubi_change.proofs.RenameAttached.{Renaming}
 use Rattle.ubi_change.proofs.RenameFrugal.{rename_frugal}
 use Rattle.ubi_change.proofs.PlanPremises.{IsShown, seen_state, shown_avoiding, not_avoided}
@@ -87,7 +88,7 @@ module _ (image : Image) (av : Avoided) (from : AttachValue) (att : IsAttached i
       (ap (λ o. option_map_or is_unused o false) (sym (seen_state av from.states p))
       ∙ left_of (option_map_or is_unused (slice_get a.states p) false) (not (stays s bs p (ec_at s bs p))) may.1)
 
-  takeable_may : (n : ℕ) → Each (MayTouch s bs av) (take n (takeable s bs a.states))
+  pub takeable_may : (n : ℕ) → Each (MayTouch s bs av) (take n (takeable s bs a.states))
   takeable_may n = each_take (MayTouch s bs av) n (takeable s bs a.states)
       (each_map (MayBeTaken s bs a.states) (MayTouch s bs av) (takeable s bs a.states) taken_may
       (takeable_each s bs a.states))
@@ -137,11 +138,11 @@ module _ (image : Image) (av : Avoided) (from : AttachValue) (att : IsAttached i
         name = name;
         allowed = allowed;
       } in
-      avoids_each s bs av (rename.old0 r ∷ rename.old1 r ∷ take 2 (takeable s bs a.states)) (rename_plan s bs a id name)
+      avoids_each s bs av (table.old0 (rename.w r) ∷ table.old1 (rename.w r) ∷ take 2 (takeable s bs a.states)) (rename_plan s bs a id name)
       (rename_frugal r).touches (
-        winner_may s bs av (records_of from.meaning) (layout, 0) (rename.old0 r) blank (rename.wins0 r),
+        winner_may s bs av (records_of from.meaning) (layout, 0) (table.old0 (rename.w r)) blank (table.wins0 (rename.w r)),
         (
-          winner_may s bs av (records_of from.meaning) (layout, 1) (rename.old1 r) blank (rename.wins1 r),
+          winner_may s bs av (records_of from.meaning) (layout, 1) (table.old1 (rename.w r)) blank (table.wins1 (rename.w r)),
           takeable_may 2,
         ),
       )

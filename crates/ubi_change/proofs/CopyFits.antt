@@ -69,7 +69,7 @@ bytes-vid h small =
     bytes-append (vid_front (fields_from h)) (bytes_high_first 4 (crc_of (vid_front (fields_from h)))) front.1
     (bytes-number 4 (crc_of (vid_front (fields_from h))))
 
-bytes-filled : (n : ℕ) (xs : List ℕ) → AreBytes xs → AreBytes (filled n xs)
+pub bytes-filled : (n : ℕ) (xs : List ℕ) → AreBytes xs → AreBytes (filled n xs)
 bytes-filled n xs a = subst AreBytes (sym (filled-is n xs))
     (bytes-append xs (blank (n - length xs)) a (bytes-blank (n - length xs)))
 

@@ -4,7 +4,7 @@ use Rattle.std.specs.FinMap as finite
 use Rattle.ubi_media.specs.declared.ec.EcRead.TheVariants as ec_read
 use Rattle.ubi_change.specs.declared.step.Step.TheVariants as step
 use Rattle.ubi_change.proofs.Attached as attached
-use Rattle.ubi_change.proofs.Copied.{length-program_text, run_text}
+use Rattle.ubi_change.proofs.TextWritten.{length-program_text, run_text}
 use Rattle.ubi_change.proofs.Laid.{header_written}
 use Rattle.ubi_change.proofs.PlanFits.{length-done}
 use Rattle.ubi_change.proofs.Premises.{counter_behind, neither, next_counter, valid_counter}

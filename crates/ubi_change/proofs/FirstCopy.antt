@@ -1,18 +1,19 @@
--- Copy 0 of the table is rewritten: before the commit point the old is meant, and from it on the renamed, by copy 0
--- alone.
-use Rattle.ubi_change.proofs.Prelude.{◌≡◌, ◌≢◌, ℕ, suc, ◌+◌, ◌<◌, List, [], ◌∷◌, ◌++◌, length, set, ap, sym, ◌∙◌, subst, arith, length-set, IsGeometry, Sizes, EcHeader, VidHeader, NoFault, block, leb, Leb, Wins, layout, AreRecords, Records, copy_of, AcceptsBlocks, IsOutside, Meant, records_of, records_meant, program_header, program_text, layout_header, table_pages, pages_needed, Step, records_are, Agrees}
+-- Copy 0 of the table is rewritten: before the commit point the old is meant, and from it on what the eraseblocks read as
+-- by the new table, by copy 0 alone.
+use Rattle.ubi_change.proofs.Prelude.{◌≡◌, ◌≢◌, ℕ, suc, ◌+◌, ◌<◌, List, [], ◌∷◌, ◌++◌, length, set, ap, sym, ◌∙◌, subst, arith, length-set, IsGeometry, Sizes, EcHeader, VidHeader, NoFault, block, leb, Leb, Wins, layout, Records, copy_of, AcceptsBlocks, IsOutside, Meant, records_of, records_meant, program_header, program_text, layout_header, table_pages, pages_needed, Step, Agrees, pages_of}
 use Rattle.ubi_table.specs.declared.copy.CopyRead.TheVariants as copy
+use Rattle.ubi_change.specs.declared.step.Step.TheVariants as step
+use Rattle.ubi_change.proofs.TornCopy.{EitherAt, erase_torn}
+use Rattle.ubi_change.proofs.TornRuns.{AtEachTear, TearIs}
 use Rattle.ubi_change.proofs.Copied.{IsCopy}
-use Rattle.ubi_change.proofs.CopyReplaced.{IsGoodCopy, IsPrepared, IsRelease, ends_beside, replaced}
+use Rattle.ubi_change.proofs.CopyReplaced.{IsGoodCopy, IsPrepared, IsRelease, ends_beside, replaced, replaced_tears}
 use Rattle.ubi_change.proofs.Emptied.{AreBelow, emptied_below, emptied_keeps, emptied_loses}
 use Rattle.ubi_change.proofs.MeaningKept.{KeepsLeb}
-use Rattle.ubi_change.proofs.NamedAccepted.{meant_fit, named_accepted, table_by_first}
+use Rattle.ubi_change.proofs.TableAccepted.{ReadsAs, meant_fit, reads_kept, table_accepted, table_by_first}
 use Rattle.ubi_change.proofs.Newest.{newest_below, old_loses, others_lose}
 use Rattle.ubi_change.proofs.TableCopied.{copied_clean, copied_keeps, copied_reads, copied_volumes, copied_wins}
-use Rattle.ubi_change.proofs.RenamedMeaning.{IsRenamed, records_alike}
 use Rattle.ubi_change.proofs.Replaced.{block_other}
 use Rattle.ubi_change.proofs.Runs.{TurnsAt, done}
-use Rattle.ubi_change.proofs.SameButName.{outside_now}
 use Rattle.ubi_change.proofs.Seq.{NamedBeside}
 use Rattle.ubi_change.proofs.Unused.{layout_counts, used_by_winner}
 use Rattle.ubi_change.proofs.Vacated.{IsVacant, LosesAll, agrees_set, seq_set, vacated}
@@ -62,9 +63,9 @@ module _ (s : Sizes) (bs : List (List ℕ)) (seq : ℕ) (n : Meant) (first secon
       }
 
 module _ (s : Sizes) (g : IsGeometry s) (bs : List (List ℕ)) (m n : Meant) (a : AcceptsBlocks s bs m)
-    (r : IsRenamed m n) (b0 b1 old0 old1 : ℕ) (inside : b0 < length bs) (apart : b1 ≢ b0) (seq : ℕ)
-    (agrees : Agrees s seq bs) (beside0 : NamedBeside s seq bs b0)
-    (loses0 : LosesAll s bs (records_of m) b0) (loses1 : LosesAll s bs (records_of m) b1)
+    (r : ReadsAs s bs n) (b0 b1 old0 old1 : ℕ) (inside : b0 < length bs) (apart : b1 ≢ b0) (seq : ℕ)
+    (agrees : Agrees s seq bs) (beside0 : NamedBeside s seq bs b0) (loses0 : LosesAll s bs (records_of m) b0)
+    (lost0 : LosesAll s bs (records_of n) b0) (lost1 : LosesAll s bs (records_of n) b1)
     (wins0 : Wins s bs (layout, 0) old0) (wins1 : Wins s bs (layout, 1) old1)
     (sqnum : ℕ) (bytes : List ℕ) (e : EcHeader)
     (c : IsCopy s bs seq (layout, 0) bytes e (layout_header 0 sqnum (table_pages s (records_of n)))
@@ -81,24 +82,12 @@ module _ (s : Sizes) (g : IsGeometry s) (bs : List (List ℕ)) (m n : Meant) (a 
   same : records_of m ≡ a.records
   same = records_meant s bs a.records m a.table a.means
 
-  sizes : n.sizes ≡ s
-  sizes = r.sizes ∙ a.means.sizes
-
-  -- an eraseblock that wins nothing by the one table wins nothing by the other
-  renamed_loses : (cs : List (List ℕ)) (p : ℕ) → LosesAll s cs (records_of m) p → LosesAll s cs (records_of n) p
-  renamed_loses cs p l of counts w =
-      l of (λ k. counts (outside_now (records_of m) (records_of n) (records_alike m n r) of k)) w
-
+  -- the new eraseblocks win nothing, and so not a copy
   old_apart : old0 ≢ b0
-  old_apart z = loses0 (layout, 0) (layout_counts (records_of m) 0)
-      (subst (Wins s bs (layout, 0)) z wins0)
+  old_apart z = lost0 (layout, 0) (layout_counts (records_of n) 0) (subst (Wins s bs (layout, 0)) z wins0)
 
   next_apart : b1 ≢ old0
-  next_apart z = loses1 (layout, 0) (layout_counts (records_of m) 0)
-      (subst (Wins s bs (layout, 0)) (sym z) wins0)
-
-  are : AreRecords (records_of n)
-  are = records_are n r.meaning
+  next_apart z = lost1 (layout, 0) (layout_counts (records_of n) 0) (subst (Wins s bs (layout, 0)) (sym z) wins0)
 
   -- with a good copy 0
   module _ (x : List ℕ) (k : IsGoodCopy s seq bs (layout, 0) header new x) where
@@ -106,30 +95,29 @@ module _ (s : Sizes) (g : IsGeometry s) (bs : List (List ℕ)) (m n : Meant) (a 
     cs = set bs b0 x
 
     clean : NoFault s cs
-    clean = copied_clean s g bs m a b0 inside seq agrees loses0 0 header (records_of n) sizes are x k
+    clean = copied_clean s g bs a.clean n r.means.sizes r.means.meaning b0 inside seq agrees lost0 0 header x k
 
     wins : Wins s cs (layout, 0) b0
-    wins = copied_wins s g bs m a b0 inside seq agrees loses0 0 header (records_of n) sizes are x k
+    wins = copied_wins s g bs a.clean n r.means.sizes r.means.meaning b0 inside seq agrees lost0 0 header x k
 
     good : copy_of s (leb s (block cs b0)) ≡ copy.Good (records_of n)
-    good = copied_reads s g bs m a b0 inside seq agrees loses0 0 header (records_of n) sizes are x k
+    good = copied_reads s g bs a.clean n r.means.sizes r.means.meaning b0 inside seq agrees lost0 0 header x k
 
     accepted : AcceptsBlocks s cs n
-    accepted = named_accepted s bs cs m n a r clean
-        (seq_set s bs b0 x inside seq agrees beside0 k.mount.image)
-        (table_by_first s cs b0 (records_of n) wins good (meant_fit s m n bs a r))
-        (copied_volumes s g bs m a b0 inside seq agrees loses0 0 header (records_of n) sizes are x k)
+    accepted = table_accepted s cs n clean
+        (table_by_first s cs b0 (records_of n) wins good (meant_fit s n r.means.sizes r.means.meaning))
+        (reads_kept s bs cs n clean (seq_set s bs b0 x inside seq agrees beside0 k.mount.image)
+        (copied_volumes s g bs a.clean n r.means.sizes r.means.meaning b0 inside seq agrees lost0 0 header x k) r)
 
     pub half_copied : IsHalf cs
     half_copied = record {
       accepted = accepted;
       wins_first = wins;
       good = good;
-      wins_second = ((copied_keeps s g bs m a b0 inside seq agrees loses0 0 header (records_of n) sizes are x k 1
-          (λ z. omega arith)).winner old1 wins1).0;
-      loses = renamed_loses cs b1
-          (others_lose s bs b0 x inside (layout, 0) header seq agrees k.mount a.clean k.good (records_of m) loses0 b1
-          apart loses1);
+      wins_second = ((copied_keeps s g bs a.clean n r.means.sizes r.means.meaning b0 inside seq agrees lost0 0 header x
+          k 1 (λ z. omega arith)).winner old1 wins1).0;
+      loses = others_lose s bs b0 x inside (layout, 0) header seq agrees k.mount a.clean k.good (records_of n) lost0 b1
+          apart lost1;
       agrees = agrees_set s bs b0 x inside seq agrees beside0 k.mount.image;
       below = newest_below s bs b0 x inside (layout, 0) header seq agrees k.mount a.clean;
       size = length-set bs b0 x;
@@ -162,3 +150,23 @@ module _ (s : Sizes) (g : IsGeometry s) (bs : List (List ℕ)) (m n : Meant) (a 
         ends_beside s g bs m a (used_by_winner s bs (layout, 0) old0 wins0) (layout, 0) (layout_counts a.records 0) b0
         inside seq agrees beside0 (subst (λ (t : Records). LosesAll s bs t b0) same loses0) prep bytes e prepared header
         new c old0 wins0 rel release IsHalf half_copied (λ x y k beside v. half_emptied x k y beside v)
+
+    -- if the power fails during any step, the old is meant before the turn, and what they read as by the new table from it on
+    pub first_tears : AtEachTear s (EitherAt (λ x. AcceptsBlocks s x m) (λ x. AcceptsBlocks s x n)
+        (length prep + suc (pages_needed s new)) (length prep + suc (pages_of s new))) bs
+        ((prep ++ program_header s b0 bytes header ∷ []) ++ program_text s b0 new ++ rel)
+    first_tears =
+        replaced_tears s g bs m a (used_by_winner s bs (layout, 0) old0 wins0) (layout, 0) (layout_counts a.records 0) b0
+        inside seq agrees beside0 (subst (λ (t : Records). LosesAll s bs t b0) same loses0) prep bytes e prepared header
+        new c old0 wins0 rel release (λ x. AcceptsBlocks s x n) (λ x k. (half_copied x k).accepted)
+        (λ x y k beside v. (half_emptied x k y beside v).accepted) torn_old
+      where
+        torn_old : (x t : List ℕ) → IsGoodCopy s seq bs (layout, 0) header new x → NamedBeside s seq (set bs b0 x) old0
+            → TearIs s (λ f x. AcceptsBlocks s x n) (set bs b0 x) (step.Erase old0) t
+        torn_old x t k near =
+            let h = half_copied x k in
+            erase_torn s g (set bs b0 x) n h.accepted old0 seq
+            (let l = wins0.member.inside in omega (arith, length-set bs b0 x))
+            (used_by_winner s (set bs b0 x) (layout, 0) b0 h.wins_first) h.agrees near
+            (old_loses s bs b0 x inside (layout, 0) header seq agrees k.mount a.clean k.good h.accepted.records old0 wins0
+            old_apart) t

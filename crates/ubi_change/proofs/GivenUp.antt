@@ -2,7 +2,7 @@
 use Rattle.ubi_change.proofs.Prelude.{◌≡◌, ℕ, zero, suc, ◌+◌, ◌%◌, ◌≤◌, false, cond, List, [], ◌∷◌, ◌++◌, length, refl, ap, ◌∙◌, arith, length-append, None, Option, Some, slice_get, option_map_or, Sizes, EcHeader, VidHeader, AttachValue, turn, given_up, Erases, blank_header, copy_header, leb_header, next_ec, atomic_copy, mapped_plan, mount, plan_of, prepare, program_header, program_text, ready_bytes, ready_ec, release, renew, taken, unmapped_plan, ec_at, stays, pages_needed, Step}
 use Rattle.std.specs.FinMap as finite
 use Rattle.ubi_change.proofs.Attached as attached
-use Rattle.ubi_change.proofs.Copied.{length-program_text}
+use Rattle.ubi_change.proofs.TextWritten.{length-program_text}
 use Rattle.ubi_change.proofs.Torn.{whole_place-is}
 use Rattle.ubi_change.proofs.Attached.{Changing}
 

@@ -153,14 +153,17 @@ module _ (s : Sizes) (g : IsGeometry s) where
             tt,
           ))
 
+      pub written_keeps : (new : List ℕ) → KeepAll s last cs (mount s bs a b h ++ program_text s b new)
+      written_keeps new =
+          let before = vid_before s g in
+          keep-append s last cs (mount s bs a b h) (program_text s b new) mount_keeps
+          (λ l. pages_keep s l (done s cs (mount s bs a b h)) b (s.data_offset / s.page)
+          (first_chunks s.page (pages_of s new) new) (omega arith))
+
       pub copy_keeps : (new : List ℕ) (old : ℕ) (now : Option EcHeader)
           → KeepAll s last cs (atomic_copy s bs a b h new old now)
       copy_keeps new old now =
-          let before = vid_before s g in
-          keep-append s last cs (mount s bs a b h ++ program_text s b new) (release s bs a old now)
-          (keep-append s last cs (mount s bs a b h) (program_text s b new) mount_keeps
-          (λ l. pages_keep s l (done s cs (mount s bs a b h)) b (s.data_offset / s.page)
-          (first_chunks s.page (pages_of s new) new) (omega arith)))
+          keep-append s last cs (mount s bs a b h ++ program_text s b new) (release s bs a old now) (written_keeps new)
           (λ l. release_keeps l (done s cs (mount s bs a b h ++ program_text s b new)) old now)
 
 module _ (change : Changing) where

@@ -45,19 +45,21 @@ layout_copy s g bs m b seq prep bytes e prepared c sqnum two few above t held st
     let some = pages_some s g t held in
     let short = pages_short s g t held in
     record {
-      size = prepared.size;
-      reads = prepared.reads;
-      image = prepared.image;
-      fits = layout_fits s g c sqnum new two some short few;
-      sound = layout_sound s g c sqnum new two some short;
-      known = refl;
-      placed = layout_placed s g c sqnum new two some short;
-      named = refl;
-      above = above;
+      text = record {
+        size = prepared.size;
+        reads = prepared.reads;
+        image = prepared.image;
+        fits = layout_fits s g c sqnum new two some short few;
+        sound = layout_sound s g c sqnum new two some short;
+        known = refl;
+        placed = layout_placed s g c sqnum new two some short;
+        named = refl;
+        above = above;
+        paged = pages_paged s g t held;
+        room = pages_room s g t held;
+      };
       copied = refl;
       data_size = refl;
       data_crc = refl;
-      paged = pages_paged s g t held;
-      room = pages_room s g t held;
       strong = strong;
     }

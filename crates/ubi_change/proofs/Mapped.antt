@@ -1,16 +1,19 @@
 -- The cuts of an atomic copy of a LEB that has a winner: before the commit point the old is meant, and from it on the
 -- new.
-use Rattle.ubi_change.proofs.Prelude.{◌≡◌, ◌≢◌, ℕ, suc, ◌+◌, ◌-◌, ◌/◌, ◌%◌, ◌^◌, ◌<◌, ◌≤◌, inl, inr, true, List, [], ◌∷◌, ◌++◌, length, set, take, refl, ap, sym, ◌∙◌, subst, arith, length-set, None, Option, Some, FinMap, nat_cmp, nat_tests, filled, Sizes, IsGeometry, leb_size, data_pad, usable, breaks, fields_from, first_fault, vid_fault, VidFits, EcHeader, VolumeRecord, VidHeader, check_from-lt, block, leb, IsMember, Leb, Wins, has_members, layout, sqnum_at, Agrees, Records, AllBlank, AcceptsBlocks, IsUnlike, IsOutside, SlotMeans, Meant, Volume, changed, copy_header, leb_header, program_header, program_text, weak_pages, pages_needed, Step}
+use Rattle.ubi_change.proofs.Prelude.{◌≡◌, ◌≢◌, ℕ, suc, ◌+◌, ◌-◌, ◌/◌, ◌%◌, ◌^◌, ◌<◌, ◌≤◌, inl, inr, true, List, [], ◌∷◌, ◌++◌, length, set, take, refl, ap, sym, ◌∙◌, subst, arith, length-set, None, Option, Some, FinMap, nat_cmp, nat_tests, filled, Sizes, IsGeometry, leb_size, data_pad, usable, breaks, fields_from, first_fault, vid_fault, VidFits, EcHeader, VolumeRecord, VidHeader, check_from-lt, block, leb, IsMember, Leb, Wins, has_members, layout, sqnum_at, Agrees, Records, AllBlank, AcceptsBlocks, IsUnlike, IsOutside, SlotMeans, Meant, Volume, changed, copy_header, leb_header, program_header, program_text, weak_pages, pages_needed, Step, pages_of}
 use Rattle.std.specs.FinMap as finite
 use Rattle.ubi_media.specs.declared.vid.VolKind.TheVariants as kind
 use Rattle.ubi_volume.specs.declared.content.Content.TheVariants as content
 use Rattle.ubi_change.proofs.Changed as change
 use Rattle.ubi_change.proofs.Copied.{IsCopy}
-use Rattle.ubi_change.proofs.CopyReplaced.{IsGoodCopy, IsPrepared, IsRelease, replaced}
+use Rattle.ubi_change.specs.declared.step.Step.TheVariants as step
+use Rattle.ubi_change.proofs.CopyReplaced.{IsGoodCopy, IsPrepared, IsRelease, replaced, replaced_tears}
 use Rattle.ubi_change.proofs.Mounted.{IsChanged, mounted_good, recorded_by}
 use Rattle.ubi_change.proofs.Newest.{old_loses}
 use Rattle.ubi_change.proofs.Runs.{TurnsAt}
 use Rattle.ubi_change.proofs.Seq.{NamedBeside}
+use Rattle.ubi_change.proofs.TornCopy.{EitherAt, erase_torn}
+use Rattle.ubi_change.proofs.TornRuns.{AtEachTear, TearIs}
 use Rattle.ubi_change.proofs.Unused.{nameless_ec, nameless_loses, within_counts}
 use Rattle.ubi_change.proofs.Vacated.{IsVacant, LosesAll, agrees_set, vacated}
 use Rattle.ubi_change.proofs.Written.{take_filled}
@@ -88,20 +91,22 @@ module _ (s : Sizes) (g : IsGeometry s) (bs : List (List ℕ)) (m : Meant) (a : 
 
   copy_is : IsCopy s bs seq of bytes e header new
   copy_is = record {
-    size = prepared.size;
-    reads = prepared.reads;
-    image = prepared.image;
-    fits = copy_fits s r id lnum sqnum new slot number half wide n.some fits_leb few;
-    sound = copy_sound s r id lnum sqnum new slot number half wide n.some fits_leb;
-    known = user_known id slot;
-    placed = λ k. (let far = k.0 in omega arith);
-    named = refl;
-    above = above;
+    text = record {
+      size = prepared.size;
+      reads = prepared.reads;
+      image = prepared.image;
+      fits = copy_fits s r id lnum sqnum new slot number half wide n.some fits_leb few;
+      sound = copy_sound s r id lnum sqnum new slot number half wide n.some fits_leb;
+      known = user_known id slot;
+      placed = λ k. (let far = k.0 in omega arith);
+      named = refl;
+      above = above;
+      paged = n.paged;
+      room = (let k = fits_leb in let l = g.leb in omega arith);
+    };
     copied = refl;
     data_size = refl;
     data_crc = refl;
-    paged = n.paged;
-    room = (let k = fits_leb in let l = g.leb in omega arith);
     strong = n.strong;
   }
 
@@ -176,3 +181,26 @@ module _ (s : Sizes) (g : IsGeometry s) (bs : List (List ℕ)) (m : Meant) (a : 
       (sym (change.changed-is m a.means.meaning id lnum new r lebs was n.inside short))
       (replaced s g bs m a used of counts b inside seq agrees beside loses prep bytes e prepared header new copy_is old
       wins rel release Q copied emptied)
+
+  -- an erase of the old winner that wasn't ended
+  torn_old : (x t : List ℕ) → IsGoodCopy s seq bs of header new x → NamedBeside s seq (set bs b x) old
+      → TearIs s (λ f. Q) (set bs b x) (step.Erase old) t
+  torn_old x t k near =
+      let now = copied x k in
+      let l = wins.member.inside in
+      erase_torn s g (set bs b x) next now old seq (omega (arith, length-set bs b x))
+      (used_by_volume s (set bs b x) next now id _ change_is.is)
+      (agrees_set s bs b x inside seq agrees beside k.mount.image) near
+      (old_loses s bs b x inside of header seq agrees k.mount a.clean k.good now.records old wins apart) t
+
+  -- if the power fails during any step, before the turn the old is meant, and from it on the new
+  pub mapped_tears : AtEachTear s (EitherAt (λ x. AcceptsBlocks s x m) (λ x. AcceptsBlocks s x (changed m id lnum new))
+      (length prep + suc (pages_needed s new)) (length prep + suc (pages_of s new))) bs
+      ((prep ++ program_header s b bytes header ∷ []) ++ program_text s b new ++ rel)
+  mapped_tears =
+      subst (λ (k : Meant). AtEachTear s (EitherAt (λ x. AcceptsBlocks s x m) (λ x. AcceptsBlocks s x k)
+      (length prep + suc (pages_needed s new)) (length prep + suc (pages_of s new))) bs
+      ((prep ++ program_header s b bytes header ∷ []) ++ program_text s b new ++ rel))
+      (sym (change.changed-is m a.means.meaning id lnum new r lebs was n.inside short))
+      (replaced_tears s g bs m a used of counts b inside seq agrees beside loses prep bytes e prepared header new copy_is
+      old wins rel release Q copied emptied torn_old)

@@ -220,18 +220,22 @@ module _ (s : Sizes) (g : IsGeometry s) (bs : List (List ℕ)) (a : AttachValue)
       (λ m same l. program_order p b m v page rest (λ _. l) here (λ apart. absurd (apart same)))
       (λ apart. program_order p b n v page rest (λ same. absurd (apart same)) here there))
 
-  pub copy_order : (p b n : ℕ) (h : VidHeader) (new : List ℕ) (old : ℕ) (now : Option EcHeader) → (b ≡ p → n ≤ 1)
-      → InOrder p n (atomic_copy s bs a b h new old now)
-  copy_order p b n h new old now few =
+  -- an eraseblock is written, before steps that are in order after anything
+  pub written_order : (p b n : ℕ) (h : VidHeader) (new : List ℕ) (rest : List Step) → (b ≡ p → n ≤ 1)
+      → ((m : ℕ) → InOrder p m rest) → InOrder p n (mount s bs a b h ++ program_text s b new ++ rest)
+  written_order p b n h new rest few any =
       let before = vid_before s g in
       let d = s.data_offset / s.page in
       let pages : List (List ℕ) = first_chunks s.page (pages_of s new) new in
-      let rel : List Step = release s bs a old now in
-      let any : (m : ℕ) → InOrder p m rel = λ m. release_order p old m now in
-      subst (InOrder p n) (sym (append_assoc (mount s bs a b h) (program_text s b new) rel))
-      (mount_order p b n h (program_text s b new ++ rel) few
-      (λ same. pages_order p b (s.vid_offset / s.page + 2) d pages rel (λ _. omega arith) (omega arith) any)
-      (λ apart. pages_order p b n d pages rel (λ same. absurd (apart same)) (omega arith) any))
+      subst (InOrder p n) (sym (append_assoc (mount s bs a b h) (program_text s b new) rest))
+      (mount_order p b n h (program_text s b new ++ rest) few
+      (λ same. pages_order p b (s.vid_offset / s.page + 2) d pages rest (λ _. omega arith) (omega arith) any)
+      (λ apart. pages_order p b n d pages rest (λ same. absurd (apart same)) (omega arith) any))
+
+  pub copy_order : (p b n : ℕ) (h : VidHeader) (new : List ℕ) (old : ℕ) (now : Option EcHeader) → (b ≡ p → n ≤ 1)
+      → InOrder p n (atomic_copy s bs a b h new old now)
+  copy_order p b n h new old now few =
+      written_order p b n h new (release s bs a old now) few (λ m. release_order p old m now)
 
 module _ (s : Sizes) (g : IsGeometry s) (bs : List (List ℕ)) (a : AttachValue) (r : VolumeRecord) (id lnum : ℕ) (new : List ℕ)
     (enough : needs s bs a id lnum ≤ length (takeable s bs a.states)) where

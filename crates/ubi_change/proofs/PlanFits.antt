@@ -41,9 +41,9 @@ module _ (s : Sizes) (g : IsGeometry s) (bs : List (List ℕ)) (a : AttachValue)
         fit-append s cs (prepare s bs a b) (program_header s b bytes h ∷ []) (prepare_fits cs b inside)
         (header_fits s g bytes size h small (done s cs (prepare s bs a b)) b within prepared)
 
-    -- with a text behind it, and another eraseblock given up
+    -- with a text behind it, and then another eraseblock given up
     module _ (new : List ℕ) (paged : length new % s.page ≡ 0) (room : s.data_offset + length new ≤ s.peb_size)
-        (are : AreBytes new) (old : ℕ) (now : Option EcHeader) (there : old < length cs) where
+        (are : AreBytes new) where
       abbrev pub mount : List Step
       mount = prepare s bs a b ++ program_header s b bytes h ∷ []
 
@@ -53,14 +53,18 @@ module _ (s : Sizes) (g : IsGeometry s) (bs : List (List ℕ)) (a : AttachValue)
           (fold-append (step_done s) cs (prepare s bs a b) (program_header s b bytes h ∷ []))
           ∙ header_done s g bytes size h small (done s cs (prepare s bs a b)) b within prepared
 
-      pub copy_fits : FitAll s cs (mount ++ program_text s b new ++ release s bs a old now)
-      copy_fits =
+      pub written_fits : FitAll s cs (mount ++ program_text s b new)
+      written_fits =
           let n = length-done s cs mount in
-          let m = length-done s cs (mount ++ program_text s b new) in
-          fit-append s cs (mount ++ program_text s b new) (release s bs a old now)
-          (fit-append s cs mount (program_text s b new) mount_fits
+          fit-append s cs mount (program_text s b new) mount_fits
           (text_fits s g bytes size h small (done s cs mount) b (omega (arith, n)) new (pages-all s new paged) room are
-          mounted))
+          mounted)
+
+      pub copy_fits : (old : ℕ) (now : Option EcHeader) → old < length cs
+          → FitAll s cs (mount ++ program_text s b new ++ release s bs a old now)
+      copy_fits old now there =
+          let m = length-done s cs (mount ++ program_text s b new) in
+          fit-append s cs (mount ++ program_text s b new) (release s bs a old now) written_fits
           (release_fits (done s cs (mount ++ program_text s b new)) old now (omega (arith, m)))
 
 module _ (change : Changing) (are : AreBytes change.new) where

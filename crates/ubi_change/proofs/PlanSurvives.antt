@@ -1,5 +1,5 @@
 -- The law: the plan of an attached image, with no cause against it, survives every cut.
-use Rattle.ubi_change.proofs.Prelude.{◌≡◌, ◌≢◌, ◌*◌, ◌/◌, ◌<◌, ◌⊎◌, ◌∷◌, [], List, ap, arith, get_or, get_or-set_other, get_or-set_same, inl, inr, length, length-set, refl, subst, suc, sym, take, true, zero, ◌∙◌, ℕ, concat, first_chunks, div-mul-add, eqb-true, ltb-true, IsGeometry, Sizes, below_same_or_above, Image, IsWholeImage, block, eraseblocks, of_blocks, first_chunks-concat, length-concat, length-first_chunks, length-blank, AcceptsBlocks, AttachValue, changed, turn, AllFit, fits, only_clears, page_of, PlanSurvives, left, plan_of, blocks_after, block_after, step_done, target, Step}
+use Rattle.ubi_change.proofs.Prelude.{◌≡◌, ◌≢◌, ◌*◌, ◌/◌, ◌<◌, ◌⊎◌, ◌∷◌, [], List, ap, arith, get_or, get_or-set_other, get_or-set_same, inl, inr, length, length-set, refl, subst, suc, sym, take, true, zero, ◌∙◌, ℕ, concat, cases_eq, set, first_chunks, div-mul-add, eqb-true, ltb-true, IsGeometry, Sizes, below_same_or_above, Image, IsWholeImage, block, eraseblocks, of_blocks, first_chunks-concat, length-concat, length-first_chunks, length-blank, AcceptsBlocks, AttachValue, changed, turn, AllFit, fits, only_clears, page_of, PlanSurvives, left, plan_of, blocks_after, block_after, step_done, target, Step}
 use Rattle.std.proofs.Common.{◌==◌, ◌&&◌, nat_lt}
 use Rattle.std.specs.Prelude.{if◌then◌else◌}
 use Rattle.std.proofs.Math.Nat as nat
@@ -91,6 +91,35 @@ module _ (image : Image) (g : IsGeometry image.sizes) (a : AttachValue) (att : I
       let parts = nat.div-add-mod (length image.bytes) size in
       let none = att.accepted.whole.cut in
       count ∙ ap (λ n. n * size) (kept ∙ blocks) ∙ omega arith
+
+  -- an eraseblock may hold other bytes
+  module _ (p : ℕ) (t : List ℕ) (whole_block : length t ≡ size) where
+    abbrev zs : List (List ℕ)
+    zs = set cs p t
+
+    sized_torn : (i : ℕ) → i < length zs → length (get_or zs i []) ≡ size
+    sized_torn i l = elim (cases_eq i p) [
+      | inl same ↦
+          let inside : p < length cs = (let n = length-set cs p t in omega arith) in
+          ap (λ (k : ℕ). length (get_or zs k [])) same ∙ ap length (get_or-set_same cs p t [] inside) ∙ whole_block
+      | inr other ↦
+          ap length (get_or-set_other cs p i t [] other) ∙ sized i (let n = length-set cs p t in omega arith)
+    ]
+
+    many_torn : length (concat zs) ≡ length image.bytes
+    many_torn =
+        length-concat size zs sized_torn ∙ ap (λ n. n * size) (length-set cs p t) ∙ sym (length-concat size cs sized) ∙ many
+
+    pub torn_whole : IsWholeImage (record image { bytes = concat zs })
+    torn_whole =
+        let whole = att.accepted.whole in
+        record { some = rw many_torn whole.some; cut = rw many_torn whole.cut; fits = rw many_torn whole.fits }
+
+    pub torn_cut : eraseblocks (record image { bytes = concat zs }) ≡ zs
+    torn_cut =
+        let count : length (concat zs) / size ≡ length zs =
+        ap (λ n. n / size) (length-concat size zs sized_torn ∙ omega arith) ∙ div-mul-add (length zs) size 0 some in
+        ap (λ n. first_chunks size n (concat zs)) count ∙ first_chunks-concat size zs sized_torn
 
   pub left_whole : IsWholeImage (left image steps k)
   left_whole =

@@ -2,11 +2,11 @@
 pub use Rattle.std.proofs.Common.{Bool, List, [], ap, append-nil, append_assoc, ap₂, arith, cond, drop, false, get_or, get_or-set_other, get_or-set_same, inl, inr, length, length-append, length-drop, length-set, map, min, not, refl, replicate, rules, set, slice_range, subst, suc, sym, take, take-add, true, true≢false, zero, ℕ, ◌%◌, ◌*◌, ◌++◌, ◌+◌, ◌-◌, ◌/◌, ◌<◌, ◌^◌, ◌∙◌, ◌∷◌, ◌≡◌, ◌≢◌, ◌≤◌, ◌⊎◌}
 pub use Rattle.std.proofs.Math.Nat.{div-add-mod, div-eq_of_lt, div-le_of_le-mul, div-mul-le_self, le-max_left, le-max_right, mod-lt}
 pub use Rattle.std.proofs.Math.Seq.{drop-append_seam, take-append-add, take-append_seam}
-pub use Rattle.std.proofs.lemmas.Bool.{cases_eq, cases_lt, eqb-true, ltb-true}
+pub use Rattle.std.proofs.lemmas.Bool.{and_parts, cases_eq, cases_lt, eqb-true, ltb-true}
 pub use Rattle.std.proofs.lemmas.Bool.Decides.{Decides-and, Decides-like, nat_tests}
 pub use Rattle.std.proofs.lemmas.Grind.{common_steps}
 pub use Rattle.std.proofs.lemmas.List.{drop-drop, drop_at, length-replicate, length-take-le, set-get_or, set-set, take-append-drop, take-append-le, take-replicate, take-take, take_all, take_at, take_more}
-pub use Rattle.std.proofs.lemmas.List.Elements.{filter-append}
+pub use Rattle.std.proofs.lemmas.List.Elements.{All-head, All-tail, filter-append}
 pub use Rattle.std.proofs.lemmas.List.Folds.{concat-append}
 pub use Rattle.std.proofs.lemmas.List.Sums.{fold-append, fold_more, sum_by-append, sum_by-cons, sum_by-le}
 pub use Rattle.std.proofs.lemmas.Nat.{div-mul-add, mod-mul-add, mul-le}
@@ -17,15 +17,21 @@ pub use Rattle.std.specs.Bool.{if◌then◌else◌, then_some}
 pub use Rattle.std.specs.Borrow.{Bor}
 pub use Rattle.std.specs.Cmp.{nat_cmp_total, unsigned_Decides}
 pub use Rattle.std.specs.Cmp.Lexicographic.{pointwise, same_text}
-pub use Rattle.std.specs.FinMap.{FinMap, get, nat_cmp-IsAntisymmetric, same_entries_map}
+pub use Rattle.std.specs.FinMap.{FinMap, empty, get, get-empty, get-insert, get-remove, gets, insert, nat_cmp-IsAntisymmetric, same_entries_map}
 pub use Rattle.std.specs.Int.{byte_at, bytes_high_first}
 pub use Rattle.std.specs.Int.Bits.{and_self}
-pub use Rattle.std.specs.List.{concat, cons_option, enumerate_from, position_or_len, range_with_len, sum_by}
+pub use Rattle.std.specs.List.{AllByRecursion, concat, cons_option, enumerate_from, position_or_len, range_with_len, sum_by}
 pub use Rattle.std.specs.Option.{option_map_or}
 pub use Rattle.std.specs.Ordering.{eq_by_cmp, nat_cmp}
 pub use Rattle.std.specs.Prelude.{Contains, Err, IfSome, IsSome, None, Ok, OnOk, Option, Result, Some, bit_and, count_by, filter, filter_map, find, flat_map, fold, is_some, max, nat_eq, nat_lt, option_and_then, option_copied, option_map, slice_get, slice_index, sum, unwrap_or, ⊤, ◌&&◌, ◌==◌, ◌||◌}
 pub use Rattle.std.specs.Result.{is_ok}
 pub use Rattle.std.specs.Simd.{first_chunks}
+pub use Rattle.ubi_laid.proofs.AllVolumes.{apart_blocks, fine_blocks, its_volume, own_like, plain_blocks}
+pub use Rattle.ubi_laid.proofs.Contents.{laid_read}
+pub use Rattle.ubi_laid.proofs.Lists.{Holds, all_at, all_from, held_entry}
+pub use Rattle.ubi_laid.specs.Laid.{AreApart, CanBeLaid, Laid, laid_blocks, static_block}
+pub use Rattle.ubi_laid.specs.LaidIn.{AreLaidIn, IsLaidAt, IsNoneOf}
+pub use Rattle.ubi_laid.specs.Laws.{EachIsVolume}
 pub use Rattle.ubi_media.proofs.ByteLists.{bytes-append, bytes-blank, bytes-drop, bytes-take, bytes_each}
 pub use Rattle.ubi_media.proofs.Cases.{below_or_last, below_same_or_above, within_or_past, zero_or_more}
 pub use Rattle.ubi_media.proofs.Checks.{check_from-append, check_from-empty, check_from-lt}
@@ -47,11 +53,13 @@ pub use Rattle.ubi_media.specs.Record.{data_pad, rec_fault, usable}
 pub use Rattle.ubi_media.specs.Vid.{kind_number, vid_bytes, vid_fault, vid_front}
 unfoldable pub use Rattle.ubi_media.specs.Vid.{breaks, fields_from, first_fault, vid_fields, vid_reading}
 pub use Rattle.ubi_media.specs.Widths.{VidFits}
+pub use Rattle.ubi_media.specs.declared.ec.EcFault.{EcFault}
 pub use Rattle.ubi_media.specs.declared.ec.EcHeader.{EcHeader}
 pub use Rattle.ubi_media.specs.declared.ec.EcRead.{EcRead}
 pub use Rattle.ubi_media.specs.declared.record.VolumeRecord.{VolumeRecord}
 pub use Rattle.ubi_media.specs.declared.refusal.Refusal.{Refusal}
 pub use Rattle.ubi_media.specs.declared.vid.VidHeader.{VidHeader}
+pub use Rattle.ubi_media.specs.declared.vid.VidRead.{VidRead}
 pub use Rattle.ubi_media.specs.declared.vid.VolKind.{VolKind}
 pub use Rattle.ubi_media.specs.declared.vid.VolKind.TheVariants.{Static}
 pub use Rattle.ubi_scan.proofs.Choice.{false_or_true}
@@ -90,7 +98,7 @@ pub use Rattle.ubi_table.specs.Stream.{HasSizes}
 pub use Rattle.ubi_table.specs.Table.{AllBlank, CopyIs, Decides, IsTable}
 unfoldable pub use Rattle.ubi_table.specs.Table.{copy_of}
 pub use Rattle.ubi_table.specs.declared.copy.CopyRead.{CopyRead}
-pub use Rattle.ubi_volume.proofs.Blanks.{blank_text, other_text, part_is}
+pub use Rattle.ubi_volume.proofs.Blanks.{blank_holds, blank_text, other_text, part_is}
 pub use Rattle.ubi_volume.proofs.Equal.{bytes_Decides, record_Decides}
 pub use Rattle.ubi_volume.proofs.Gathered.{listed_at}
 pub use Rattle.ubi_volume.proofs.MeantRecords.{meant_by, records_are, records_fit, volume_is}
@@ -112,21 +120,26 @@ pub use Rattle.ubi_volume.specs.declared.attached.BlockState.{BlockState}
 pub use Rattle.ubi_volume.specs.declared.content.Content.{Content}
 pub use Rattle.ubi_volume.specs.declared.content.Volume.{Volume}
 pub use Rattle.ubi_change.specs.Avoided.{Avoided, Avoids, BlankBelow, MayTouch, ReadBlank, avoiding, is_avoided, is_blank_one, nothing, state_avoiding, states_avoiding}
+pub use Rattle.ubi_change.specs.CommitAllowed.{IsWhole, MayBeCommitted, MayBeSized, commit_needs}
+pub use Rattle.ubi_change.specs.CommitPlan.{commit_plan, edits_plan, lay, lay_all, numbered, table_plan, trimmed}
+pub use Rattle.ubi_change.specs.CommitPlanned.{IsFrugalCommit, LeavesBoth, SurvivesCommit, WritesBytes}
 pub use Rattle.ubi_change.specs.Cuts.{SurvivesCuts, changed, header_in, is_copy, programs_copy, turn, volume_with, with_leb}
+pub use Rattle.ubi_change.specs.Edited.{Create, Edit, Remove, Rename, Replace, Resize, edited, edited_in, fresh, is_fresh, is_of, left_by, left_by_all, made_in, placed, volume_sized, with_volume, written}
 pub use Rattle.ubi_change.specs.Fitting.{AllFit, AllWithin, FitsBlock, fits, only_clears, page_of}
 pub use Rattle.ubi_change.specs.Frugal.{CountsErases, IsFrugal, TouchesOnly, counter_after, erases, given_up, touched}
-pub use Rattle.ubi_change.specs.Laws.{PlanSurvives, RenameSurvives, left}
+pub use Rattle.ubi_change.specs.Laws.{AcceptsHarmed, AcceptsTorn, CommitAvoiding, CommitSurvives, CommitSurvivesTears, PlanSurvives, PlanSurvivesTears, RenameSurvives, RenameSurvivesTears, left}
 pub use Rattle.ubi_change.specs.Order.{ComesFirst, Erases, NoErase, Programs, RisesBetweenErases}
 pub use Rattle.ubi_change.specs.Pages.{PagesCarry, line_of, programmed, with_pages}
 pub use Rattle.ubi_change.specs.Plan.{atomic_copy, blank_header, copy_header, leb_header, mapped_plan, mount, needs, next_ec, plan_of, prepare, program_header, program_text, ready_bytes, ready_ec, release, renew, taken, unmapped_plan, vid_page}
 pub use Rattle.ubi_change.specs.Planned.{IsChangeError, IsChangeRefusal, IsChangeRefusalAvoiding, IsFrugalAvoiding, IsFrugalOf, IsPlanAvoiding, IsThePlan, PlanFacts, PlanFactsOfSource}
 pub use Rattle.ubi_change.specs.Refused.{causes, first_cause, first_of, is_bad_length}
 pub use Rattle.ubi_change.specs.RenamePlan.{copy_plan, holder, layout_header, rename_plan, renamed_pages, table_pages}
-pub use Rattle.ubi_change.specs.RenamePlanned.{IsFrugalRename, IsFrugalRenameAvoiding, IsFrugalRenameOf, IsPlannedRename, IsRenameAvoiding, IsRenameError, IsRenameRefusal, IsRenameRefusalAvoiding, IsTheRename, KeepsReading, LeavesBothGood, LeavesBothGoodOf, RenameFacts, SurvivesRename, SurvivesRenameOf}
+pub use Rattle.ubi_change.specs.RenamePlanned.{IsFrugalRename, IsFrugalRenameAvoiding, IsFrugalRenameOf, IsPlannedRename, IsRenameAvoiding, IsRenameError, IsRenameRefusal, IsRenameRefusalAvoiding, IsTheRename, KeepsReading, LeavesBothGood, LeavesBothGoodOf, RenameFacts, SurvivesRename, SurvivesRenameOf, SurvivesRenameTearsOf}
 pub use Rattle.ubi_change.specs.RenameRefused.{BothGood, HasName, IsFirstCause, MayBeNamed, RenameStands, rename_rank}
 pub use Rattle.ubi_change.specs.Renamed.{ReadSame, nameless, renamed, volume_named}
 pub use Rattle.ubi_change.specs.Steps.{after_text, block_after, blocks_after, step_done, target}
 pub use Rattle.ubi_change.specs.Takeable.{able, ec_at, is_clean, is_free, is_sole_carrier, is_takeable, is_unused, is_worn, stays, takeable}
+pub use Rattle.ubi_change.specs.Tears.{IsHarmless, MayBeHarmed, MayBeLeft, NoChance, OnlyClears, SurvivesHarm, SurvivesTears, TearsCover}
 pub use Rattle.ubi_change.specs.Weak.{is_weak, is_whole, pages_needed, pages_of, torn, weak_pages}
 pub use Rattle.ubi_change.specs.declared.change.Prepared.{Prepared}
 pub use Rattle.ubi_change.specs.declared.copies.Holders.{Holders}

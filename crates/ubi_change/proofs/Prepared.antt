@@ -5,7 +5,9 @@ use Rattle.ubi_change.proofs.CopyReplaced.{IsPrepared}
 use Rattle.ubi_change.proofs.Renewed.{IsCounter, counter_back, counter_size, renew_accepted, renewed}
 use Rattle.ubi_change.proofs.Runs.{AtEachCut}
 use Rattle.ubi_change.proofs.Seq.{NamedBeside}
-use Rattle.ubi_change.proofs.Vacated.{LosesAll}
+use Rattle.ubi_change.proofs.TornCopy.{erase_torn, renew_tears}
+use Rattle.ubi_change.proofs.TornRuns.{no_tears}
+use Rattle.ubi_change.proofs.Vacated.{LosesAll, vacated}
 
 -- a Valid header is one
 pub valid_is : (o : EcRead) → IsSome (valid_ec o) → (e : EcHeader) × (o ≡ ec_read.Valid e)
@@ -41,6 +43,7 @@ module _ (s : Sizes) (g : IsGeometry s) (bs : List (List ℕ)) (m : Meant) (a : 
         reads = valid;
         image = λ h. (let named = ap seq_if valid in sym named ∙ agrees.all b inside (λ z. h (sym named ∙ z)));
         keeps = λ h. sym (ap seq_if valid) ∙ h;
+        tears = no_tears s (λ k f x. AcceptsBlocks s x m) bs;
       }
 
   -- any other is after an erase
@@ -54,4 +57,7 @@ module _ (s : Sizes) (g : IsGeometry s) (bs : List (List ℕ)) (m : Meant) (a : 
     reads = counter_back s g e counter;
     image = λ _. image;
     keeps = λ _. image;
+    tears = renew_tears s g bs b inside e counter seq (λ _. image) (λ x. AcceptsBlocks s x m)
+        (erase_torn s g bs m a b seq inside used agrees beside loses)
+        (λ t v. vacated s bs b t inside seq m a used agrees beside loses v);
   }

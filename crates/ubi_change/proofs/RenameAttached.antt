@@ -1,24 +1,17 @@
 -- The plan of a rename of an attached image, with nothing against it: its parts, and that it survives every cut.
-use Rattle.ubi_change.proofs.Prelude.{◌≡◌, ◌≢◌, ℕ, suc, ◌+◌, ◌*◌, ◌^◌, ◌<◌, ◌≤◌, inl, inr, Bool, true, false, cond, List, ◌++◌, append_assoc, length, refl, ap, sym, ◌∙◌, subst, arith, None, Option, Some, count_by, nat_lt, option_map_or, cases_lt, fold-append, sum_by-append, IsGeometry, Sizes, slots, EcHeader, VidHeader, Image, eraseblocks, of_blocks, IsMember, Leb, Wins, layout, AreRecords, Records, table_bytes, AllBlank, AcceptsBlocks, AttachValue, Meant, records_of, Volume, records_are, records_meant, found_wins, none_found, programs_copy, turn, mount, prepare, program_text, ready_bytes, ready_ec, release, taken, copy_plan, holder, layout_header, rename_plan, renamed_pages, table_pages, LeavesBothGood, KeepsReading, SurvivesRename, BothGood, MayBeNamed, ReadSame, renamed, blocks_after, step_done, ec_at, weak_pages, pages_needed, Step}
+use Rattle.ubi_change.proofs.Prelude.{◌≡◌, ◌≢◌, ℕ, zero, suc, ◌+◌, ◌^◌, ◌<◌, ◌≤◌, Bool, true, false, cond, List, [], ◌++◌, length, refl, ap, sym, ◌∙◌, subst, arith, None, Option, Some, nat_lt, option_map_or, IsGeometry, Sizes, Image, eraseblocks, of_blocks, Wins, layout, AcceptsBlocks, AttachValue, Meant, records_of, Volume, found_wins, none_found, turn, taken, copy_plan, holder, rename_plan, renamed_pages, table_pages, LeavesBothGood, KeepsReading, SurvivesRename, BothGood, MayBeNamed, ReadSame, renamed, blocks_after, weak_pages, Step, get, ◌-◌, SurvivesHarm, SurvivesTears, pages_needed, pages_of}
 use Rattle.std.specs.FinMap as finite
+use Rattle.ubi_change.proofs.TornCopy.{any_tears, exact_tears}
 use Rattle.ubi_change.proofs.AttachedImage as on
-use Rattle.ubi_change.proofs.Choosing.{MayBeTaken, may_be_taken, two_apart}
-use Rattle.ubi_change.proofs.Copied.{IsCopy}
-use Rattle.ubi_change.proofs.CopyReplaced.{IsPrepared, IsRelease}
-use Rattle.ubi_change.proofs.FirstCopy.{IsHalfway, first_beside, first_turns}
-use Rattle.ubi_change.proofs.LayoutHeader.{layout_copy}
-use Rattle.ubi_change.proofs.Premises.{next_counter, ready, taken_beside, taken_loses}
 use Rattle.ubi_change.proofs.RenamedMeaning as naming
 use Rattle.ubi_change.proofs.RenamedMeaning.{IsRenamed}
-use Rattle.ubi_change.proofs.Runs.{AtEachCut, TurnsAt, after-all, done, turns-before}
-use Rattle.ubi_change.proofs.SecondCopy.{IsWhollyNamed, second_turns}
-use Rattle.ubi_change.proofs.Seq.{NamedBeside}
 use Rattle.ubi_change.proofs.Survives.{accepted_at}
-use Rattle.ubi_change.proofs.TablePages.{bytes_size}
-use Rattle.ubi_change.proofs.Turned.{one-copy, turn-is}
-use Rattle.ubi_change.proofs.Unused.{layout_counts, one_name, used_by_winner}
-use Rattle.ubi_change.proofs.Vacated.{LosesAll}
+use Rattle.ubi_change.proofs.Unused.{used_by_winner}
 use Rattle.ubi_change.proofs.PlanPremises.{IsShown}
+use Rattle.ubi_change.proofs.OrphanWritten.{IsFilling, filling_none}
+use Rattle.ubi_change.proofs.NamedReads.{renamed_loses, renamed_reads}
+use Rattle.ubi_change.proofs.TableAttached as table
+use Rattle.ubi_change.proofs.TableAttached.{Rewriting}
 
 -- a rename of an attached image, against which nothing stands
 pub record Renaming : Type 0 where
@@ -55,9 +48,6 @@ module _ (r : Renaming) where
   pub acc : AcceptsBlocks s bs m
   acc = r.attached.accepted.accepted
 
-  same : records_of m ≡ acc.records
-  same = records_meant s bs acc.records m acc.table acc.means
-
   -- the renamed meaning
   pub free : (slot : ℕ) (w : Volume) → slot ≢ r.id → finite.get m.volumes slot ≡ Some w → w.entry.name ≡ r.name → ⊥
   free slot w apart e f = r.allowed.free slot (apart, w, e, f)
@@ -68,45 +58,8 @@ module _ (r : Renaming) where
   pub named-is : renamed m r.id r.name ≡ n
   named-is = naming.renamed-is m acc.means.meaning r.id r.name r.allowed.volume r.allowed.there r.allowed.named free
 
-  is_renamed : IsRenamed m n
+  pub is_renamed : IsRenamed m n
   is_renamed = naming.renamed-next m acc.means.meaning r.id r.name r.allowed.volume r.allowed.there r.allowed.named free
-
-  pub sizes : n.sizes ≡ s
-  sizes = acc.means.sizes
-
-  pub are : AreRecords (records_of n)
-  are = records_are n is_renamed.meaning
-
-  pub size : length (table_bytes (records_of n)) ≡ slots s * 172
-  size = bytes_size s r.geometry (records_of n) sizes are
-
-  abbrev pub new : List ℕ
-  new = table_pages s (records_of n)
-
-  pub new-is : renamed_pages s m r.id r.name ≡ new
-  new-is = ap (λ (k : Meant). table_pages s (records_of k)) named-is
-
-  strong : weak_pages s new ≡ None
-  strong = ap (weak_pages s) (sym new-is) ∙ r.allowed.strong
-
-  -- the eraseblocks that are taken, and those that hold the copies
-  abbrev pub b0 : ℕ
-  b0 = taken s bs a 0
-
-  abbrev pub b1 : ℕ
-  b1 = taken s bs a 1
-
-  pub may0 : MayBeTaken s bs a.states b0
-  may0 = may_be_taken s bs a.states 0 (let e = r.allowed.enough in omega arith)
-
-  pub may1 : MayBeTaken s bs a.states b1
-  may1 = may_be_taken s bs a.states 1 (let e = r.allowed.enough in omega arith)
-
-  abbrev pub old0 : ℕ
-  old0 = holder s bs a 0
-
-  abbrev pub old1 : ℕ
-  old1 = holder s bs a 1
 
   holder_wins : (c p : ℕ) → Wins s bs (layout, c) p → Wins s bs (layout, c) (holder s bs a c)
   holder_wins c p w = by_found (finite.get a.scan.winners (layout, c)) refl
@@ -116,199 +69,64 @@ module _ (r : Renaming) where
       by_found (Some q) e = found_wins s bs a.scan r.attached.scan (layout, c) q e
       by_found None e = absurd (none_found s bs a.scan r.attached.scan (layout, c) e p w.member)
 
-  pub wins0 : Wins s bs (layout, 0) old0
-  wins0 = holder_wins 0 r.allowed.both.0.0 r.allowed.both.0.1
+  pub held : (c : ℕ) → c < 2 → Wins s bs (layout, c) (holder s bs a c)
+  held zero l = holder_wins 0 r.allowed.both.0.0 r.allowed.both.0.1
+  held (suc zero) l = holder_wins 1 r.allowed.both.1.0 r.allowed.both.1.1
+  held (suc (suc c)) l = absurd (omega arith)
 
-  pub wins1 : Wins s bs (layout, 1) old1
-  wins1 = holder_wins 1 r.allowed.both.1.0 r.allowed.both.1.1
+  pub new-is : renamed_pages s m r.id r.name ≡ table_pages s (records_of n)
+  new-is = ap (λ (k : Meant). table_pages s (records_of k)) named-is
 
-  loses0 : LosesAll s bs (records_of m) b0
-  loses0 = taken_loses s r.geometry bs a (records_of m) r.attached.states b0 may0
+  pub filling : IsFilling s bs a 0 bs
+  filling = filling_none r.image r.geometry a r.attached
+      (used_by_winner s bs (layout, 0) (holder s bs a 0) (held 0 (omega arith)))
 
-  loses1 : LosesAll s bs (records_of m) b1
-  loses1 = taken_loses s r.geometry bs a (records_of m) r.attached.states b1 may1
+  -- it rewrites the table, and writes nothing before
+  abbrev pub w : Rewriting
+  w = record {
+    image = r.image;
+    geometry = r.geometry;
+    from = a;
+    attached = r.attached;
+    at = 0;
+    start = bs;
+    filling = filling;
+    next = n;
+    reads = renamed_reads s bs m n acc is_renamed;
+    lost = λ i l h. renamed_loses s bs m n acc is_renamed (taken s bs a i) (filling.loses i l h);
+    wins = held;
+    strong = ap (weak_pages s) (sym new-is) ∙ r.allowed.strong;
+    few = (let f = r.allowed.few in omega arith);
+    enough = (let e = r.allowed.enough in omega arith);
+  }
 
-  -- these are four
-  pub spares_apart : b1 ≢ b0
-  spares_apart z = two_apart s bs a.states (let e = r.allowed.enough in omega arith) (sym z)
-
-  spare_holds_none : (b c p : ℕ) → LosesAll s bs (records_of m) b → Wins s bs (layout, c) p → p ≢ b
-  spare_holds_none b c p loses wins z = loses (layout, c) (layout_counts (records_of m) c)
-      (subst (Wins s bs (layout, c)) z wins)
-
-  pub old0_b0 : old0 ≢ b0
-  old0_b0 = spare_holds_none b0 0 old0 loses0 wins0
-
-  pub old0_b1 : old0 ≢ b1
-  old0_b1 = spare_holds_none b1 0 old0 loses1 wins0
-
-  pub old1_b0 : old1 ≢ b0
-  old1_b0 = spare_holds_none b0 1 old1 loses0 wins1
-
-  pub old1_b1 : old1 ≢ b1
-  old1_b1 = spare_holds_none b1 1 old1 loses1 wins1
-
-  pub holders_apart : old1 ≢ old0
-  holders_apart z =
-      let same = one_name s bs (records_of m) old0 (layout, 1) (layout, 0)
-      (subst (IsMember s bs (layout, 1)) z wins1.member) wins0.member in
-      let y : ◌≡◌ {A = ℕ} 1 0 = ap (λ (x : Leb). x.1) same in
-      omega arith
-
-  -- copy 0
-  used : AllBlank s bs → ⊥
-  used = used_by_winner s bs (layout, 0) old0 wins0
-
-  named0 : NamedBeside s seq bs b0
-  named0 = taken_beside s r.geometry bs a (records_of m) r.attached.states b0 may0 seq
-      (on.agrees r.image r.geometry a r.attached)
-
-  named1 : NamedBeside s seq bs b1
-  named1 = taken_beside s r.geometry bs a (records_of m) r.attached.states b1 may1 seq
-      (on.agrees r.image r.geometry a r.attached)
-
-  pub made0 : (e : EcHeader) × (ready_ec s bs a b0 ≡ Some e)
-      × IsPrepared s bs m b0 seq (prepare s bs a b0) (ready_bytes s bs a b0) e
-  made0 = ready s r.geometry bs a (records_of m) r.attached.states b0 may0 bs m acc may0.0 refl
-      (on.whole r.image r.geometry a r.attached b0 may0.0) (on.agrees r.image r.geometry a r.attached) named0 used
-      (subst (λ (t : Records). LosesAll s bs t b0) same loses0) few narrow
-
-  abbrev pub header0 : VidHeader
-  header0 = layout_header 0 (a.scan.top_sqnum + 1) new
-
-  copy0 : IsCopy s bs seq (layout, 0) (ready_bytes s bs a b0) made0.0 header0 new
-  copy0 = layout_copy s r.geometry bs m b0 seq (prepare s bs a b0) (ready_bytes s bs a b0) made0.0 made0.2 0
-      (a.scan.top_sqnum + 1) (omega arith) (let f = r.allowed.few in omega arith)
-      (on.above r.image r.geometry a r.attached) (records_of n) size strong
-
-  release_is : (cs : List (List ℕ)) (p : ℕ) → (NamedBeside s seq bs p → NamedBeside s seq cs p)
-      → IsRelease s cs p seq (release s bs a p (ec_at s bs p))
-  release_is cs p named = on.release_is r.image r.geometry a r.attached cs p (ec_at s bs p)
-      (next_counter s bs a few narrow p) named
-
-  abbrev pub written0 : List Step
-  written0 = mount s bs a b0 header0 ++ program_text s b0 new
-
-  abbrev pub rel0 : List Step
-  rel0 = release s bs a old0 (ec_at s bs old0)
-
-  abbrev pub steps0 : List Step
-  steps0 = written0 ++ rel0
-
-  abbrev turn0 : ℕ
-  turn0 = length (prepare s bs a b0) + suc (pages_needed s new)
-
-  abbrev IsHalf : List (List ℕ) → Type 0
-  IsHalf = IsHalfway s bs seq n b0 old1 b1 (a.scan.top_sqnum + 1 + 1)
-
-  pub first : TurnsAt s (λ x. AcceptsBlocks s x m) IsHalf bs steps0 turn0
-  first = first_turns s r.geometry bs m n acc is_renamed b0 b1 old0 old1 may0.0 spares_apart seq
-      (on.agrees r.image r.geometry a r.attached) named0 loses0 loses1 wins0 wins1 (a.scan.top_sqnum + 1)
-      (ready_bytes s bs a b0) made0.0 copy0 (prepare s bs a b0) rel0 made0.2 (release_is bs old0 (λ k. k))
-
-  -- the eraseblocks between the copies
-  abbrev pub cs : List (List ℕ)
-  cs = done s bs steps0
-
-  -- the image is named beside an eraseblock, if it was before
-  named_then : (p : ℕ) → NamedBeside s seq bs p → NamedBeside s seq cs p
-  named_then = first_beside s r.geometry bs m n acc is_renamed b0 b1 old0 old1 may0.0 spares_apart seq
-      (on.agrees r.image r.geometry a r.attached) named0 loses0 loses1 wins0 wins1 (a.scan.top_sqnum + 1)
-      (ready_bytes s bs a b0) made0.0 copy0 (prepare s bs a b0) rel0 made0.2 (release_is bs old0 (λ k. k))
-
-  pub half : IsHalf cs
-  half = subst IsHalf (after-all s bs steps0) (first.from (length steps0) first.comes (omega arith))
-
-  -- copy 1
-  pub inside1 : b1 < length cs
-  inside1 = let e = half.size in let l = may1.0 in omega arith
-
-  pub made1 : (e : EcHeader) × (ready_ec s bs a b1 ≡ Some e)
-      × IsPrepared s cs n b1 seq (prepare s bs a b1) (ready_bytes s bs a b1) e
-  made1 =
-      let then = half.accepted in
-      let lost = subst (λ (t : Records). LosesAll s cs t b1) (records_meant s cs then.records n then.table then.means)
-      half.loses in
-      ready s r.geometry bs a (records_of m) r.attached.states b1 may1 cs n then inside1 half.same
-      (on.whole r.image r.geometry a r.attached b1 may1.0) half.agrees (named_then b1 named1)
-      (used_by_winner s cs (layout, 0) b0 half.wins_first) lost few narrow
-
-  abbrev pub header1 : VidHeader
-  header1 = layout_header 1 (a.scan.top_sqnum + 1 + 1) new
-
-  copy1 : IsCopy s cs seq (layout, 1) (ready_bytes s bs a b1) made1.0 header1 new
-  copy1 = layout_copy s r.geometry cs n b1 seq (prepare s bs a b1) (ready_bytes s bs a b1) made1.0 made1.2 1
-      (a.scan.top_sqnum + 1 + 1) (omega arith) (let f = r.allowed.few in omega arith) half.below (records_of n)
-      size strong
-
-  abbrev pub written1 : List Step
-  written1 = mount s bs a b1 header1 ++ program_text s b1 new
-
-  abbrev pub rel1 : List Step
-  rel1 = release s bs a old1 (ec_at s bs old1)
-
-  abbrev pub steps1 : List Step
-  steps1 = written1 ++ rel1
-
-  pub second : TurnsAt s (λ x. AcceptsBlocks s x n) (IsWhollyNamed s n) cs steps1
-      (length (prepare s bs a b1) + suc (pages_needed s new))
-  second = second_turns s r.geometry bs n b0 b1 old1 seq (a.scan.top_sqnum + 1 + 1) cs half inside1
-      (named_then b1 named1) (ready_bytes s bs a b1) made1.0 copy1 (prepare s bs a b1) rel1 made1.2
-      (release_is cs old1 (named_then old1))
-
-  -- both, one behind the other
   abbrev pub steps : List Step
-  steps = steps0 ++ steps1
+  steps = table.steps w
 
   pub plan-is : rename_plan s bs a r.id r.name ≡ steps
   plan-is =
-      let two : a.scan.top_sqnum + 2 ≡ a.scan.top_sqnum + 1 + 1 = omega arith in
-      ap (λ (xs : List ℕ). copy_plan s bs a xs 0 (a.scan.top_sqnum + 1) ++ copy_plan s bs a xs 1 (a.scan.top_sqnum + 2))
+      let one : a.scan.top_sqnum + 1 ≡ a.scan.top_sqnum + 1 + 0 = omega arith in
+      let two : a.scan.top_sqnum + 2 ≡ a.scan.top_sqnum + 1 + (0 + 1) = omega arith in
+      let next : 1 ≡ 0 + 1 = omega arith in
+      let new = table_pages s (records_of n) in
+      ap (λ (xs : List ℕ). copy_plan s bs a xs 0 0 (a.scan.top_sqnum + 1) ++ copy_plan s bs a xs 1 1 (a.scan.top_sqnum + 2))
       new-is
-      ∙ ap (λ (q : ℕ). copy_plan s bs a new 0 (a.scan.top_sqnum + 1) ++ copy_plan s bs a new 1 q) two
-
-  turns : TurnsAt s (λ x. AcceptsBlocks s x m) (λ x. AcceptsBlocks s x n) bs steps turn0
-  turns = turns-before s (λ x. AcceptsBlocks s x m) (λ x. AcceptsBlocks s x n) bs steps0 steps1 turn0 (record {
-    comes = first.comes;
-    before = first.before;
-    from = λ k l h. (first.from k l h).accepted;
-  }) cuts1
-    where
-      cuts1 : AtEachCut s (λ x. AcceptsBlocks s x n) cs steps1
-      cuts1 k l = elim (cases_lt k (length (prepare s bs a b1) + suc (pages_needed s new))) [
-        | inl h ↦ second.before k h
-        | inr h ↦ (second.from k h l).accepted
-      ]
-
-  -- the turn is that of copy 0
-  turn_is : turn s steps new ≡ turn0
-  turn_is =
-      ap (λ xs. turn s xs new) (append_assoc written0 rel0 steps1)
-      ∙ turn-is s r.geometry (ready_bytes s bs a b0) made0.2.size header0 copy0.fits copy0.sound refl b0 new
-      (prepare s bs a b0) (rel0 ++ steps1) (on.prepare_fails r.image r.geometry a r.attached b0)
-
-  two : count_by (programs_copy s) steps ≡ 2
-  two =
-      let one0 = one-copy s r.geometry (ready_bytes s bs a b0) made0.2.size header0 copy0.fits copy0.sound refl b0 new
-      (prepare s bs a b0) rel0 (on.prepare_fails r.image r.geometry a r.attached b0)
-      (on.release_fails r.image r.geometry a r.attached old0 (ec_at s bs old0)) in
-      let one1 = one-copy s r.geometry (ready_bytes s bs a b1) made1.2.size header1 copy1.fits copy1.sound refl b1 new
-      (prepare s bs a b1) rel1 (on.prepare_fails r.image r.geometry a r.attached b1)
-      (on.release_fails r.image r.geometry a r.attached old1 (ec_at s bs old1)) in
-      let sum = sum_by-append (λ (x : Step). cond (programs_copy s x) 1 0) steps0 steps1 in
-      omega arith
+      ∙ ap (λ (q : ℕ). copy_plan s bs a new 0 0 q ++ copy_plan s bs a new 1 1 (a.scan.top_sqnum + 2)) one
+      ∙ ap (λ (q : ℕ). copy_plan s bs a new 0 0 (a.scan.top_sqnum + 1 + 0) ++ copy_plan s bs a new 1 1 q) two
+      ∙ table.plan-is w
 
   survives_steps : SurvivesRename s bs m r.id r.name steps
   survives_steps =
-      let place : turn s steps (renamed_pages s m r.id r.name) ≡ turn0 = ap (turn s steps) new-is ∙ turn_is in
+      let place : turn s steps (renamed_pages s m r.id r.name) ≡ table.turn0 w =
+      ap (turn s steps) new-is ∙ table.turn_is w [] tt ∙ omega arith in
       record {
-        two_copies = two;
-        comes = (let c = turns.comes in omega arith);
+        two_copies = table.two w;
+        comes = (let c = (table.turns w).comes in omega arith);
         each = λ k l.
             subst (λ (t : ℕ). AcceptsBlocks s (blocks_after s bs steps k) (cond (nat_lt k t) m (renamed m r.id r.name)))
             (sym place)
-            (subst (λ (z : Meant). AcceptsBlocks s (blocks_after s bs steps k) (cond (nat_lt k turn0) m z)) (sym named-is)
-            (accepted_at s bs m n steps turn0 turns k l));
+            (subst (λ (z : Meant). AcceptsBlocks s (blocks_after s bs steps k) (cond (nat_lt k (table.turn0 w)) m z))
+            (sym named-is) (accepted_at s bs m n steps (table.turn0 w) (table.turns w) k l));
       }
 
   pub survives_rename : SurvivesRename s bs m r.id r.name (rename_plan s bs a r.id r.name)
@@ -330,14 +148,42 @@ module _ (r : Renaming) where
       by_turn k l false accepted =
           (renamed m r.id r.name, accepted, subst (ReadSame m) (sym named-is) is_renamed.same)
 
-  -- at the end both copies are good
-  both_end : BothGood s (blocks_after s bs steps (length steps)) (records_of n)
-  both_end =
-      subst (λ (z : List (List ℕ)). BothGood s z (records_of n))
-      (after-all s cs steps1 ∙ sym (fold-append (step_done s) bs steps0 steps1) ∙ sym (after-all s bs steps))
-      (second.from (length steps1) second.comes (omega arith)).both
-
   pub leaves_both_good : LeavesBothGood s bs m r.id r.name (rename_plan s bs a r.id r.name)
   leaves_both_good =
       subst (LeavesBothGood s bs m r.id r.name) (sym plan-is)
-      (subst (λ (z : Meant). BothGood s (blocks_after s bs steps (length steps)) (records_of z)) (sym named-is) both_end)
+      (subst (λ (z : Meant). BothGood s (blocks_after s bs steps (length steps)) (records_of z)) (sym named-is)
+      (table.both_end w))
+
+  -- it survives each tear too
+  place_is : turn s steps (renamed_pages s m r.id r.name) ≡ table.turn0 w
+  place_is = ap (turn s steps) new-is ∙ table.turn_is w [] tt ∙ omega arith
+
+  -- what holds for the steps and the new meaning holds for the plan and the renamed one
+  plan_has : (F : Meant → List Step → ℕ → ℕ → Type 0)
+      → F n steps (table.turn0 w) (table.turn0 w + (pages_of s (table.new w) - pages_needed s (table.new w)))
+      → F (renamed m r.id r.name) (rename_plan s bs a r.id r.name)
+      (turn s (rename_plan s bs a r.id r.name) (renamed_pages s m r.id r.name))
+      (turn s (rename_plan s bs a r.id r.name) (renamed_pages s m r.id r.name)
+      + (pages_of s (renamed_pages s m r.id r.name) - pages_needed s (renamed_pages s m r.id r.name)))
+  plan_has F holds =
+      let more : List ℕ → ℕ = λ xs. pages_of s xs - pages_needed s xs in
+      subst (λ (xs : List Step). F (renamed m r.id r.name) xs (turn s xs (renamed_pages s m r.id r.name))
+      (turn s xs (renamed_pages s m r.id r.name) + more (renamed_pages s m r.id r.name))) (sym plan-is)
+      (subst (λ (z : Meant). F z steps (turn s steps (renamed_pages s m r.id r.name))
+      (turn s steps (renamed_pages s m r.id r.name) + more (renamed_pages s m r.id r.name))) (sym named-is)
+      (subst (λ (k : ℕ). F n steps k (k + more (renamed_pages s m r.id r.name))) (sym place_is)
+      (subst (λ (xs : List ℕ). F n steps (table.turn0 w) (table.turn0 w + more xs)) (sym new-is) holds)))
+
+  pub rename_tears : SurvivesTears s bs m (renamed m r.id r.name) (rename_plan s bs a r.id r.name)
+      (turn s (rename_plan s bs a r.id r.name) (renamed_pages s m r.id r.name))
+  rename_tears = plan_has (λ z xs at last. SurvivesTears s bs m z xs at)
+      (exact_tears s bs m n steps (table.turn0 w) (table.last0 w) (table.table_tears w))
+
+  pub rename_harm : SurvivesHarm s bs m (renamed m r.id r.name) (rename_plan s bs a r.id r.name)
+      (turn s (rename_plan s bs a r.id r.name) (renamed_pages s m r.id r.name))
+      (turn s (rename_plan s bs a r.id r.name) (renamed_pages s m r.id r.name)
+      + (pages_of s (renamed_pages s m r.id r.name) - pages_needed s (renamed_pages s m r.id r.name)))
+  rename_harm = plan_has (λ z xs at last. SurvivesHarm s bs m z xs at last)
+      (subst (SurvivesHarm s bs m n steps (table.turn0 w)) (table.last_is w)
+      (any_tears s bs m n steps (table.turn0 w) (table.last0 w) (let e = table.last_is w in omega arith)
+      (table.table_tears w)))

@@ -1,6 +1,6 @@
 -- What holds for the steps of a rename, since they are those of its plan.
-use Rattle.ubi_change.proofs.Prelude.{ℕ, List, sym, subst, AreBytes, IsGeometry, Image, of_blocks, AllFit, RisesBetweenErases, renamed_pages, LeavesBothGood, LeavesBothGoodOf, IsFrugalRename, IsFrugalRenameAvoiding, RenameFacts, IsRenameAvoiding, KeepsReading, SurvivesRename, SurvivesRenameOf, ReadBlank, Avoided, Avoids, avoiding, Step}
-use Rattle.ubi_change.proofs.RenameAttached.{Renaming, leaves_both_good, keeps_reading, survives_rename}
+use Rattle.ubi_change.proofs.Prelude.{ℕ, List, sym, subst, AreBytes, IsGeometry, Image, of_blocks, AllFit, RisesBetweenErases, renamed_pages, LeavesBothGood, LeavesBothGoodOf, IsFrugalRename, IsFrugalRenameAvoiding, RenameFacts, IsRenameAvoiding, KeepsReading, SurvivesRename, SurvivesRenameOf, ReadBlank, Avoided, Avoids, avoiding, renamed, turn, Step, SurvivesRenameTearsOf, SurvivesTears}
+use Rattle.ubi_change.proofs.RenameAttached.{Renaming, leaves_both_good, keeps_reading, rename_tears, survives_rename}
 use Rattle.ubi_change.proofs.RenameFits.{rename_fits}
 use Rattle.ubi_change.proofs.RenameFrugal.{rename_frugal}
 use Rattle.ubi_change.proofs.RenameRises.{rename_rises}
@@ -25,6 +25,14 @@ module _ (image : Image) (av : Avoided) (g : IsGeometry image.sizes) (blank : of
     is.from.meaning,
     is.attached.accepted,
     subst (of_blocks SurvivesRename image is.from.meaning id name) (sym is.plan) (survives_rename r),
+  )
+
+  kept_torn : SurvivesRenameTearsOf image id name steps
+  kept_torn = (
+    is.from.meaning,
+    is.attached.accepted,
+    subst (λ (xs : List Step). of_blocks SurvivesTears image is.from.meaning (renamed is.from.meaning id name) xs
+        (turn image.sizes xs (renamed_pages image.sizes is.from.meaning id name))) (sym is.plan) (rename_tears r),
   )
 
   kept_reads : KeepsReading image steps
@@ -57,6 +65,7 @@ module _ (image : Image) (av : Avoided) (g : IsGeometry image.sizes) (blank : of
   pub rename_kept : AreBytes (renamed_pages image.sizes is.from.meaning id name) → RenameFacts image av id name steps
   rename_kept bytes = record {
     survives = kept_survives;
+    torn = kept_torn;
     reads = kept_reads;
     copies = kept_copies;
     fits = kept_fits bytes;

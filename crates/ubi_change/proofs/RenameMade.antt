@@ -122,7 +122,7 @@ module _ (image : Image) (av : Avoided) (seen : Seen) (is : IsSurvey image seen)
     holder_is c p e = ap (λ (o : Option ℕ). option_map_or (λ p. p) o 0) e
 
     pub copies-are : (new : List ℕ) → two_copies s seen.scan old on new
-        ≡ copy_plan s bs a new 0 (seen.scan.top_sqnum + 1) ++ copy_plan s bs a new 1 (seen.scan.top_sqnum + 2)
+        ≡ copy_plan s bs a new 0 0 (seen.scan.top_sqnum + 1) ++ copy_plan s bs a new 1 1 (seen.scan.top_sqnum + 2)
     copies-are new =
         let first = held.1 in
         let second = held.2 in

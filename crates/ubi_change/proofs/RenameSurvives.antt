@@ -1,18 +1,9 @@
 -- The law: the plan of a rename of an attached image, with nothing against it, survives every cut, and leaves both
--- copies good.
+-- copies good, since it is a commit.
 use Rattle.ubi_change.proofs.Prelude.{RenameSurvives}
 use Rattle.ubi_change.proofs.PlanPremises.{shown}
-use Rattle.ubi_change.proofs.RenameAttached.{Renaming, leaves_both_good, survives_rename}
+use Rattle.ubi_change.proofs.RenameCommits.{rename_both, rename_survives}
 
-pub rename_survives : RenameSurvives
-rename_survives image a id name g att may =
-    let r : Renaming = record {
-      image = image;
-      geometry = g;
-      from = a;
-      attached = shown image a att;
-      id = id;
-      name = name;
-      allowed = may;
-    } in
-    (survives_rename r, leaves_both_good r)
+pub rename_law : RenameSurvives
+rename_law image a id name g att may =
+    let k = shown image a att in (rename_survives image g a k id name may, rename_both image g a k id name may)

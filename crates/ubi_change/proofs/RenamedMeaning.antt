@@ -12,14 +12,6 @@ pub record IsRenamed (m n : Meant) : Type 0 where
   pub meaning : IsMeaning n
   pub same : ReadSame m n
 
-pub renamed_self : (m : Meant) → IsMeaning m → IsRenamed m m
-renamed_self m is = record {
-  sizes = refl;
-  image_seq = refl;
-  meaning = is;
-  same = λ id. refl;
-}
-
 -- a volume is missing in both, or is in both with the same content and records that are alike
 abbrev pub AreRenamed : Option Volume → Option Volume → Type 0
 AreRenamed None None = Unit {0}

@@ -21,7 +21,7 @@ module _ (s : Sizes) (g : IsGeometry s) (e : EcHeader) (h : IsCounter e) where
       (ec_read_back s e (omega (arith, g.data_from, g.leb, g.peb_to)) (omega (arith, g.leb, g.peb_to)) h.counter
       h.image_seq))
 
-  programmed : overwrite (0 * s.page) (filled s.page (ec_bytes s e)) (blank s.peb_size)
+  pub programmed : overwrite (0 * s.page) (filled s.page (ec_bytes s e)) (blank s.peb_size)
       ≡ filled s.peb_size (ec_bytes s e)
   programmed =
       let zero_place : 0 * s.page ≡ 0 = omega arith in

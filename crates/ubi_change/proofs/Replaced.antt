@@ -27,10 +27,10 @@ module _ (s : Sizes) (bs : List (List ℕ)) (b : ℕ) (x : List ℕ) (inside : b
   pub named_here : (of : Leb) → IsMember s (set bs b x) of b → named_in s x ≡ Some of
   named_here of h = ap (named_in s) (sym block_same) ∙ h.named
 
-  sqnum_kept : (p : ℕ) → p ≢ b → sqnum_at s (set bs b x) p ≡ sqnum_at s bs p
+  pub sqnum_kept : (p : ℕ) → p ≢ b → sqnum_at s (set bs b x) p ≡ sqnum_at s bs p
   sqnum_kept p e = ap (sqnum_in s) (block_other p e)
 
-  good_kept : (p : ℕ) → p ≢ b → good_at s (set bs b x) p ≡ good_at s bs p
+  pub good_kept : (p : ℕ) → p ≢ b → good_at s (set bs b x) p ≡ good_at s bs p
   good_kept p e = ap (good_in s) (block_other p e)
 
   sqnum_here : sqnum_at s (set bs b x) b ≡ sqnum_in s x
@@ -40,7 +40,7 @@ module _ (s : Sizes) (bs : List (List ℕ)) (b : ℕ) (x : List ℕ) (inside : b
   good_here = ap (good_in s) block_same
 
   -- what holds of each other member's number and goodness still does
-  over_set : (P : ℕ → Bool → Type 0) (of : Leb)
+  pub over_set : (P : ℕ → Bool → Type 0) (of : Leb)
       → ((q : ℕ) → q ≢ b → IsMember s bs of q → P (sqnum_at s bs q) (good_at s bs q))
       → (named_in s x ≡ Some of → P (sqnum_in s x) (good_in s x)) → (q : ℕ) → IsMember s (set bs b x) of q
       → P (sqnum_at s (set bs b x) q) (good_at s (set bs b x) q)

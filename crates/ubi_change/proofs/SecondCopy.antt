@@ -1,14 +1,16 @@
 -- Copy 1 of the table is rewritten after copy 0: the meaning stays, and then both copies are good.
-use Rattle.ubi_change.proofs.Prelude.{◌≡◌, ◌≢◌, ℕ, suc, ◌+◌, ◌<◌, List, [], ◌∷◌, ◌++◌, length, set, ap, ◌∙◌, subst, arith, length-set, IsGeometry, Sizes, EcHeader, VidHeader, NoFault, block, leb, Wins, layout, AreRecords, Records, copy_of, AcceptsBlocks, Meant, records_of, records_meant, program_header, program_text, BothGood, layout_header, table_pages, pages_needed, Step, records_are}
+use Rattle.ubi_change.proofs.Prelude.{◌≡◌, ◌≢◌, ℕ, suc, ◌+◌, ◌<◌, List, [], ◌∷◌, ◌++◌, length, set, ap, ◌∙◌, subst, arith, length-set, IsGeometry, Sizes, EcHeader, VidHeader, NoFault, block, leb, Wins, layout, Records, copy_of, AcceptsBlocks, Meant, records_of, records_meant, program_header, program_text, BothGood, layout_header, table_pages, pages_needed, Step, release, pages_of}
 use Rattle.ubi_table.specs.declared.copy.CopyRead.TheVariants as copy
+use Rattle.ubi_change.specs.declared.step.Step.TheVariants as step
+use Rattle.ubi_change.proofs.TornCopy.{EitherAt, erase_torn}
+use Rattle.ubi_change.proofs.TornRuns.{AtEachTear, TearIs}
 use Rattle.ubi_change.proofs.Copied.{IsCopy}
-use Rattle.ubi_change.proofs.CopyReplaced.{IsGoodCopy, IsPrepared, IsRelease, replaced}
+use Rattle.ubi_change.proofs.CopyReplaced.{IsGoodCopy, IsPrepared, IsRelease, replaced, replaced_tears}
 use Rattle.ubi_change.proofs.Emptied.{emptied_keeps}
 use Rattle.ubi_change.proofs.FirstCopy.{IsHalfway}
-use Rattle.ubi_change.proofs.NamedAccepted.{meant_fit, named_accepted, table_by_first}
+use Rattle.ubi_change.proofs.TableAccepted.{accepted_reads, meant_fit, reads_kept, table_accepted, table_by_first}
 use Rattle.ubi_change.proofs.Newest.{old_loses}
 use Rattle.ubi_change.proofs.TableCopied.{copied_clean, copied_keeps, copied_reads, copied_volumes, copied_wins}
-use Rattle.ubi_change.proofs.RenamedMeaning.{renamed_self}
 use Rattle.ubi_change.proofs.Runs.{TurnsAt}
 use Rattle.ubi_change.proofs.Seq.{NamedBeside}
 use Rattle.ubi_change.proofs.Unused.{layout_counts, used_by_winner}
@@ -41,38 +43,34 @@ module _ (s : Sizes) (g : IsGeometry s) (os : List (List ℕ)) (n : Meant) (b0 b
   old_apart z = half.loses (layout, 1) (layout_counts (records_of n) 1)
       (subst (Wins s bs (layout, 1)) z half.wins_second)
 
-  are : AreRecords (records_of n)
-  are = records_are n a.means.meaning
-
   module _ (x : List ℕ) (k : IsGoodCopy s seq bs (layout, 1) header new x) where
     abbrev cs : List (List ℕ)
     cs = set bs b1 x
 
     clean : NoFault s cs
-    clean = copied_clean s g bs n a b1 inside seq half.agrees half.loses 1 header (records_of n) a.means.sizes are x k
+    clean = copied_clean s g bs a.clean n a.means.sizes a.means.meaning b1 inside seq half.agrees half.loses 1 header x k
 
     wins : Wins s cs (layout, 1) b1
-    wins = copied_wins s g bs n a b1 inside seq half.agrees half.loses 1 header (records_of n) a.means.sizes are x k
+    wins = copied_wins s g bs a.clean n a.means.sizes a.means.meaning b1 inside seq half.agrees half.loses 1 header x k
 
     first : Wins s cs (layout, 0) b0 × (block cs b0 ≡ block bs b0)
-    first = (copied_keeps s g bs n a b1 inside seq half.agrees half.loses 1 header (records_of n) a.means.sizes are x k
+    first = (copied_keeps s g bs a.clean n a.means.sizes a.means.meaning b1 inside seq half.agrees half.loses 1 header x k
         0 (λ z. omega arith)).winner b0 half.wins_first
 
     first_good : copy_of s (leb s (block cs b0)) ≡ copy.Good (records_of n)
     first_good = ap (λ y. copy_of s (leb s y)) first.1 ∙ half.good
 
     second_good : copy_of s (leb s (block cs b1)) ≡ copy.Good (records_of n)
-    second_good = copied_reads s g bs n a b1 inside seq half.agrees half.loses 1 header (records_of n) a.means.sizes are
+    second_good = copied_reads s g bs a.clean n a.means.sizes a.means.meaning b1 inside seq half.agrees half.loses 1 header
         x k
 
     pub whole_copied : IsWhollyNamed s n cs
     whole_copied = record {
-      accepted = named_accepted s bs cs n n a (renamed_self n a.means.meaning) clean
-          (seq_set s bs b1 x inside seq half.agrees beside1 k.mount.image)
-          (table_by_first s cs b0 (records_of n) first.0 first_good
-          (meant_fit s n n bs a (renamed_self n a.means.meaning)))
-          (copied_volumes s g bs n a b1 inside seq half.agrees half.loses 1 header (records_of n) a.means.sizes are x
-          k);
+      accepted = table_accepted s cs n clean
+          (table_by_first s cs b0 (records_of n) first.0 first_good (meant_fit s n a.means.sizes a.means.meaning))
+          (reads_kept s bs cs n clean (seq_set s bs b1 x inside seq half.agrees beside1 k.mount.image)
+          (copied_volumes s g bs a.clean n a.means.sizes a.means.meaning b1 inside seq half.agrees half.loses 1 header x
+          k) (accepted_reads s bs n a));
       both = ((b0, first.0, first_good), (b1, wins, second_good));
     }
 
@@ -110,3 +108,25 @@ module _ (s : Sizes) (g : IsGeometry s) (os : List (List ℕ)) (n : Meant) (b0 b
       b1 inside seq half.agrees beside1 (subst (λ (t : Records). LosesAll s bs t b1) same half.loses) prep bytes e
       prepared header new c old1 half.wins_second rel release (IsWhollyNamed s n) whole_copied
       (λ x y k beside v. whole_emptied x k y beside v)
+
+  -- if the power fails during any step, the meaning stays
+  pub second_tears : (prep rel : List Step) → IsPrepared s bs n b1 seq prep bytes e → IsRelease s bs old1 seq rel
+      → AtEachTear s (EitherAt (λ x. AcceptsBlocks s x n) (λ x. AcceptsBlocks s x n)
+      (length prep + suc (pages_needed s new)) (length prep + suc (pages_of s new))) bs
+      ((prep ++ program_header s b1 bytes header ∷ []) ++ program_text s b1 new ++ rel)
+  second_tears prep rel prepared release =
+      replaced_tears s g bs n a (used_by_winner s bs (layout, 0) b0 half.wins_first) (layout, 1)
+      (layout_counts a.records 1) b1 inside seq half.agrees beside1
+      (subst (λ (t : Records). LosesAll s bs t b1) same half.loses) prep bytes e
+      prepared header new c old1 half.wins_second rel release (λ x. AcceptsBlocks s x n)
+      (λ x k. (whole_copied x k).accepted) (λ x y k beside v. (whole_emptied x k y beside v).accepted) torn_old
+    where
+      torn_old : (x t : List ℕ) → IsGoodCopy s seq bs (layout, 1) header new x → NamedBeside s seq (set bs b1 x) old1
+          → TearIs s (λ f x. AcceptsBlocks s x n) (set bs b1 x) (step.Erase old1) t
+      torn_old x t k near =
+          let w = whole_copied x k in
+          erase_torn s g (set bs b1 x) n w.accepted old1 seq (old_inside x k)
+          (used_by_winner s (set bs b1 x) (layout, 1) b1 (wins x k))
+          (agrees_set s bs b1 x inside seq half.agrees beside1 k.mount.image) near
+          (old_loses s bs b1 x inside (layout, 1) header seq half.agrees k.mount a.clean k.good w.accepted.records old1
+          half.wins_second old_apart) t

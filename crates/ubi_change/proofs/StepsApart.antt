@@ -1,5 +1,5 @@
 -- Steps on other eraseblocks: those of a copy and of what is given up don't change the order of an eraseblock's pages.
-use Rattle.ubi_change.proofs.Prelude.{◌≡◌, ◌≢◌, ℕ, ◌+◌, ◌/◌, ◌≤◌, ◌⊎◌, inl, inr, List, [], ◌∷◌, ◌++◌, refl, sym, ◌∙◌, Option, first_chunks, IsGeometry, Sizes, EcHeader, VidHeader, AttachValue, mount, prepare, program_header, program_text, ready_bytes, release, target, stays, pages_of, Step}
+use Rattle.ubi_change.proofs.Prelude.{◌≡◌, ◌≢◌, ℕ, ◌+◌, ◌/◌, ◌≤◌, ◌⊎◌, inl, inr, List, [], ◌∷◌, ◌++◌, refl, sym, ◌∙◌, Option, first_chunks, IsGeometry, Sizes, EcHeader, VidHeader, AttachValue, mount, prepare, program_header, program_text, ready_bytes, release, target, stays, pages_of, Step, ap, arith, cond, count_by, erases, false, fold, nat_tests, ◌==◌}
 use Rattle.ubi_change.specs.declared.step.Step.TheVariants as step
 use Rattle.ubi_change.proofs.CountsErases.{pages_on, prepare_on}
 use Rattle.ubi_change.proofs.PagesRise.{InOrder}
@@ -40,6 +40,28 @@ order_skip p n [] ys off o = o
 order_skip p n (step.Erase q ∷ xs) ys off o = ((λ same. absurd (off.0 same)), (λ apart. order_skip p n xs ys off.1 o))
 order_skip p n (step.Program q b zs ∷ xs) ys off o =
     ((λ same. absurd (off.0 same)), (λ apart. order_skip p n xs ys off.1 o))
+
+-- steps on other eraseblocks are in order after anything
+pub off_order : (p n : ℕ) (xs : List Step) → AllOff p xs → InOrder p n xs
+off_order p n [] off = tt
+off_order p n (step.Erase q ∷ xs) off = ((λ same. absurd (off.0 same)), (λ apart. off_order p n xs off.1))
+off_order p n (step.Program q b zs ∷ xs) off = ((λ same. absurd (off.0 same)), (λ apart. off_order p n xs off.1))
+
+-- and erase it never
+erased_off : (q p : ℕ) → (q ≡ p → ⊥) → (q == p) ≡ false
+erased_off q p e = grind (arith, nat_tests)
+
+off_from : (p n : ℕ) (xs : List Step) → AllOff p xs → fold (λ (k : ℕ) (x : Step). k + cond (erases p x) 1 0) n xs ≡ n
+off_from p n [] off = refl
+off_from p n (step.Erase q ∷ xs) off =
+    let same : n + cond (q == p) 1 0 ≡ n = ap (λ b. n + cond b 1 0) (erased_off q p off.0) ∙ omega arith in
+    ap (λ k. fold (λ (k : ℕ) (x : Step). k + cond (erases p x) 1 0) k xs) same ∙ off_from p n xs off.1
+off_from p n (step.Program q b zs ∷ xs) off =
+    let same : n + 0 ≡ n = omega arith in
+    ap (λ k. fold (λ (k : ℕ) (x : Step). k + cond (erases p x) 1 0) k xs) same ∙ off_from p n xs off.1
+
+pub off_erases : (p : ℕ) (xs : List Step) → AllOff p xs → count_by (erases p) xs ≡ 0
+off_erases p xs off = off_from p 0 xs off
 
 module _ (s : Sizes) (g : IsGeometry s) (bs : List (List ℕ)) (a : AttachValue) where
   -- a copy is written by steps on its eraseblock, and another is given up by steps on that

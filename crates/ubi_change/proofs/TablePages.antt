@@ -14,14 +14,14 @@ differ n d page a b e f l some =
     (a - b, omega arith)
 
 module _ (s : Sizes) (g : IsGeometry s) where
-  leb_pages : (k : ℕ) × (leb_size s ≡ k * s.page)
+  pub leb_pages : (k : ℕ) × (leb_size s ≡ k * s.page)
   leb_pages =
       let a = div-add-mod s.peb_size s.page in
       let b = div-add-mod s.data_offset s.page in
       differ s.peb_size s.data_offset s.page (s.peb_size / s.page) (s.data_offset / s.page)
       (omega (arith, g.peb_pages)) (omega (arith, g.data_pages)) (omega (arith, g.leb)) (omega (arith, g.page_from))
 
-  some_page : 1 ≤ s.page
+  pub some_page : 1 ≤ s.page
   some_page = omega (arith, g.page_from)
 
   module _ (t : Records) (size : length (table_bytes t) ≡ slots s * 172) where

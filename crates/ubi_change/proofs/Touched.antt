@@ -53,12 +53,16 @@ module _ (s : Sizes) (bs : List (List ℕ)) (a : AttachValue) (ps : List ℕ) wh
   mount_touches p h c = touch-append ps (prepare s bs a p) (program_header s p (ready_bytes s bs a p) h ∷ [])
       (prepare_touches p c) (c, tt)
 
+  pub written_touches : (b : ℕ) (h : VidHeader) (new : List ℕ) → Contains ps b
+      → TouchAll ps (mount s bs a b h ++ program_text s b new)
+  written_touches b h new c =
+      touch-append ps (mount s bs a b h) (program_text s b new) (mount_touches b h c)
+      (pages_touch b (s.data_offset / s.page) (first_chunks s.page (pages_of s new) new) c)
+
   pub copy_touches : (b : ℕ) (h : VidHeader) (new : List ℕ) (old : ℕ) (now : Option EcHeader) → Contains ps b
       → Contains ps old → TouchAll ps (atomic_copy s bs a b h new old now)
   copy_touches b h new old now c d =
-      touch-append ps (mount s bs a b h ++ program_text s b new) (release s bs a old now)
-      (touch-append ps (mount s bs a b h) (program_text s b new) (mount_touches b h c)
-      (pages_touch b (s.data_offset / s.page) (first_chunks s.page (pages_of s new) new) c))
+      touch-append ps (mount s bs a b h ++ program_text s b new) (release s bs a old now) (written_touches b h new c)
       (release_touches old now d)
 
 module _ (s : Sizes) (bs : List (List ℕ)) (a : AttachValue) (r : VolumeRecord) (id lnum : ℕ) (new : List ℕ)

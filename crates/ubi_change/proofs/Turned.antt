@@ -28,6 +28,9 @@ module _ {X : Type 0} (p : X → Bool) where
       let same : more n x ≡ n = ap (λ b. n + cond b 1 0) a.0 ∙ omega arith in
       ap (λ k. fold more k xs) same ∙ count-from n xs a.1
 
+  pub count-none : (xs : List X) → AllFail xs → count_by p xs ≡ 0
+  count-none xs a = count-from 0 xs a
+
   pub count-one : (xs ys : List X) (x : X) → AllFail xs → p x ≡ true → AllFail ys → count_by p (xs ++ x ∷ ys) ≡ 1
   count-one xs ys x a h b =
       let one : more 0 x ≡ 1 = ap (λ b. 0 + cond b 1 0) h ∙ omega arith in

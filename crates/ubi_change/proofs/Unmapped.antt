@@ -1,19 +1,22 @@
 -- A LEB without a winner is first mapped with a plain blank eraseblock: the meaning stays, and then it has a winner.
-use Rattle.ubi_change.proofs.Prelude.{◌≡◌, ◌≢◌, ℕ, zero, suc, ◌+◌, ◌-◌, ◌/◌, ◌^◌, ◌<◌, ◌≤◌, inl, inr, true, List, [], ◌∷◌, ◌++◌, length, set, take, refl, ap, sym, ◌∙◌, subst, arith, length-set, None, Option, Some, unwrap_or, FinMap, nat_cmp, nat_tests, set-set, take-replicate, fold-append, blank, filled, Sizes, IsGeometry, leb_size, data_pad, usable, breaks, fields_from, first_fault, vid_bytes, vid_fault, VidFits, EcHeader, VolumeRecord, VidHeader, leb, IsMember, Leb, NoMember, Wins, has_members, sqnum_at, Agrees, Records, AllBlank, AcceptsBlocks, IsUnlike, SlotMeans, LebReads, Meant, Volume, changed, blank_header, copy_header, leb_header, program_header, program_text, block_after, step_done, pages_needed, Step, laid}
+use Rattle.ubi_change.proofs.Prelude.{◌≡◌, ◌≢◌, ℕ, zero, suc, ◌+◌, ◌-◌, ◌/◌, ◌^◌, ◌<◌, ◌≤◌, inl, inr, true, List, [], ◌∷◌, ◌++◌, length, set, take, refl, ap, sym, ◌∙◌, subst, arith, length-set, None, Option, Some, unwrap_or, FinMap, nat_cmp, nat_tests, set-set, take-replicate, fold-append, blank, filled, Sizes, IsGeometry, leb_size, data_pad, usable, breaks, fields_from, first_fault, vid_bytes, vid_fault, VidFits, EcHeader, VolumeRecord, VidHeader, leb, IsMember, Leb, NoMember, Wins, has_members, sqnum_at, Agrees, Records, AllBlank, AcceptsBlocks, IsUnlike, SlotMeans, LebReads, Meant, Volume, changed, blank_header, copy_header, leb_header, program_header, program_text, block_after, step_done, pages_needed, Step, laid, block, Bool, is_blank, drop, pages_of, MayBeHarmed, NoChance, blank_holds}
 use Rattle.std.specs.FinMap as finite
 use Rattle.std.proofs.lemmas.List.{get_or-set_same}
 use Rattle.ubi_volume.specs.declared.content.Content.TheVariants as content
 use Rattle.ubi_change.proofs.CopyReplaced.{IsPrepared, IsRelease}
 use Rattle.ubi_change.proofs.Changed.{unchanged}
 use Rattle.ubi_change.proofs.Laid.{header_written}
-use Rattle.ubi_change.proofs.Mapped.{IsNew, mapped, used_by_volume}
+use Rattle.ubi_change.proofs.Mapped.{IsNew, mapped, mapped_tears, used_by_volume}
 use Rattle.ubi_change.proofs.Emptied.{AreBelow}
 use Rattle.ubi_change.proofs.Newest.{newest_below, newest_wins, others_lose}
 use Rattle.ubi_change.proofs.Mounted.{IsChanged, IsMount, mounted-records, mounted_good, recorded_by}
 use Rattle.ubi_change.proofs.Runs.{AtEachCut, TurnsAt, after-all, cuts-append, done, turns-behind}
 use Rattle.ubi_change.proofs.Seq.{NamedBeside}
-use Rattle.ubi_change.proofs.Vacated.{LosesAll, agrees_set, beside_set}
-use Rattle.ubi_change.proofs.Written.{leb-part, part-mount, seq-part}
+use Rattle.ubi_change.proofs.TornBlocks.{torn_header}
+use Rattle.ubi_change.proofs.TornCopy.{EitherAt, later, leb-ready}
+use Rattle.ubi_change.proofs.TornRuns.{AtEachTear, TearIs, one_tear, tears-append, tears-weaken}
+use Rattle.ubi_change.proofs.Vacated.{LosesAll, agrees_set, beside_set, vacated}
+use Rattle.ubi_change.proofs.Written.{ec-bare, ec-part, leb-part, part-mount, seq-part, vid-bare, vid-part}
 
 module _ (s : Sizes) (r : VolumeRecord) (id lnum sqnum : ℕ) (slot : id < 128) (number : lnum < 2 ^ 31)
     (half : data_pad s r < leb_size s / 2) (wide : leb_size s < 2 ^ 31) where
@@ -176,6 +179,56 @@ module _ (s : Sizes) (g : IsGeometry s) (bs : List (List ℕ)) (m : Meant) (a : 
   mount_done = fold-append (step_done s) bs prep (program_header s b bytes header ∷ [])
       ∙ ap (λ z. done s z (program_header s b bytes header ∷ [])) prepared.ready ∙ one_step
 
+  -- if the power fails during any of them, it stays too
+  torn_mount : (t : List ℕ) → IsMount s seq bs of header t → leb s t ≡ leb s mounted → AcceptsBlocks s (set bs b t) m
+  torn_mount t k same = mounted_good s bs b t inside id lnum header seq agrees k refl m m a used beside loses
+      (λ z. (let l = slot in omega arith)) r (blank (usable m.sizes r)) change_is
+      (reads ∙ ap (take (usable s r)) (sym same)) like
+
+  torn_core : (t : List ℕ)
+      → ((n : ℕ) → is_blank (drop n (filled s.peb_size bytes)) ≡ true → is_blank (drop n mounted) ≡ true
+      → drop n t ≡ drop n (filled s.peb_size bytes))
+      → NoChance s (filled s.peb_size bytes) mounted t → AcceptsBlocks s (set bs b t) m
+  torn_core t keeps n =
+      let fits = blank_fits s r id lnum sqnum slot number half wide few in
+      let sound = blank_sound s r id lnum sqnum slot number half wide in
+      let ready = filled s.peb_size bytes in
+      let start : leb s ready ≡ blank (s.peb_size - (s.data_offset + 0)) = leb-ready s g bytes prepared.size in
+      let none = blank_holds (s.peb_size - (s.data_offset + 0)) in
+      let same : leb s t ≡ leb s mounted =
+      keeps s.data_offset (ap is_blank start ∙ none) (ap is_blank leb_is ∙ none) ∙ start ∙ sym leb_is in
+      elim (torn_header s seq bs of ready mounted t n e header (ec-bare s g bytes e prepared.size prepared.reads)
+      (ec-part s g bytes e prepared.size prepared.reads header fits sound (user_known id slot)
+      (λ k. (let far = k.0 in omega arith)) [] room) (inl (vid-bare s g bytes e prepared.size prepared.reads))
+      (vid-part s g bytes e prepared.size prepared.reads header fits sound (user_known id slot)
+      (λ k. (let far = k.0 in omega arith)) [] room) prepared.image mount) [
+        | inl v ↦ vacated s bs b t inside seq m a used agrees beside loses v
+        | inr k ↦ torn_mount t k same
+      ]
+
+  header_tear : (t : List ℕ) → TearIs s (λ f x. AcceptsBlocks s x m) (set bs b (filled s.peb_size bytes))
+      (program_header s b bytes header) t
+  header_tear t harm n =
+      let ready = filled s.peb_size bytes in
+      let next = program_header s b bytes header in
+      let here : block (set bs b ready) b ≡ ready = get_or-set_same bs b ready [] inside in
+      let is : block_after s ready next ≡ mounted = header_written s g bytes (vid_bytes header) prepared.size refl in
+      let l : MayBeHarmed s ready next t = subst (λ (y : List ℕ). MayBeHarmed s y next t) here harm in
+      let k : NoChance s ready (block_after s ready next) t =
+      subst (λ (y : List ℕ). NoChance s y (block_after s y next) t) here n in
+      subst (λ x. AcceptsBlocks s x m) (sym (set-set bs b ready t))
+      (torn_core t (subst (λ (y : List ℕ). (n : ℕ) → is_blank (drop n ready) ≡ true → is_blank (drop n y) ≡ true
+      → drop n t ≡ drop n ready) is l)
+      (subst (λ (y : List ℕ). NoChance s ready y t) is k))
+
+  pub mount_tears : AtEachTear s (λ k f x. AcceptsBlocks s x m) bs mount_steps
+  mount_tears = tears-append s (λ k f x. AcceptsBlocks s x m) bs prep (program_header s b bytes header ∷ [])
+      prepared.tears
+      (subst (λ (z : List (List ℕ)). AtEachTear s (λ k f x. AcceptsBlocks s x m) z (program_header s b bytes header ∷ []))
+      (sym prepared.ready)
+      (one_tear s (λ k f x. AcceptsBlocks s x m) (set bs b (filled s.peb_size bytes)) (program_header s b bytes header)
+      header_tear))
+
   -- and then it is copied to another eraseblock
   module _ (new : List ℕ) (n : IsNew s r lnum new) (p : ℕ) (apart : p ≢ b) (within : p < length bs)
       (named : NamedBeside s seq bs p) (lost : LosesAll s bs a.records p)
@@ -204,3 +257,32 @@ module _ (s : Sizes) (g : IsGeometry s) (bs : List (List ℕ)) (m : Meant) (a : 
         (mapped s g then_blocks m mounted_accepted id lnum r lebs was slot number half new n p within_then seq
         now_agrees (now_beside p named) lost_then next_prep next_bytes next_ec next_prepared
         (sqnum + 1) many now_above b now_wins rel release))
+
+    pub unmapped_tears : AtEachTear s (EitherAt (λ x. AcceptsBlocks s x m) (λ x. AcceptsBlocks s x (changed m id lnum new))
+        (length mount_steps + (length next_prep + suc (pages_needed s new)))
+        (length mount_steps + (length next_prep + suc (pages_of s new)))) bs
+        (mount_steps
+        ++ ((next_prep ++ program_header s p next_bytes (copy_header (leb_header s r id lnum) (sqnum + 1) new) ∷ [])
+        ++ program_text s p new ++ rel))
+    unmapped_tears =
+        let steps = (next_prep ++ program_header s p next_bytes (copy_header (leb_header s r id lnum) (sqnum + 1) new)
+        ∷ []) ++ program_text s p new ++ rel in
+        let at = length next_prep + suc (pages_needed s new) in
+        let last = length next_prep + suc (pages_of s new) in
+        let n = length mount_steps in
+        tears-append s (R (n + at) (n + last)) bs mount_steps steps
+        (tears-weaken s (λ k f x. AcceptsBlocks s x m) (R (n + at) (n + last)) bs mount_steps
+        (λ k f x l y. inl (omega arith, y)) mount_tears)
+        (subst (λ (z : List (List ℕ)). AtEachTear s (λ k. R (n + at) (n + last) (n + k)) z steps)
+        (sym mount_done)
+        (tears-weaken s (R at last) (λ k. R (n + at) (n + last) (n + k)) then_blocks steps
+        (λ k f x l y. later (λ x. AcceptsBlocks s x m) (λ x. AcceptsBlocks s x (changed m id lnum new)) at last n k f x y)
+        (mapped_tears s g then_blocks m mounted_accepted id lnum r lebs was slot number half new n_new p within_then seq
+        now_agrees (now_beside p named) lost_then next_prep next_bytes next_ec next_prepared
+        (sqnum + 1) many now_above b now_wins rel release)))
+      where
+        R : ℕ → ℕ → ℕ → Bool → List (List ℕ) → Type 0
+        R = EitherAt (λ x. AcceptsBlocks s x m) (λ x. AcceptsBlocks s x (changed m id lnum new))
+
+        n_new : IsNew s r lnum new
+        n_new = n

@@ -8,7 +8,7 @@ use Rattle.ubi_change.proofs.Vacated.{IsVacant}
 
 module _ (s : Sizes) (g : IsGeometry s) where
   -- a blank eraseblock
-  ec-blank : ec s (blank s.peb_size) ≡ ec_read.Blank
+  pub ec-blank : ec s (blank s.peb_size) ≡ ec_read.Blank
   ec-blank = ap (ec_reading s) (take-replicate 64 s.peb_size 255 (omega (arith, g.page_from, g.peb_from))) ∙ blank_ec s
 
   member-blank : member s (blank s.peb_size) ≡ None
@@ -39,7 +39,7 @@ module _ (s : Sizes) (g : IsGeometry s) where
     ec-bare = ap (λ b. ec_reading s (take 64 b)) bare-is
         ∙ ap (ec_reading s) (take_at bytes (blank (s.peb_size - 64)) 64 size) ∙ reads
 
-    vid-bare : vid s (filled s.peb_size bytes) ≡ vid_read.Blank
+    pub vid-bare : vid s (filled s.peb_size bytes) ≡ vid_read.Blank
     vid-bare =
         ap (λ b. vid_reading s (vid_area s b)) bare-is
         ∙ ap (vid_reading s) (behind bytes (s.peb_size - 64) s.vid_offset 64 (omega (arith, size, g.vid_from))
@@ -77,10 +77,10 @@ module _ (s : Sizes) (g : IsGeometry s) where
       vid_size : length (vid_bytes h) ≡ 64
       vid_size = refl
 
-      ec-part : ec s part ≡ ec_read.Valid e
+      pub ec-part : ec s part ≡ ec_read.Valid e
       ec-part = ap (ec_reading s) (ec-laid s g bytes (vid_bytes h) size vid_size text room) ∙ reads
 
-      vid-part : vid s part ≡ vid_read.Valid h
+      pub vid-part : vid s part ≡ vid_read.Valid h
       vid-part =
           ap (vid_reading s) (vid-laid s g bytes (vid_bytes h) size vid_size text room)
           ∙ sym ((one_vid_reading s (vid_bytes h) (vid_read.Valid h)).0 (vid_read_back s h (fields_fit h fits) sound))

@@ -8,12 +8,17 @@ pub mod Weak
 pub mod Plan
 pub mod Refused
 pub mod Cuts
+pub mod Tears
 pub mod Frugal
 pub mod Planned
 pub mod Renamed
 pub mod RenamePlan
 pub mod RenameRefused
 pub mod RenamePlanned
+pub mod Edited
+pub mod CommitPlan
+pub mod CommitAllowed
+pub mod CommitPlanned
 pub mod Laws
 pub mod ErrorTexts
 pub mod inner

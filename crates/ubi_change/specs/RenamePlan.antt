@@ -33,12 +33,12 @@ module _ (s : Sizes) (bs : List (List ℕ)) (a : AttachValue) where
   abbrev pub holder : ℕ → ℕ
   holder c = option_map_or (λ p. p) (get a.scan.winners (layout, c)) 0
 
-  -- copy c is written to the c-th eraseblock that is taken, and then its holder is erased
-  abbrev pub copy_plan : List ℕ → ℕ → ℕ → List Step
-  copy_plan new c sqnum = atomic_copy s bs a (taken s bs a c) (layout_header c sqnum new) new (holder c) (ec_at s bs (holder c))
+  -- copy c is written to the k-th eraseblock that is taken, and then its holder is erased
+  abbrev pub copy_plan : List ℕ → ℕ → ℕ → ℕ → List Step
+  copy_plan new c k sqnum = atomic_copy s bs a (taken s bs a k) (layout_header c sqnum new) new (holder c) (ec_at s bs (holder c))
 
   -- copy 0, and then copy 1
   abbrev pub rename_plan : ℕ → List ℕ → List Step
   rename_plan id name =
-      copy_plan (renamed_pages s a.meaning id name) 0 (a.scan.top_sqnum + 1)
-      ++ copy_plan (renamed_pages s a.meaning id name) 1 (a.scan.top_sqnum + 2)
+      copy_plan (renamed_pages s a.meaning id name) 0 0 (a.scan.top_sqnum + 1)
+      ++ copy_plan (renamed_pages s a.meaning id name) 1 1 (a.scan.top_sqnum + 2)

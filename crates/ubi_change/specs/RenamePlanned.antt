@@ -15,6 +15,7 @@ use Rattle.ubi_change.specs.Fitting.{AllFit, AllWithin}
 use Rattle.ubi_change.specs.Frugal.{CountsErases, TouchesOnly}
 use Rattle.ubi_change.specs.Order.{Erases, RisesBetweenErases}
 use Rattle.ubi_change.specs.Renamed.{ReadSame, renamed}
+use Rattle.ubi_change.specs.Tears.{SurvivesTears}
 use Rattle.ubi_change.specs.RenamePlan.{holder, rename_plan, renamed_pages}
 use Rattle.ubi_change.specs.RenameRefused.{BothGood, IsFirstCause, MayBeNamed}
 use Rattle.ubi_change.specs.Avoided.{AllBeside, Avoided, Avoids, IsNotBlank, ReadBlank, avoiding}
@@ -65,6 +66,12 @@ pub record IsRenameAvoiding (image : Image) (av : Avoided) (id : ℕ) (name : Li
 abbrev pub SurvivesRenameOf : Image → ℕ → List ℕ → List Step → Type 0
 SurvivesRenameOf image id name steps = (m : Meant) × Accepts image m × of_blocks SurvivesRename image m id name steps
 
+-- the image is accepted, and if the power fails during any of the steps it means the old or the renamed
+abbrev pub SurvivesRenameTearsOf : Image → ℕ → List ℕ → List Step → Type 0
+SurvivesRenameTearsOf image id name steps =
+    (m : Meant) × Accepts image m
+    × of_blocks SurvivesTears image m (renamed m id name) steps (turn image.sizes steps (renamed_pages image.sizes m id name))
+
 -- the image is accepted, and after any number of the steps each volume reads as before
 abbrev pub KeepsReading : Image → List Step → Type 0
 KeepsReading image steps = (m : Meant) × Accepts image m × ((k : ℕ) → k ≤ length steps
@@ -99,6 +106,7 @@ IsRenameRefusalAvoiding image av id name c =
 -- what is shown of the steps for an image
 pub record RenameFacts (image : Image) (av : Avoided) (id : ℕ) (name : List ℕ) (steps : List Step) : Type 0 where
   pub survives : SurvivesRenameOf image id name steps
+  pub torn : SurvivesRenameTearsOf image id name steps
   pub reads : KeepsReading image steps
   pub copies : LeavesBothGoodOf image id name steps
   pub fits : of_blocks AllFit image steps

@@ -5,7 +5,7 @@ ghost use Rattle.ubi_change.specs.Fitting.{AllFit, AllWithin};
 ghost use Rattle.ubi_change.specs.inner.Making.{AreStepsOf, FitsPrepared, HasRoom, IsNoWrite, IsPrepared, IsTarget, IsTargetRefusal, IsUnplanned, change_error, mapped_steps, own_causes, steps_on, unmapped_steps};
 ghost use Rattle.ubi_change.specs.inner.Sites.{HasCounter};
 ghost use Rattle.ubi_change.specs.Order.{RisesBetweenErases};
-ghost use Rattle.ubi_change.specs.Planned.{IsChangeError, IsChangeRefusal, IsFrugalOf, IsThePlan, NamesFailed, PlanFactsOfSource, SurvivesCutsOf, after_plan};
+ghost use Rattle.ubi_change.specs.Planned.{IsChangeError, IsChangeRefusal, IsFrugalOf, IsThePlan, NamesFailed, PlanFactsOfSource, SurvivesCutsOf, SurvivesTearsOf, after_plan};
 ghost use Rattle.ubi_change.specs.Refused.{first_of, is_bad_length};
 ghost use Rattle.ubi_media.specs.Record.{rec_fault, usable};
 ghost use Rattle.ubi_scan.specs.Image.{image_of, of_blocks};
@@ -270,6 +270,10 @@ pub fn plan_change_from<S: BlockSource>(
 /// The new bytes are whole pages, at least one, and no more than the volume uses of a logical eraseblock. After any number of the
 /// steps the image is accepted, and means the old or the new.
 ///
+/// So it does if the power fails during a step, whatever that leaves of the step's eraseblock, where no CRC is right by
+/// chance, a program clears no bit that it isn't to clear, and an erase leaves an erase-counter header of 0xFF bytes as it
+/// is if the volume-identifier header isn't 0xFF.
+///
 /// Each step fits what those before it leave. Between two erases of an eraseblock its pages are programmed in ascending order,
 /// none twice except page 0, and that at most twice. A program of page 0 comes right after an erase, or keeps the bytes of the
 /// erase-counter header as they stand.
@@ -292,6 +296,7 @@ pub fn plan_change(
     new: &[u8],
 ) -> Result<Vec<Step>, ChangeRefusal>
     ensures survives { IfOk result (λ steps. SurvivesCutsOf (image_of geometry.now image.now) id lnum new.now steps.items) }
+    ensures torn { IfOk result (λ steps. SurvivesTearsOf (image_of geometry.now image.now) id lnum new.now steps.items) }
     ensures fits { IfOk result (λ steps. of_blocks AllFit (image_of geometry.now image.now) steps.items) }
     ensures rises { IfOk result (λ steps. of_blocks RisesBetweenErases (image_of geometry.now image.now) steps.items) }
     ensures frugal { IfOk result (λ steps. IsFrugalOf (image_of geometry.now image.now) id lnum new.now steps.items) }

@@ -2,7 +2,7 @@
 
 ghost use Rattle.std.specs.Prelude.{◌≡◌, ◌++◌, ◌∷◌, [], ◌%◌, ◌^◌, ◌≤◌, ◌<◌, IfSome, OnOk, length};
 ghost use Rattle.ubi_change.specs.inner.Making.{table_target, target_header};
-ghost use Rattle.ubi_change.specs.inner.Sites.{copy_on, mount_on, ready_on, release_on};
+ghost use Rattle.ubi_change.specs.inner.Sites.{copy_on, lay_on, mount_on, ready_on, release_on};
 ghost use Rattle.ubi_change.specs.Plan.{blank_header, copy_header, next_ec, program_header, program_text, renew};
 
 use crate::pages::{ec_page, vid_page};
@@ -169,6 +169,25 @@ fn push_release(
     push_renew(alloc, steps, geometry, site.pnum, &next_ec(scan, ec))
 }
 
+/// Adds what makes an eraseblock ready, and gives it a volume-identifier header and a text behind it.
+fn push_laid(
+    alloc: Global,
+    steps: &mut Vec<Step>,
+    geometry: &Geometry,
+    scan: &Scan,
+    site: &Site,
+    header: &VidHeader,
+    text: &[u8],
+) -> Result<(), AllocError>
+    requires counter { IfSome site.now.ec (λ header. header.counter ≤ 0x7FFFFFFF) }
+    requires paged { length text.now % geometry.now.page ≡ 0 }
+    requires short { length text.now < 2 ^ 31 }
+    ensures { OnOk result (steps.new.items ≡ steps.old.items ++ lay_on geometry.now scan.now site.now header.now text.now) }
+{
+    push_mount(alloc, steps, geometry, scan, site, header)?;
+    push_text(alloc, steps, geometry, site.pnum, text)
+}
+
 /// Adds a copy with these contents, and then the erase of the old winner.
 pub fn push_copy(
     alloc: Global,
@@ -185,8 +204,15 @@ pub fn push_copy(
     ensures { OnOk result (steps.new.items ≡ steps.old.items
         ++ copy_on geometry.now scan.now copy.now.target copy.now.header new.now copy.now.old copy.now.old_ec) }
 {
-    push_mount(alloc, steps, geometry, scan, &copy.target, &copy.header)?;
-    push_text(alloc, steps, geometry, copy.target.pnum, new)?;
+    push_laid(
+        alloc,
+        steps,
+        geometry,
+        scan,
+        &copy.target,
+        &copy.header,
+        new,
+    )?;
     push_release(alloc, steps, geometry, scan, &copy.old, copy.old_ec)
 }
 

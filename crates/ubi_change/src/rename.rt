@@ -7,7 +7,7 @@ ghost use Rattle.ubi_change.specs.inner.Renaming.{AreCopiesOf, CopiesHaveRoom, F
 ghost use Rattle.ubi_change.specs.Order.{RisesBetweenErases};
 ghost use Rattle.ubi_change.specs.Planned.{NamesFailed, after_plan};
 ghost use Rattle.ubi_change.specs.RenamePlan.{table_pages};
-ghost use Rattle.ubi_change.specs.RenamePlanned.{IsFrugalRenameOf, IsPlannedRename, IsRenameError, IsRenameRefusal, IsTheRename, KeepsReading, LeavesBothGoodOf, SurvivesRenameOf};
+ghost use Rattle.ubi_change.specs.RenamePlanned.{IsFrugalRenameOf, IsPlannedRename, IsRenameError, IsRenameRefusal, IsTheRename, KeepsReading, LeavesBothGoodOf, SurvivesRenameOf, SurvivesRenameTearsOf};
 ghost use Rattle.ubi_media.specs.Fields.{AreBytes};
 ghost use Rattle.ubi_media.specs.Geometry.{leb_size};
 ghost use Rattle.ubi_scan.specs.Image.{image_of, of_blocks};
@@ -187,7 +187,8 @@ pub fn plan_rename_from<S: BlockSource>(
 /// that may be taken, and then erase the eraseblock that held the copy.
 ///
 /// The name is 1 to 127 bytes without zero; it may be the one that the volume has. After any number of the steps the image is
-/// accepted, it means the old or the renamed, and each volume reads as before. At the end both copies are good.
+/// accepted, it means the old or the renamed, and each volume reads as before. At the end both copies are good. If the
+/// power fails during a step, it means the old or the renamed too, as for [`crate::plan_change`].
 ///
 /// Each step fits what those before it leave, and the pages of an eraseblock are programmed in order, as by
 /// [`crate::plan_change`]. The steps touch only the eraseblocks that hold the copies and the first two of those that may be
@@ -208,6 +209,7 @@ pub fn plan_rename(
     name: &[u8],
 ) -> Result<Vec<Step>, RenameRefusal>
     ensures survives { IfOk result (λ steps. SurvivesRenameOf (image_of geometry.now image.now) id name.now steps.items) }
+    ensures torn { IfOk result (λ steps. SurvivesRenameTearsOf (image_of geometry.now image.now) id name.now steps.items) }
     ensures reads { IfOk result (λ steps. KeepsReading (image_of geometry.now image.now) steps.items) }
     ensures copies { IfOk result (λ steps. LeavesBothGoodOf (image_of geometry.now image.now) id name.now steps.items) }
     ensures fits { IfOk result (λ steps. of_blocks AllFit (image_of geometry.now image.now) steps.items) }

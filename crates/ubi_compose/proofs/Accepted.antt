@@ -1,14 +1,8 @@
 -- A normal image is accepted with its meaning.
-use Rattle.ubi_compose.proofs.Prelude.{◌≡◌, ℕ, ◌+◌, ◌*◌, zero, suc, List, length, inl, inr, refl, sym, ap, ◌∙◌, subst, arith, None, Option, Some, flat_map, option_map, AllByRecursion, concat, same_Some, IsGeometry, data_pad, VolumeRecord, VidHeader, usable_some, NoFault, image_of, Leb, layout, IsTable, table_written, Accepts, AcceptsBlocks, NoMismatch, SlotMeans, VolumeReads, Fits, IsMeaning, IsVolume, Meant, records_of, Content, Volume, HasRoom, composed, Laid, layout_block, normal_blocks, normal_bytes, volume_blocks, meant_by, records_are, records_fit, volume_is, record_of}
+use Rattle.ubi_compose.proofs.Prelude.{◌≡◌, ℕ, ◌+◌, ◌*◌, zero, suc, List, length, inl, inr, refl, sym, ap, ◌∙◌, subst, arith, None, Option, Some, option_map, AllByRecursion, concat, same_Some, IsGeometry, data_pad, VolumeRecord, VidHeader, NoFault, image_of, Leb, layout, IsTable, table_written, Accepts, AcceptsBlocks, NoMismatch, SlotMeans, IsMeaning, Meant, records_of, Volume, HasRoom, composed, Laid, layout_block, normal_blocks, normal_bytes, meant_by, records_are, records_fit, volume_is, record_of, own_like, laid_read, Holds, all_at, all_from, leb_of, AreApart, CanBeLaid, laid_blocks, AreLaidIn, IsLaidAt}
 use Rattle.std.specs.FinMap as finite
-use Rattle.ubi_volume.specs.declared.content.Content.TheVariants as content
-use Rattle.ubi_compose.proofs.DistinctLebs.{AreApart}
-use Rattle.ubi_compose.proofs.Blocks.{IsFine}
-use Rattle.ubi_compose.proofs.Contents.{AreOwn, damaged_reads, dynamic_reads, header_at, text_at, text_reads}
-use Rattle.ubi_compose.proofs.Image.{blocks_again, concat-image_blocks, image_blocks, image_clean, image_named, image_whole, laid_wins, length-bytes, length-image_blocks, member_laid}
-use Rattle.ubi_compose.proofs.Lists.{Holds, all_at, entry_held, flat_map_holds, held_entry, holds_flat_map}
+use Rattle.ubi_compose.proofs.Image.{blocks_again, concat-image_blocks, header_at, image_blocks, image_clean, image_named, image_whole, laid_at, laid_wins, length-bytes, length-image_blocks, member_laid, none_laid, text_at}
 use Rattle.ubi_compose.proofs.Normal.{apart_normal, fine_normal}
-use Rattle.ubi_compose.proofs.Volumes.{IsLike, like_blocks, own_blocks}
 
 module _ (m : Meant) (g : IsGeometry m.sizes) (is : IsMeaning m) (spares : ℕ) where
   abbrev ls : List Laid
@@ -17,10 +11,7 @@ module _ (m : Meant) (g : IsGeometry m.sizes) (is : IsMeaning m) (spares : ℕ) 
   abbrev bs : List (List ℕ)
   bs = image_blocks m.sizes m.image_seq (normal_blocks m) spares
 
-  abbrev blocks_in : ℕ × Volume → List Laid
-  blocks_in e = volume_blocks m.sizes e.0 e.1.entry e.1.content
-
-  fine : AllByRecursion (IsFine m.sizes) (normal_blocks m)
+  fine : AllByRecursion (CanBeLaid m.sizes) (normal_blocks m)
   fine = fine_normal m g is
 
   apart : AreApart (normal_blocks m)
@@ -29,53 +20,37 @@ module _ (m : Meant) (g : IsGeometry m.sizes) (is : IsMeaning m) (spares : ℕ) 
   clean : NoFault m.sizes bs
   clean = image_clean m.sizes g m.image_seq is.image_seq ls spares fine apart
 
-  -- the eraseblocks of a volume
-  of_entries : (l : Laid) (id : ℕ) (v : Volume) → finite.get m.volumes id ≡ Some v
-      → Holds (flat_map blocks_in (finite.entries m.volumes)) l
-      → l.header.vol_id ≡ id → Holds (blocks_in (id, v)) l
-  of_entries l id v e h same =
-      let r = flat_map_holds blocks_in (finite.entries m.volumes) l h in
-      let mine = all_at (λ (l : Laid). l.header.vol_id ≡ r.0.0) (blocks_in r.0) r.2.0 l
-      (own_blocks m.sizes r.0.0 r.0.1.entry r.0.1.content) r.2.1 in
-      let number : r.0.0 ≡ id = sym mine ∙ same in
-      let value : r.0.1 ≡ v = same_Some r.0.1 v (sym (held_entry m.volumes r.0 r.1) ∙ ap (finite.get m.volumes) number
-      ∙ e) in
-      subst (λ (x : ℕ × Volume). Holds (blocks_in x) l) (λ i. (number i, value i)) r.2
-
-  of_volume : (l : Laid) (id : ℕ) (v : Volume) → finite.get m.volumes id ≡ Some v → Holds (normal_blocks m) l
-      → l.header.vol_id ≡ id
-      → Holds (blocks_in (id, v)) l
-  of_volume l id v e (zero, at) same =
+  -- one of a volume isn't of the layout volume
+  not_layout : (id : ℕ) (v : Volume) → finite.get m.volumes id ≡ Some v → (l : Laid) (copy : ℕ)
+      → layout_block m copy ≡ l → l.header.vol_id ≡ id → ⊥
+  not_layout id v e l copy at same =
       let slot = (volume_is m is id v e).slot in
-      let one : layout ≡ l.header.vol_id = ap (λ (l : Laid). l.header.vol_id) (same_Some (layout_block m 0) l at) in
-      absurd (omega arith)
-  of_volume l id v e (suc zero, at) same =
-      let slot = (volume_is m is id v e).slot in
-      let one : layout ≡ l.header.vol_id = ap (λ (l : Laid). l.header.vol_id) (same_Some (layout_block m 1) l at) in
-      absurd (omega arith)
-  of_volume l id v e (suc (suc p), at) same = of_entries l id v e (p, at) same
+      let one : layout ≡ l.header.vol_id = ap (λ (l : Laid). l.header.vol_id) at in
+      omega arith
 
-  own : (id : ℕ) (v : Volume) → finite.get m.volumes id ≡ Some v → AreOwn (normal_blocks m) id (blocks_in (id, v))
-  own id v e = record {
-    there = λ l h. (let at = holds_flat_map blocks_in (finite.entries m.volumes) (id, v) l (entry_held m.volumes id v e)
-        h in (suc (suc at.0), at.1));
-    only = λ l h same. of_volume l id v e h same;
+  -- so it is of the volumes
+  of_volumes : (l : Laid) (id : ℕ) (v : Volume) → finite.get m.volumes id ≡ Some v → Holds (normal_blocks m) l
+      → l.header.vol_id ≡ id → Holds (laid_blocks m.sizes (finite.entries m.volumes)) l
+  of_volumes l id v e (zero, at) same = absurd (not_layout id v e l 0 (same_Some (layout_block m 0) l at) same)
+  of_volumes l id v e (suc zero, at) same = absurd (not_layout id v e l 1 (same_Some (layout_block m 1) l at) same)
+  of_volumes l id v e (suc (suc p), at) same = (p, at)
+
+  -- they are laid out in the image
+  laid : AreLaidIn m.sizes bs m.volumes
+  laid = record {
+    each = all_from (λ l. (p : ℕ) × IsLaidAt m.sizes bs l p) (laid_blocks m.sizes (finite.entries m.volumes))
+        (λ l h. (suc (suc h.0), laid_at m.sizes g m.image_seq is.image_seq ls spares fine (suc (suc h.0)) l h.1));
+    no_other = λ id lnum v e none.
+        none_laid m.sizes g m.image_seq is.image_seq ls spares fine (id, lnum) (λ l h same.
+        let there = of_volumes l id v e h (ap (λ (of : Leb). of.0) same) in
+        all_at (λ l. ◌≡◌ {A = Leb} (leb_of l.header) (id, lnum) → ⊥) (laid_blocks m.sizes (finite.entries m.volumes)) there.0 l
+        none there.1 same);
   }
-
-  -- each volume reads its content
-  reads_by : (id : ℕ) (v : Volume) → IsVolume m.sizes id v → (c : Content)
-      → AreOwn (normal_blocks m) id (volume_blocks m.sizes id v.entry c)
-      → Fits m.sizes v.entry c → VolumeReads m.sizes bs id v.entry c
-  reads_by id v h content.Updating mine fits = fits
-  reads_by id v h content.Damaged mine fits = damaged_reads m.sizes g m.image_seq is.image_seq ls spares fine id v.entry apart mine fits
-  reads_by id v h (content.Static text) mine fits =
-      text_reads m.sizes g m.image_seq is.image_seq ls spares fine id v.entry apart text (usable_some m.sizes v.entry h.sound) mine fits
-  reads_by id v h (content.Dynamic lebs) mine fits = dynamic_reads m.sizes g m.image_seq is.image_seq ls spares fine id v.entry lebs mine fits
 
   slot_by : (id : ℕ) (o : Option Volume) → finite.get m.volumes id ≡ o
       → SlotMeans m.sizes bs id (option_map (λ (v : Volume). v.entry) o) o
   slot_by id None e = tt
-  slot_by id (Some v) e = (let h = volume_is m is id v e in (refl, reads_by id v h v.content (own id v e) h.fits))
+  slot_by id (Some v) e = (refl, laid_read m.sizes bs m.volumes g is.each clean laid id v e)
 
   slots : (id : ℕ) → SlotMeans m.sizes bs id (finite.get (records_of m).of id) (finite.get m.volumes id)
   slots id =
@@ -92,9 +67,8 @@ module _ (m : Meant) (g : IsGeometry m.sizes) (is : IsMeaning m) (spares : ℕ) 
       let l = at.0 in
       let rec = meant_by m counted.vol r counted.recorded in
       let v = rec.0 in
-      let mine = of_volume l counted.vol v rec.1 (p, at.1) (ap (λ (of : Leb). of.0) at.2) in
-      let like = all_at (IsLike m.sizes counted.vol v.entry) (blocks_in (counted.vol, v)) mine.0 l
-      (like_blocks m.sizes counted.vol v.entry v.content (volume_is m is counted.vol v rec.1).fits) mine.1 in
+      let mine = of_volumes l counted.vol v rec.1 (p, at.1) (ap (λ (of : Leb). of.0) at.2) in
+      let like = own_like m.sizes m.volumes is.each counted.vol v rec.1 l mine (ap (λ (of : Leb). of.0) at.2) in
       let header : h ≡ l.header = same_Some h l.header (sym k.4 ∙ header_at m.sizes g m.image_seq is.image_seq ls spares fine p l at.1) in
       let kind : h.kind ≡ r.kind = ap (λ (h : VidHeader). h.kind) header ∙ like.0
       ∙ ap (λ (r : VolumeRecord). r.kind) rec.2 in

@@ -1,18 +1,8 @@
 -- An eraseblock that was laid out is read back.
-use Rattle.ubi_compose.proofs.Prelude.{◌≡◌, ℕ, ◌+◌, ◌-◌, ◌^◌, ◌<◌, ◌≤◌, ◌++◌, true, false, length, List, refl, ap, sym, ◌∙◌, subst, arith, then_some, option_map_or, None, Option, Some, option_map, ap₂, same_Some, ec_bytes, ec_reading, blank, IsGeometry, Sizes, vid_bytes, vid_fault, vid_reading, VidFits, VidHeader, ec_read_back, fields_fit, vid_read_back, one_ec_reading, one_vid_reading, IsSound, IsMislaid, ec, leb, vid, foreign, foreign_if, good_in, has_members, is_good, leb_of, member, member_if, named_in, sqnum_in, seq_if, seq_of, Laid, laid_bytes, new_ec, not}
+use Rattle.ubi_compose.proofs.Prelude.{◌≡◌, ℕ, ◌+◌, ◌-◌, ◌^◌, ◌<◌, ◌++◌, true, false, length, List, refl, ap, sym, ◌∙◌, subst, arith, then_some, option_map_or, None, Option, Some, option_map, ap₂, same_Some, ec_bytes, ec_reading, blank, IsGeometry, Sizes, vid_bytes, vid_fault, vid_reading, VidHeader, ec_read_back, fields_fit, vid_read_back, one_ec_reading, one_vid_reading, IsSound, IsMislaid, ec, leb, vid, foreign, foreign_if, good_in, is_good, leb_of, member, member_if, named_in, sqnum_in, seq_if, seq_of, Laid, laid_bytes, new_ec, not, CanBeLaid}
 use Rattle.ubi_media.specs.declared.ec.EcRead.TheVariants as ec_read
 use Rattle.ubi_media.specs.declared.vid.VidRead.TheVariants as vid_read
 use Rattle.ubi_scan.proofs.Parts as parts
-
--- an eraseblock that can be laid out, and is then a good member of its LEB with the sequence number 0
-pub record IsFine (s : Sizes) (l : Laid) : Type 0 where
-  pub room : s.data_offset + length l.text ≤ s.peb_size
-  pub fits : VidFits l.header
-  pub sound : vid_fault s l.header ≡ None
-  pub known : has_members l.header.vol_id ≡ true
-  pub placed : IsMislaid l.header → ⊥
-  pub number : l.header.sqnum ≡ 0
-  pub original : l.header.copy_flag ≡ false
 
 -- the erase-counter header of each eraseblock of a normal image
 pub new_ec_back : (s : Sizes) → IsGeometry s → (seq : ℕ) → seq < 2 ^ 32
@@ -22,7 +12,7 @@ new_ec_back s g seq narrow =
     (ec_read_back s (new_ec seq) (omega (arith, g.data_from, g.leb, g.peb_to)) (omega (arith, g.leb, g.peb_to))
     (omega arith) narrow))
 
-module _ (s : Sizes) (g : IsGeometry s) (seq : ℕ) (narrow : seq < 2 ^ 32) (l : Laid) (fine : IsFine s l) where
+module _ (s : Sizes) (g : IsGeometry s) (seq : ℕ) (narrow : seq < 2 ^ 32) (l : Laid) (fine : CanBeLaid s l) where
   ec_size : length (ec_bytes s (new_ec seq)) ≡ 64
   ec_size = refl
 

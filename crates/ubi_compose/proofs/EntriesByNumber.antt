@@ -1,10 +1,8 @@
 -- The entries of a map in ascending order, and those of a map that is made from a list.
-use Rattle.ubi_compose.proofs.Prelude.{◌≡◌, ℕ, zero, suc, ◌+◌, ◌<◌, ◌≤◌, ◌==◌, Bool, true, false, cond, List, [], ◌∷◌, ◌++◌, map, refl, ap, sym, ◌∙◌, arith, zero-add, subst, Some, find, flat_map, option_map, FinMap, AllByRecursion, range_with_len, option_map_or, nat_cmp, nat_tests, flat_map-append, first_entry, same_range}
+use Rattle.ubi_compose.proofs.Prelude.{◌≡◌, ℕ, zero, suc, ◌+◌, ◌<◌, ◌≤◌, ◌==◌, Bool, true, false, cond, List, [], ◌∷◌, ◌++◌, map, refl, ap, sym, ◌∙◌, arith, zero-add, subst, Some, find, flat_map, option_map, FinMap, AllByRecursion, range_with_len, option_map_or, nat_cmp, nat_tests, flat_map-append, first_entry, same_range, all_from, held_entry, entries_rise}
 use Rattle.std.specs.FinMap as finite
 use Rattle.ubi_compose.proofs.ByNumber.{Rises, by_number}
-use Rattle.ubi_compose.proofs.Lists.{all_from, held_entry}
-use Rattle.ubi_compose.proofs.Rising as rising
-use Rattle.ubi_compose.proofs.Rising.{entries_rise}
+use Rattle.ubi_laid.proofs.Rising as rising
 
 -- numbers that rise do so from any bound below them
 rises_from : {X : Type 0} (f : ℕ × X → List ℕ) (a b : ℕ) (es : List (ℕ × X)) → rising.Rises (λ e. e.0) es

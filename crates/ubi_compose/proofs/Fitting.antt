@@ -1,8 +1,7 @@
 -- What a volume reads fits its LEBs.
-use Rattle.ubi_compose.proofs.Prelude.{◌≡◌, ℕ, ◌*◌, ◌<◌, ◌≤◌, List, length, subst, arith, IfSome, Option, FinMap, AllByRecursion, nat_cmp, mul-le, Sizes, leb_size, usable, Fits, IsVolume, Volume, reserved_within}
+use Rattle.ubi_compose.proofs.Prelude.{◌≡◌, ℕ, ◌*◌, ◌<◌, ◌≤◌, List, length, subst, arith, IfSome, Option, FinMap, AllByRecursion, nat_cmp, mul-le, Sizes, leb_size, usable, Fits, IsVolume, Volume, reserved_within, all_from, held_entry}
 use Rattle.std.specs.FinMap as finite
 use Rattle.ubi_volume.specs.declared.content.Content.TheVariants as content
-use Rattle.ubi_compose.proofs.Lists.{all_from, held_entry}
 
 module _ (s : Sizes) (vol : ℕ) (v : Volume) (is : IsVolume s vol v) where
   -- a static text has few pieces

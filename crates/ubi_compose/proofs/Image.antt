@@ -1,9 +1,7 @@
 -- Eraseblocks that are laid out, one for each LEB, followed by spare ones.
-use Rattle.ubi_compose.proofs.Prelude.{◌≡◌, ℕ, ◌+◌, ◌-◌, ◌*◌, ◌/◌, ◌%◌, ◌^◌, ◌<◌, ◌≤◌, ◌⊎◌, inl, inr, List, [], ◌∷◌, ◌++◌, length, map, replicate, get_or, refl, ap, sym, ◌∙◌, subst, arith, length-append, Some, flat_map, option_map, slice_get, AllByRecursion, concat, first_chunks, mul-add-mod_self_right, get_or-append_right, get_or-replicate, length-map, length-replicate, concat_is, div-mul-add, mul-le, get_or_from_slice_get, slice_get-map, slice_get_cases, slice_get_within, same_Some, IsGeometry, Sizes, IsSound, NoFault, IsWholeImage, block, eraseblocks, IsMember, Leb, NoMember, Wins, good_in, leb_of, named_in, sqnum_at, sqnum_in, image_seq, seq_of, first_chunks-concat, length-concat, none_from_clean, seq_is, spare, Laid, laid_bytes, new_ec}
+use Rattle.ubi_compose.proofs.Prelude.{◌≡◌, ℕ, ◌+◌, ◌-◌, ◌*◌, ◌/◌, ◌%◌, ◌^◌, ◌<◌, ◌≤◌, ◌⊎◌, inl, inr, List, [], ◌∷◌, ◌++◌, length, map, replicate, get_or, refl, ap, sym, ◌∙◌, subst, arith, length-append, Some, flat_map, option_map, slice_get, AllByRecursion, concat, first_chunks, mul-add-mod_self_right, get_or-append_right, get_or-replicate, length-map, length-replicate, concat_is, div-mul-add, mul-le, get_or_from_slice_get, slice_get-map, slice_get_cases, slice_get_within, same_Some, IsGeometry, Sizes, IsSound, NoFault, IsWholeImage, block, eraseblocks, IsMember, Leb, NoMember, Wins, good_in, leb_of, named_in, sqnum_at, sqnum_in, image_seq, seq_of, first_chunks-concat, length-concat, none_from_clean, seq_is, spare, Laid, laid_bytes, new_ec, leb, member, blank, IsLaidAt, AreApart, one_place, CanBeLaid, Holds, all_at, slice_get_left}
 use Rattle.std.proofs.lemmas.List.{append_assoc}
-use Rattle.ubi_compose.proofs.DistinctLebs.{AreApart, one_place}
-use Rattle.ubi_compose.proofs.Blocks.{IsFine, good-laid_bytes, length-laid_bytes, named-laid_bytes, seq-laid_bytes, sound-laid_bytes, sqnum-laid_bytes}
-use Rattle.ubi_compose.proofs.Lists.{Holds, all_at, slice_get_left}
+use Rattle.ubi_compose.proofs.Blocks.{good-laid_bytes, leb-laid_bytes, length-laid_bytes, member-laid_bytes, named-laid_bytes, seq-laid_bytes, sound-laid_bytes, sqnum-laid_bytes}
 use Rattle.ubi_compose.proofs.Spares.{length-spare, named-spare, seq-spare, sound-spare}
 
 -- the eraseblocks
@@ -28,7 +26,7 @@ concat-image_blocks s seq ls spares =
     ∙ ap (λ x. flat_map (laid_bytes s (new_ec seq)) ls ++ x) (concat_is (replicate spares (spare s seq)))
 
 module _ (s : Sizes) (g : IsGeometry s) (seq : ℕ) (narrow : seq < 2 ^ 32) (ls : List Laid) (spares : ℕ)
-    (fine : AllByRecursion (IsFine s) ls) where
+    (fine : AllByRecursion (CanBeLaid s) ls) where
   abbrev bs : List (List ℕ)
   bs = image_blocks s seq ls spares
 
@@ -47,6 +45,14 @@ module _ (s : Sizes) (g : IsGeometry s) (seq : ℕ) (narrow : seq < 2 ^ 32) (ls 
       (slice_get_left front (replicate spares (spare s seq)) p inside ∙ slice_get-map (laid_bytes s (new_ec seq)) ls p
       ∙ ap (option_map (laid_bytes s (new_ec seq))) e)
 
+  -- it begins with its text
+  pub text_at : (p : ℕ) (l : Laid) → slice_get ls p ≡ Some l
+      → leb s (block bs p) ≡ l.text ++ blank (s.peb_size - (s.data_offset + length l.text))
+  text_at p l e = ap (leb s) (block_laid p l e) ∙ leb-laid_bytes s g seq narrow l (all_at (CanBeLaid s) ls p l fine e)
+
+  pub header_at : (p : ℕ) (l : Laid) → slice_get ls p ≡ Some l → member s (block bs p) ≡ Some l.header
+  header_at p l e = ap (member s) (block_laid p l e) ∙ member-laid_bytes s g seq narrow l (all_at (CanBeLaid s) ls p l fine e)
+
   block_spare : (p : ℕ) → length ls ≤ p → p < length bs → block bs p ≡ spare s seq
   block_spare p out inside =
       let front = map (laid_bytes s (new_ec seq)) ls in
@@ -62,10 +68,10 @@ module _ (s : Sizes) (g : IsGeometry s) (seq : ℕ) (narrow : seq < 2 ^ 32) (ls 
   ]
 
   -- what holds of each eraseblock that is laid out, and of a spare one, holds of all
-  over_blocks : (P : List ℕ → Type 0) → ((l : Laid) → IsFine s l → P (laid_bytes s (new_ec seq) l)) → P (spare s seq) → (p : ℕ)
+  over_blocks : (P : List ℕ → Type 0) → ((l : Laid) → CanBeLaid s l → P (laid_bytes s (new_ec seq) l)) → P (spare s seq) → (p : ℕ)
       → p < length bs → P (block bs p)
   over_blocks P h k p inside = elim (laid_or_spare p inside) [
-    | inl e ↦ subst P (sym (block_laid p e.0 e.1)) (h e.0 (all_at (IsFine s) ls p e.0 fine e.1))
+    | inl e ↦ subst P (sym (block_laid p e.0 e.1)) (h e.0 (all_at (CanBeLaid s) ls p e.0 fine e.1))
     | inr e ↦ subst P (sym e) k
   ]
 
@@ -77,7 +83,7 @@ module _ (s : Sizes) (g : IsGeometry s) (seq : ℕ) (narrow : seq < 2 ^ 32) (ls 
       e.0,
       e.1,
       same_Some (leb_of e.0.header) of
-          (sym (named-laid_bytes s g seq narrow e.0 (all_at (IsFine s) ls p e.0 fine e.1))
+          (sym (named-laid_bytes s g seq narrow e.0 (all_at (CanBeLaid s) ls p e.0 fine e.1))
           ∙ ap (named_in s) (sym (block_laid p e.0 e.1)) ∙ m.named),
     )
     | inr e ↦ absurd (let named = m.named in let none = ap (named_in s) e ∙ named-spare s g seq narrow in cc)
@@ -87,7 +93,7 @@ module _ (s : Sizes) (g : IsGeometry s) (seq : ℕ) (narrow : seq < 2 ^ 32) (ls 
   pub laid_wins : (p : ℕ) (l : Laid) → slice_get ls p ≡ Some l → Wins s bs (leb_of l.header) p
   laid_wins p l e =
       let is = block_laid p l e in
-      let one = all_at (IsFine s) ls p l fine e in
+      let one = all_at (CanBeLaid s) ls p l fine e in
       let zero : sqnum_at s bs p ≡ 0 = ap (sqnum_in s) is ∙ sqnum-laid_bytes s g seq narrow l one in
       record {
         member = record {
@@ -98,10 +104,19 @@ module _ (s : Sizes) (g : IsGeometry s) (seq : ℕ) (narrow : seq < 2 ^ 32) (ls 
           ap (good_in s) is ∙ good-laid_bytes s g seq narrow l one,
           λ q m good. (let at = member_laid (leb_of l.header) q m in
               let other : sqnum_at s bs q ≡ 0 = ap (sqnum_in s) (block_laid q at.0 at.1)
-              ∙ sqnum-laid_bytes s g seq narrow at.0 (all_at (IsFine s) ls q at.0 fine at.1) in
+              ∙ sqnum-laid_bytes s g seq narrow at.0 (all_at (CanBeLaid s) ls q at.0 fine at.1) in
               omega arith),
         );
       }
+
+  -- so it lies there
+  pub laid_at : (p : ℕ) (l : Laid) → slice_get ls p ≡ Some l → IsLaidAt s bs l p
+  laid_at p l e = record {
+    wins = laid_wins p l e;
+    sqnum = l.header.sqnum;
+    header = header_at p l e;
+    reads = text_at p l e;
+  }
 
   pub none_laid : (of : Leb) → ((l : Laid) → Holds ls l → leb_of l.header ≡ of → ⊥) → NoMember s bs of
   none_laid of none p m = let at = member_laid of p m in none at.0 (p, at.1) at.2

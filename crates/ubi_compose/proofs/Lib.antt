@@ -11,8 +11,6 @@ pub mod BuiltVectors
 pub mod BuiltVolumes
 pub mod ByNumber
 pub mod Changes
-pub mod Contents
-pub mod DistinctLebs
 pub mod EntriesByNumber
 pub mod Escapes
 pub mod Fitting
@@ -27,7 +25,6 @@ pub mod LineForms
 pub mod LinesLeft
 pub mod LinesRead
 pub mod ListedParts
-pub mod Lists
 pub mod NextPiece
 pub mod Normal
 pub mod NormalForm
@@ -38,7 +35,6 @@ pub mod Puts
 pub mod ReadBytes
 pub mod ReadSoFar
 pub mod Received
-pub mod Rising
 pub mod Room
 pub mod SoundLines
 pub mod Spares
@@ -53,5 +49,4 @@ pub mod TakenLines
 pub mod TextAnswers
 pub mod VolumeLines
 pub mod VolumePlaces
-pub mod Volumes
 pub mod Prelude

@@ -1,5 +1,5 @@
 -- The names that the proofs of this crate speak of, and where they come from.
-pub use Rattle.std.proofs.Common.{Bool, Bor, List, T, [], add-zero, ap, append-nil, append_assoc, arith, cond, drop, false, get_or, inl, inr, length, length-append, length-drop, length-take-le, lit<, map, not, refl, replicate, rules, set, slice_range, subst, suc, sym, take, take-append-drop, tests, true, vec_items, zero, zero-add, ℕ, ◌%◌, ◌&&◌, ◌*◌, ◌++◌, ◌+◌, ◌-◌, ◌/◌, ◌<◌, ◌==◌, ◌^◌, ◌||◌, ◌∙◌, ◌∷◌, ◌≡◌, ◌≢◌, ◌≤◌, ◌⊎◌}
+pub use Rattle.std.proofs.Common.{Bool, Bor, Less, List, [], add-zero, ap, append-nil, append_assoc, arith, cond, drop, false, get_or, inl, inr, length, length-append, length-drop, length-take-le, lit<, map, not, refl, replicate, rules, set, slice_range, subst, suc, sym, take, take-append-drop, tests, true, vec_items, zero, zero-add, ℕ, ◌%◌, ◌&&◌, ◌*◌, ◌++◌, ◌+◌, ◌-◌, ◌/◌, ◌<◌, ◌==◌, ◌^◌, ◌||◌, ◌∙◌, ◌∷◌, ◌≡◌, ◌≢◌, ◌≤◌, ◌⊎◌}
 pub use Rattle.std.proofs.KnownBytes.{Appends-nil}
 pub use Rattle.std.proofs.Math.Nat.{mul-add-mod_self_right, mul-div_cancel}
 pub use Rattle.std.proofs.Math.Path.{ap₂}
@@ -27,30 +27,35 @@ pub use Rattle.std.proofs.lemmas.Simd.{map-map}
 pub use Rattle.std.specs.BTreeMap.{BTreeMap, IsOrdered, is_at}
 pub use Rattle.std.specs.Bool.{then_some}
 pub use Rattle.std.specs.Cmp.{nat_cmp_total}
-pub use Rattle.std.specs.FinMap.{FinMap, from_entries, from_entries_push, is_sorted, nat_cmp-IsAntisymmetric, put}
-pub use Rattle.std.specs.FinMap.Entries.{below_all, by_order}
+pub use Rattle.std.specs.FinMap.{FinMap, from_entries, from_entries_push, nat_cmp-IsAntisymmetric, put}
+pub use Rattle.std.specs.FinMap.Entries.{by_order}
 unfoldable pub use Rattle.std.specs.Fmt.{digits}
 pub use Rattle.std.specs.Int.{div_ceil, ◌∣◌}
 pub use Rattle.std.specs.Io.KnownBytes.{Appends}
 pub use Rattle.std.specs.Iterator.Adapters.{take_source}
 pub use Rattle.std.specs.List.{AllByRecursion, concat, enumerate_from, list_all, list_any, position_from, range_with_len, repeat, slice_split}
 pub use Rattle.std.specs.Option.{ok_or, option_copied, option_map_or, option_or}
-pub use Rattle.std.specs.Ordering.{eq_by_cmp, is_lt, nat_cmp}
+pub use Rattle.std.specs.Ordering.{eq_by_cmp, nat_cmp}
 pub use Rattle.std.specs.Prelude.{Contains, Err, IfOk, IfSome, IsSome, MatchResult, None, Ok, Option, Result, Some, codes, filter_map, find, flat_map, fold, is_none, is_some, min, nat_le, nat_lt, option_and_then, option_map, slice_get, slice_index, slice_set, sum_by, unwrap_or, ⊤, ◌↔◌}
 pub use Rattle.std.specs.Result.{result_map_both, result_ok}
 pub use Rattle.std.specs.Simd.{first_chunks}
-pub use Rattle.std.specs.declared.cmp.Ordering.{Ordering}
-pub use Rattle.std.specs.declared.cmp.Ordering.TheVariants.{Equal, Greater, Less}
+pub use Rattle.std.specs.declared.cmp.Ordering.TheVariants.{Equal, Greater}
 pub use Rattle.hex.proofs.HexLemmas.{decode_of-ok}
 pub use Rattle.hex.specs.Hex.{decode_of, decode_sized, digit_or_error, hex_digit_value, ◌>>=◌}
 unfoldable pub use Rattle.hex.specs.Hex.{decode_pairs}
 pub use Rattle.hex.specs.declared.error.FromHexError.{FromHexError}
+pub use Rattle.ubi_laid.proofs.AllVolumes.{apart_blocks, fine_blocks, its_volume, own_like}
+pub use Rattle.ubi_laid.proofs.Contents.{laid_read}
+pub use Rattle.ubi_laid.proofs.DistinctLebs.{one_place}
+pub use Rattle.ubi_laid.proofs.Lists.{Holds, all_at, all_from, held_entry, slice_get_left}
+pub use Rattle.ubi_laid.proofs.Rising.{Rises, entries_rise}
+pub use Rattle.ubi_laid.specs.Laid.{AreApart, CanBeLaid, Differ, Laid, damaged_block, dynamic_block, laid_blocks, piece_header, static_block, static_blocks, static_part, volume_blocks}
+pub use Rattle.ubi_laid.specs.LaidIn.{AreLaidIn, IsLaidAt}
 pub use Rattle.ubi_media.proofs.Cases.{within_or_past}
-pub use Rattle.ubi_media.proofs.Checks.{check_from-lt}
 pub use Rattle.ubi_media.proofs.First.{found_passes}
 pub use Rattle.ubi_media.proofs.Headers.{ec_read_back, fields_fit, vid_read_back}
 pub use Rattle.ubi_media.proofs.KeptLimits.{kept_limits}
-pub use Rattle.ubi_media.proofs.Padding.{half_pad, reserved_some, reserved_within}
+pub use Rattle.ubi_media.proofs.Padding.{reserved_some, reserved_within}
 pub use Rattle.ubi_media.proofs.Readings.{one_ec_reading, one_vid_reading}
 pub use Rattle.ubi_media.proofs.Records.{usable_some}
 pub use Rattle.ubi_media.proofs.Words.{small}
@@ -82,12 +87,11 @@ pub use Rattle.ubi_scan.proofs.Keys.{apart_test, at_itself, same_test, told}
 pub use Rattle.ubi_scan.proofs.Parts.{blank_vid}
 pub use Rattle.ubi_scan.proofs.Revalued.{entries_revalued}
 pub use Rattle.ubi_scan.proofs.Seq.{seq_is}
-pub use Rattle.ubi_scan.proofs.TrueTests.{both_left, both_right}
 pub use Rattle.ubi_scan.specs.Clean.{IsSound}
 pub use Rattle.ubi_scan.specs.Faults.{IsMislaid, NoFault}
 pub use Rattle.ubi_scan.specs.Held.{anything, sound}
 pub use Rattle.ubi_scan.specs.Image.{Image, IsWholeImage, block, ec, eraseblocks, image_of, leb, vid, vid_area}
-pub use Rattle.ubi_scan.specs.Members.{IsMember, Leb, NoMember, Wins, foreign, foreign_if, good_in, has_members, is_good, layout, leb_of, member, member_if, named_in, sqnum_at, sqnum_in}
+pub use Rattle.ubi_scan.specs.Members.{IsMember, Leb, NoMember, Wins, foreign, foreign_if, good_in, is_good, layout, leb_of, member, member_if, named_in, sqnum_at, sqnum_in}
 pub use Rattle.ubi_scan.specs.Numbers.{image_seq, seq_if, seq_of}
 pub use Rattle.ubi_scan.specs.Source.{Agreed, Narrows, Source, blocks_in, blocks_of}
 pub use Rattle.ubi_table.proofs.NoRecords.{no_entries}
@@ -109,11 +113,10 @@ pub use Rattle.ubi_volume.proofs.Listed.{listed_volume}
 pub use Rattle.ubi_volume.proofs.MeantRecords.{meant_by, records_are, records_fit, volume_is}
 pub use Rattle.ubi_volume.proofs.NarrowedPlaces.{places_narrowed, wrote_narrowed, wrote_where}
 pub use Rattle.ubi_volume.proofs.OneMeaning.{Accepts-unique}
-pub use Rattle.ubi_volume.proofs.Pieces.{length-share, piece_begins, pieces_few, pieces_suffice, share_full, share_more, share_most, share_none, share_some, shares_all}
+pub use Rattle.ubi_volume.proofs.Pieces.{length-share, piece_begins, pieces_few, pieces_suffice, share_more, share_most}
 pub use Rattle.ubi_volume.proofs.Received.{Splits, error_behind, error_front, wrote_as, wrote_cut, wrote_more, wrote_text}
 pub use Rattle.ubi_volume.proofs.Recorded.{record_of}
 pub use Rattle.ubi_volume.proofs.Shares.{header_at, share_at, share_of_pieces}
-pub use Rattle.ubi_volume.proofs.Static.{damaged_piece, piece_checked, piece_unchecked, read_more, read_none, static_reads}
 pub use Rattle.ubi_volume.proofs.VolumeAt.{found_or_none, found_wins, in_table, reads_of, table}
 pub use Rattle.ubi_volume.proofs.WithoutBlank.{get_without_blank, is_kept}
 pub use Rattle.ubi_volume.specs.Accepts.{Accepts, AcceptsBlocks, IsWithin, NoMismatch, Refuses}
@@ -124,7 +127,6 @@ pub use Rattle.ubi_volume.specs.Meant.{Fits, HasDistinctNames, IsMeaning, IsVolu
 pub use Rattle.ubi_volume.specs.PageLaws.{image_with_page, meaning_with_page}
 pub use Rattle.ubi_volume.specs.Places.{ArePlaces, ArePlacesOf, AreWithin, CaseFits, IsCountedPlace, IsNextPlace, Placed, case_of}
 pub use Rattle.ubi_volume.specs.Reading.{leb_text, lebs_text, read_volume, volume_read}
-pub use Rattle.ubi_volume.specs.Texts.{AreRead, PieceIs, UsedIs}
 pub use Rattle.ubi_volume.specs.Wrote.{All, First, NotAll, Wrote}
 pub use Rattle.ubi_volume.specs.declared.content.Content.{Content}
 pub use Rattle.ubi_volume.specs.declared.content.Volume.{Volume}
@@ -140,7 +142,7 @@ pub use Rattle.ubi_compose.specs.ErrorTexts.{spec_error_text}
 pub use Rattle.ubi_compose.specs.Laws.{MeanTheSame, Normalising}
 pub use Rattle.ubi_compose.specs.Lines.{first_word, forms, is_form, is_skipped, is_spelled, number_word, said, volume_of, word, word_count, words}
 unfoldable pub use Rattle.ubi_compose.specs.Lines.{damaged_line, leb_line, line_form, line_of, line_of_volume, text_line, updating_line}
-pub use Rattle.ubi_compose.specs.Normal.{IsNormalised, Laid, damaged_block, dynamic_block, laid_blocks, laid_bytes, layout_block, new_ec, normal_blocks, piece_header, static_block, static_blocks, static_part, volume_blocks}
+pub use Rattle.ubi_compose.specs.Normal.{IsNormalised, laid_bytes, layout_block, new_ec, normal_blocks}
 unfoldable pub use Rattle.ubi_compose.specs.Normal.{normal_bytes}
 pub use Rattle.ubi_compose.specs.PageLaws.{LesserAcceptsMore, NormalWithLesserPage}
 pub use Rattle.ubi_compose.specs.Spec.{IsSpecError, cause_after, cause_at, first_some, gives, heading, is_content, is_damaged, is_dynamic, is_updating, is_whole, leb_in, line_number, lines, may_follow, numbered_volume, of_volume, record_in, suits, text_in, volumes_of}

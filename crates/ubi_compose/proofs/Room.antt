@@ -1,10 +1,8 @@
 -- A normal image fits the device: a volume has no more eraseblocks than it reserves.
-use Rattle.ubi_compose.proofs.Prelude.{take-append-drop, ◌≡◌, ℕ, ◌+◌, ◌<◌, ◌≤◌, List, [], ◌∷◌, ◌++◌, drop, length, map, take, sym, ap, ◌∙◌, subst, arith, IfSome, Option, flat_map, fold, FinMap, AllByRecursion, nat_cmp, length-map, flat_map-append, length-map-range_with_len, Sizes, data_pad, usable, usable_some, Fits, IsMeaning, IsVolume, Meant, pieces, Content, Volume, HasRoom, laid_blocks, dynamic_block, normal_blocks, static_part, volume_blocks, reserved_some, pieces_few, volume_is}
+use Rattle.ubi_compose.proofs.Prelude.{take-append-drop, ◌≡◌, ℕ, ◌+◌, ◌<◌, ◌≤◌, List, [], ◌∷◌, ◌++◌, drop, length, map, take, sym, ap, ◌∙◌, subst, arith, IfSome, Option, flat_map, fold, FinMap, AllByRecursion, nat_cmp, length-map, flat_map-append, length-map-range_with_len, Sizes, data_pad, usable, usable_some, Fits, IsMeaning, IsVolume, Meant, pieces, Content, Volume, HasRoom, laid_blocks, dynamic_block, normal_blocks, static_part, volume_blocks, reserved_some, pieces_few, volume_is, all_from, held_entry, Rises, entries_rise}
 use Rattle.std.specs.FinMap as finite
 use Rattle.std.proofs.lemmas.List.{length-append}
 use Rattle.ubi_volume.specs.declared.content.Content.TheVariants as content
-use Rattle.ubi_compose.proofs.Lists.{all_from, held_entry}
-use Rattle.ubi_compose.proofs.Rising.{Rises, entries_rise}
 
 -- numbers that rise, from k on and below n, are no more than those between
 pub few_rising : {X : Type 0} (key : X → ℕ) (xs : List X) (k n : ℕ) → k ≤ n → Rises key xs

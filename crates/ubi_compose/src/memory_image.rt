@@ -4,7 +4,8 @@ ghost use Rattle.std.specs.FinMap as finite;
 ghost use Rattle.std.specs.List.{AllByRecursion};
 ghost use Rattle.std.specs.Prelude.{◌≡◌, ◌≢◌, ◌++◌, ◌*◌, ◌<◌, ◌≤◌, ◌^◌, IfErr, IfOk, OnOk, flat_map, length, map, replicate};
 ghost use Rattle.ubi_compose.specs.Composed.{HasRoom, IsComposeError, composed, spare};
-ghost use Rattle.ubi_compose.specs.Normal.{IsNormalised, dynamic_block, laid_blocks, laid_bytes, layout_block, new_ec, normal_blocks, static_blocks, volume_blocks};
+ghost use Rattle.ubi_compose.specs.Normal.{IsNormalised, laid_bytes, layout_block, new_ec, normal_blocks};
+ghost use Rattle.ubi_laid.specs.Laid.{dynamic_block, laid_blocks, static_blocks, volume_blocks};
 ghost use Rattle.ubi_media.specs.Fields.{blank, filled};
 ghost use Rattle.ubi_media.specs.Geometry.{leb_size};
 ghost use Rattle.ubi_scan.specs.Image.{Image, image_of};
@@ -12,9 +13,10 @@ ghost use Rattle.ubi_volume.specs.Accepts.{Accepts, IsAttachError};
 ghost use Rattle.ubi_volume.specs.Meant.{IsVolume, pieces, share};
 
 use crate::errors::ComposeError;
-use crate::header::{copy_header, damaged_header, static_header};
+use crate::header::copy_header;
 use crate::records::table_text;
 use std::alloc::{AllocError, Global};
+use ubi_laid::{damaged_header, static_header};
 use ubi_media::{AttachError, EcHeader, Geometry, VidHeader, VolKind, write_ec, write_vid};
 use ubi_volume::{Content, Lebs, Meaning, Volume, attach};
 

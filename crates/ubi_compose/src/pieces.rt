@@ -10,8 +10,8 @@ ghost use Rattle.ubi_scan.specs.Image.{block, vid};
 ghost use Rattle.ubi_scan.specs.Source.{Narrows, WhereHeld, after_read, blocks_of};
 
 use crate::built_image::{Part, Recipe};
-use crate::header::piece_header;
 use crate::sourced::Contents;
+use ubi_laid::piece_header;
 use ubi_media::{Geometry, VidHeader, VidRead, VolKind, crc, is_blank, read_vid};
 use ubi_scan::{BlockSource, SourceFault};
 use ubi_volume::share_len;

@@ -68,6 +68,10 @@ module _ (s : Sizes) (scan : Found) where
   abbrev pub release_on : Site → Option EcHeader → List Step
   release_on t now = if stays_on scan t now then [] else renew s t.pnum (next_ec scan now)
 
-  -- contents are written to b under a header, and then the old winner of its LEB is erased
+  -- contents are written to b under a header
+  abbrev pub lay_on : Site → VidHeader → List ℕ → List Step
+  lay_on b h new = mount_on b h ++ program_text s b.pnum new
+
+  -- and then the old winner of its LEB is erased
   abbrev pub copy_on : Site → VidHeader → List ℕ → Site → Option EcHeader → List Step
-  copy_on b h new old now = mount_on b h ++ program_text s b.pnum new ++ release_on old now
+  copy_on b h new old now = lay_on b h new ++ release_on old now

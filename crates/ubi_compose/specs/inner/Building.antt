@@ -13,8 +13,8 @@ use Rattle.ubi_volume.specs.Extract.{share_len}
 use Rattle.ubi_volume.specs.declared.content.Content.{Content}
 use Rattle.ubi_volume.specs.declared.content.Content.TheVariants as content
 use Rattle.ubi_volume.specs.declared.content.Volume.{Volume}
+use Rattle.ubi_laid.specs.Laid.{piece_header}
 use Rattle.ubi_compose.specs.Built.{Parts, Reaches, pieces_of}
-use Rattle.ubi_compose.specs.Normal.{piece_header}
 use Rattle.ubi_compose.specs.declared.pieces.Origin.TheVariants as origin
 use Rattle.ubi_compose.specs.declared.pieces.Piece.{Piece}
 use Rattle.ubi_compose.specs.declared.built_image.Part.{Part}

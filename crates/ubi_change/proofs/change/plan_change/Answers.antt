@@ -15,6 +15,9 @@ planned c =
 pub returns-in-Ok-clause-survives : goal.returns-in-Ok-clause-survives
 returns-in-Ok-clause-survives c = (planned c).survives
 
+pub returns-in-Ok-clause-torn : goal.returns-in-Ok-clause-torn
+returns-in-Ok-clause-torn c = (planned c).torn
+
 pub returns-in-Ok-clause-fits : goal.returns-in-Ok-clause-fits
 returns-in-Ok-clause-fits c = (planned c).fits
 

@@ -1,15 +1,11 @@
 -- Eraseblocks of different LEBs.
-use Rattle.ubi_compose.proofs.Prelude.{◌≡◌, ◌≢◌, ℕ, zero, suc, List, [], ◌∷◌, ◌++◌, refl, ap, sym, ◌∙◌, Some, slice_get, AllByRecursion, same_Some, leb_of, Laid}
-use Rattle.ubi_compose.proofs.Lists.{all_append, all_at}
-
--- two eraseblocks are of different LEBs
-abbrev pub Differ : Laid → Laid → Type 0
-Differ k l = leb_of l.header ≢ leb_of k.header
-
--- any two of a list are
-abbrev pub AreApart : List Laid → Type 0
-AreApart [] = Unit {0}
-AreApart (l ∷ ls) = AllByRecursion (Differ l) ls × AreApart ls
+use Rattle.std.proofs.Common.{◌≡◌, ℕ, zero, suc, List, [], ◌∷◌, ◌++◌, refl, ap, sym, ◌∙◌}
+use Rattle.std.proofs.lemmas.Option.{same_Some}
+use Rattle.std.specs.List.{AllByRecursion}
+use Rattle.std.specs.Prelude.{Some, slice_get}
+use Rattle.ubi_scan.specs.Members.{leb_of}
+use Rattle.ubi_laid.specs.Laid.{AreApart, Differ, Laid}
+use Rattle.ubi_laid.proofs.Lists.{all_append, all_at}
 
 pub apart_append : (ks ls : List Laid) → AreApart ks → AreApart ls
     → AllByRecursion (λ k. AllByRecursion (Differ k) ls) ks → AreApart (ks ++ ls)

@@ -1,10 +1,25 @@
 -- The eraseblocks of one volume.
-use Rattle.ubi_compose.proofs.Prelude.{◌≡◌, ℕ, ◌^◌, ◌<◌, ◌≤◌, List, length, map, refl, sym, subst, arith, IfSome, Option, FinMap, AllByRecursion, range_with_len, nat_cmp, crc_of, IsGeometry, Sizes, data_pad, usable, VolumeRecord, check_from-lt, usable_some, Fits, IsVolume, pieces, share, Content, Volume, Laid, damaged_block, dynamic_block, static_blocks, static_part, volume_blocks, half_pad, reserved_within, pieces_few, share_full, share_most, share_some}
 use Rattle.std.specs.FinMap as finite
 use Rattle.ubi_volume.specs.declared.content.Content.TheVariants as content
-use Rattle.ubi_compose.proofs.Blocks.{IsFine}
-use Rattle.ubi_compose.proofs.Headers.{IsPart, IsUsers, dynamic_fits, dynamic_sound, static_fits, static_sound, user_known, user_placed}
-use Rattle.ubi_compose.proofs.Lists.{Holds, all_map, held_entry, range_holds}
+use Rattle.std.proofs.Common.{◌≡◌, ℕ, ◌^◌, ◌<◌, ◌≤◌, List, length, map, refl, sym, subst, arith}
+use Rattle.std.specs.FinMap.{FinMap}
+use Rattle.std.specs.List.{AllByRecursion, range_with_len}
+use Rattle.std.specs.Ordering.{nat_cmp}
+use Rattle.std.specs.Prelude.{IfSome, Option}
+use Rattle.ubi_media.proofs.Checks.{check_from-lt}
+use Rattle.ubi_media.proofs.Padding.{half_pad, reserved_within}
+use Rattle.ubi_media.proofs.Records.{usable_some}
+use Rattle.ubi_media.specs.Check.{crc_of}
+use Rattle.ubi_media.specs.Geometry.{IsGeometry, Sizes}
+use Rattle.ubi_media.specs.Record.{data_pad, usable}
+use Rattle.ubi_media.specs.declared.record.VolumeRecord.{VolumeRecord}
+use Rattle.ubi_volume.proofs.Pieces.{pieces_few, share_full, share_most, share_some}
+use Rattle.ubi_volume.specs.Meant.{Fits, IsVolume, pieces, share}
+use Rattle.ubi_volume.specs.declared.content.Content.{Content}
+use Rattle.ubi_volume.specs.declared.content.Volume.{Volume}
+use Rattle.ubi_laid.specs.Laid.{Laid, damaged_block, dynamic_block, static_blocks, static_part, volume_blocks, CanBeLaid}
+use Rattle.ubi_laid.proofs.Headers.{IsPart, IsUsers, dynamic_fits, dynamic_sound, static_fits, static_sound, user_known, user_placed}
+use Rattle.ubi_laid.proofs.Lists.{Holds, all_map, held_entry, range_holds}
 
 -- what holds of each piece of a static text, or of each LEB that is kept of a dynamic volume
 all_static : (P : Laid → Type 0) (pad size vol : ℕ) (text : List ℕ)
@@ -30,7 +45,16 @@ module _ (s : Sizes) (vol : ℕ) (r : VolumeRecord) where
   own_blocks (content.Dynamic lebs) = all_dynamic (λ (l : Laid). l.header.vol_id ≡ vol) (data_pad s r) vol lebs
       (λ e at. refl)
 
-  -- and their headers are like its record
+  -- with the compatibility of a user's volume
+  pub plain_volume : (c : Content) → AllByRecursion (λ (l : Laid). l.header.compat ≡ 0) (volume_blocks s vol r c)
+  plain_volume content.Updating = tt
+  plain_volume content.Damaged = (refl, tt)
+  plain_volume (content.Static text) = all_static (λ (l : Laid). l.header.compat ≡ 0) (data_pad s r)
+      (usable s r) vol text (λ lnum below. refl)
+  plain_volume (content.Dynamic lebs) = all_dynamic (λ (l : Laid). l.header.compat ≡ 0) (data_pad s r) vol lebs
+      (λ e at. refl)
+
+  -- their headers are like its record
   abbrev pub IsLike : Laid → Type 0
   IsLike l = (l.header.kind ≡ r.kind) × (l.header.data_pad ≡ data_pad s r)
 
@@ -64,7 +88,7 @@ module _ (s : Sizes) (g : IsGeometry s) (vol : ℕ) (v : Volume) (is : IsVolume 
 
   fine_dynamic : (lebs : FinMap nat_cmp (List ℕ)) → Fits s v.entry (content.Dynamic lebs) → (e : ℕ × List ℕ)
       → Holds (finite.entries lebs) e
-      → IsFine s (dynamic_block pad vol e)
+      → CanBeLaid s (dynamic_block pad vol e)
   fine_dynamic lebs fits e at =
       let kept : List ℕ → Type 0 = λ text. (e.0 < v.entry.reserved) × (length text ≡ size) in
       let held : (e.0 < v.entry.reserved) × (length e.1 ≡ size) =
@@ -84,7 +108,7 @@ module _ (s : Sizes) (g : IsGeometry s) (vol : ℕ) (v : Volume) (is : IsVolume 
       }
 
   fine_static : (text : List ℕ) → Fits s v.entry (content.Static text) → (lnum : ℕ) → lnum < pieces size (length text)
-      → IsFine s (static_part pad size vol text lnum)
+      → CanBeLaid s (static_part pad size vol text lnum)
   fine_static text fits lnum below =
       let used : ℕ = pieces size (length text) in
       let held : List ℕ = share size text lnum in
@@ -110,7 +134,7 @@ module _ (s : Sizes) (g : IsGeometry s) (vol : ℕ) (v : Volume) (is : IsVolume 
         original = refl;
       }
 
-  fine_damaged : IsFine s (damaged_block pad vol)
+  fine_damaged : CanBeLaid s (damaged_block pad vol)
   fine_damaged =
       let u = users 0 (omega arith) in
       let part : IsPart s pad 0 1 1 = record {
@@ -130,12 +154,12 @@ module _ (s : Sizes) (g : IsGeometry s) (vol : ℕ) (v : Volume) (is : IsVolume 
         original = refl;
       }
 
-  fine_by : (c : Content) → Fits s v.entry c → AllByRecursion (IsFine s) (volume_blocks s vol v.entry c)
+  fine_by : (c : Content) → Fits s v.entry c → AllByRecursion (CanBeLaid s) (volume_blocks s vol v.entry c)
   fine_by content.Updating fits = tt
   fine_by content.Damaged fits = (fine_damaged, tt)
-  fine_by (content.Static text) fits = all_static (IsFine s) pad size vol text (fine_static text fits)
-  fine_by (content.Dynamic lebs) fits = all_dynamic (IsFine s) pad vol lebs (fine_dynamic lebs fits)
+  fine_by (content.Static text) fits = all_static (CanBeLaid s) pad size vol text (fine_static text fits)
+  fine_by (content.Dynamic lebs) fits = all_dynamic (CanBeLaid s) pad vol lebs (fine_dynamic lebs fits)
 
   -- each can be laid out
-  pub fine_volume : AllByRecursion (IsFine s) (volume_blocks s vol v.entry v.content)
+  pub fine_volume : AllByRecursion (CanBeLaid s) (volume_blocks s vol v.entry v.content)
   fine_volume = fine_by v.content is.fits
