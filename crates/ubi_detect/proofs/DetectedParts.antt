@@ -1,5 +1,5 @@
 -- What is detected in a source, by the group of its image.
-use Rattle.ubi_detect.proofs.Prelude.{◌≡◌, ◌≢◌, ℕ, List, [], Result, Ok, Err, IfErr, IfOk, AreDetectedOf, IsDetectError, IsFound, told, Agreed, Source, WhereHeld, DetectError, Detected, Group, IsUntold}
+use Rattle.ubi_detect.proofs.Prelude.{◌≡◌, ◌≢◌, ◌∷◌, ℕ, List, [], ap, get_or, refl, sym, Result, Ok, Err, IfErr, IfOk, AreDetectedOf, IsDetectError, IsFound, told, Agreed, Source, WhereHeld, DetectError, Detected, Group, IsUntold}
 use Rattle.ubi_detect.specs.declared.detect.DetectError.TheVariants as error
 use Rattle.ubi_detect.specs.declared.detect.Undetected.TheVariants as cause
 
@@ -19,3 +19,13 @@ module _ (agrees : Agreed) (g : Group) (found : WhereHeld agrees (λ bytes. IsFo
   pub undetected : {V : Type 0} (k : Source) (n : ℕ) (r : Result V DetectError) → n ≡ k.size → IfErr r (IsUntold n agrees g) → IfErr r (IsDetectError k agrees)
   undetected k n (Ok v) size is = tt
   undetected k n (Err e) size is = undetected_by k n e size is
+
+-- a list with an element begins with the one that is its first
+pub first_of : {A : Type 0} (xs : List A) (x : A) → xs ≢ [] → x ≡ get_or xs 0 x → (more : List A) × (xs ≡ x ∷ more)
+first_of [] x some e = absurd (some refl)
+first_of (y ∷ ys) x some e = (ys, ap (λ z. z ∷ ys) (sym e))
+
+-- and there is one
+pub some_first : {A : Type 0} (xs : List A) → xs ≢ [] → (x : A) × (more : List A) × (xs ≡ x ∷ more)
+some_first [] some = absurd (some refl)
+some_first (x ∷ xs) some = (x, xs, refl)

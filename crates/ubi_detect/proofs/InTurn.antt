@@ -1,5 +1,5 @@
 -- Tests that are done in order.
-use Rattle.ubi_detect.proofs.Prelude.{◌≡◌, Bool, true, false, ap, sym, ◌∙◌, ◌&&◌, ◌||◌}
+use Rattle.ubi_detect.proofs.Prelude.{◌≡◌, Bool, true, false, refl, ap, sym, ◌∙◌, ◌&&◌, ◌||◌}
 
 module _ (a b c : Bool) where
   pub first_fails : a ≡ false → false ≡ (a && b && c)
@@ -23,6 +23,9 @@ module _ (a b c d : Bool) where
   pub none_of : a ≡ true → b ≡ false → c ≡ false → false ≡ (a && (b || (c && d)))
   none_of e f g = sym (ap (λ x. x && (b || (c && d))) e ∙ ap (λ x. x || (c && d)) f ∙ ap (λ x. x && d) g)
 
+  pub second_passes : a ≡ true → b ≡ true → true ≡ (a && (b || (c && d)))
+  second_passes e f = sym (ap (λ x. x && (b || (c && d))) e ∙ ap (λ x. x || (c && d)) f)
+
   pub fourth_decides : (x : Bool) → a ≡ true → b ≡ false → c ≡ true → x ≡ d → x ≡ (a && (b || (c && d)))
   fourth_decides x e f g h = h ∙ sym (ap (λ x. x && (b || (c && d))) e ∙ ap (λ x. x || (c && d)) f ∙ ap (λ x. x && d) g)
 
@@ -33,3 +36,15 @@ module _ (a b : Bool) where
 
   pub second_of_two : (x : Bool) → a ≡ true → x ≡ b → x ≡ (a && b)
   second_of_two x e f = f ∙ sym (ap (λ y. y && b) e)
+
+-- and of three of which one is enough
+second_of : (a b c : Bool) → b ≡ true → true ≡ (a || b || c)
+second_of true b c e = refl
+second_of false b c e = sym (ap (λ x. x || c) e)
+
+module _ (a b c : Bool) where
+  pub second_holds : b ≡ true → true ≡ (a || b || c)
+  second_holds e = second_of a b c e
+
+  pub last_of_three : (x : Bool) → a ≡ false → b ≡ false → x ≡ c → x ≡ (a || b || c)
+  last_of_three x e f h = h ∙ sym (ap (λ y. y || b || c) e ∙ ap (λ y. y || c) f)

@@ -159,7 +159,7 @@ module _ (bytes : List ℕ) (g : Group) where
 
   told_pairs : AllPairs IsLesserTold (told bytes g)
   told_pairs =
-      pairs_map IsLesserTold (told_by (start_of_image bytes g) (end_of_image bytes g)) (told_ways bytes g)
+      pairs_map IsLesserTold (told_by (start_of_image g) (end_of_image bytes g)) (told_ways bytes g)
       (λ i j d below inside. (let h = way_pairs i j d below inside in (h.0, refl, refl, h.1)))
 
 -- of what is told of a file, the first is lesser than each, or it itself

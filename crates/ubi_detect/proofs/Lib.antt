@@ -10,6 +10,7 @@ pub mod JoinedKeys
 pub mod LeastWay
 pub mod Magics
 pub mod MoreKeys
+pub mod Looking
 pub mod MostVoted
 pub mod NewGroups
 pub mod OnGrid
@@ -28,7 +29,6 @@ pub mod PlainGroups
 pub mod PlainHeads
 pub mod PlainOrNot
 pub mod PlainSizes
-pub mod Runs
 pub mod SaidGroups
 pub mod SomeGroups
 pub mod Surveyed

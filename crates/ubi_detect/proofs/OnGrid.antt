@@ -1,7 +1,6 @@
 -- Where the headers of an image stand, and where it begins and ends.
-use Rattle.ubi_detect.proofs.Prelude.{◌≡◌, ℕ, ◌+◌, ◌-◌, ◌*◌, ◌/◌, ◌%◌, ◌≤◌, Bool, true, false, List, [], ◌∷◌, ◌++◌, length, slice_range, zero, suc, refl, ap, sym, subst, arith, ◌∣◌, All, option_to_list, None, Option, Some, option_map, dvd-mul_left, dvd-sub, mod-add-div', mul-le-mul_right, append-nil, All-cons, All-nil, All-push, le_of_dvd, EachOnGrid, GreatestSize, PlaceOnGrid, SizeOfImage, first_place, heads_of, heads_to, is_of, key_in, last_place, places, step, blanks_before, blanks_behind, end_of_last, Head, Key}
+use Rattle.ubi_detect.proofs.Prelude.{◌≡◌, ℕ, ◌+◌, ◌-◌, ◌*◌, ◌/◌, ◌%◌, ◌≤◌, Bool, true, false, List, [], ◌∷◌, ◌++◌, length, slice_range, zero, suc, refl, ap, sym, subst, arith, ◌∣◌, All, option_to_list, None, Option, Some, option_map, dvd-mul_left, dvd-sub, mod-add-div', append-nil, All-cons, All-nil, All-push, le_of_dvd, EachOnGrid, GreatestSize, PlaceOnGrid, SizeOfImage, first_place, heads_of, heads_to, is_of, key_in, last_place, places, step, end_of_last, Head, Key, dvd-add, dvd_refl, mod-lt, end_of_image, start_of_image, ◌<◌, inl, inr, within_or_past}
 use Rattle.ubi_detect.proofs.Grouped.{last_is, places_with, places_without}
-use Rattle.ubi_detect.proofs.Runs.{run_most}
 use Rattle.ubi_detect.proofs.Surveyed.{heads_more}
 
 -- one of the first n units begins at a place
@@ -93,23 +92,48 @@ size_of_image bytes j q p g image from divides one other =
     omega (arith, few, most)
 
 module _ (q : ℕ) (some : 1 ≤ q) where
-  starts : (a k : ℕ) → k ≤ a / q → (a - k * q ≤ a) × (q ∣ (a - (a - k * q)))
-  starts a k few =
-      let e : k * q ≤ a / q * q = mul-le-mul_right q few in
-      let f = mod-add-div' a q in
-      let same : k * q ≡ a - (a - k * q) = omega (arith, e, f) in
+  -- what is left of a number is less, and the rest of it is whole multiples
+  left_over : (n : ℕ) → (n % q < q) × (n % q ≤ n) × (q ∣ (n - n % q))
+  left_over n =
+      let split = mod-add-div' n q in
+      let less : n % q < q = mod-lt n (omega arith) in
+      let same : n / q * q ≡ n - n % q = omega (arith, split) in
       let P : ℕ → Type 0 = λ x. q ∣ x in
-      (omega arith, subst P same (dvd-mul_left q k))
+      (less, omega (arith, split), subst P same (dvd-mul_left q (n / q)))
 
-  ends : (z k : ℕ) → (z ≤ z + k * q) × (q ∣ (z + k * q - z))
-  ends z k =
-      let same : k * q ≡ z + k * q - z = omega arith in
-      let P : ℕ → Type 0 = λ x. q ∣ x in
-      (omega arith, subst P same (dvd-mul_left q k))
+  -- and a multiple that isn't more is within them
+  multiple_within : (a n : ℕ) → q ∣ a → a ≤ n → a ≤ n - n % q
+  multiple_within a n divides few = elim (within_or_past a (n - n % q)) [
+    | inl within ↦ within
+    | inr past ↦ (let left = left_over n in
+        let step = le_of_dvd (let some : 0 < a - (n - n % q) = omega (arith, past) in some) (dvd-sub q divides left.2) in
+        let less = left.0 in
+        absurd (omega (arith, step, less, few, past)))
+  ]
 
--- an image begins and ends at multiples of its size from its headers
+-- the place of an image is all whole eraseblocks on its grid
 pub place_on_grid : PlaceOnGrid
-place_on_grid bytes g some =
-    let s = starts g.size some g.first (blanks_before bytes g) (run_most _ _) in
-    let e = ends g.size some (end_of_last g) (blanks_behind bytes g) in
-    (s.0, s.1, e.0, e.1)
+place_on_grid bytes g some order whole grid =
+    let n = length bytes in
+    let s = start_of_image g in
+    let q = g.size in
+    let P : ℕ → Type 0 = λ x. q ∣ x in
+    let from = left_over q some g.first in
+    let to = left_over q some (n - s) in
+    let low : s ≤ g.first = from.1 in
+    let few : (n - s) % q ≤ n - s = to.1 in
+    let less : (n - s) % q < q = to.0 in
+    let one : g.last - g.first + (g.first - s) ≡ g.last - s = omega (arith, order, low) in
+    let two : g.last - s + q ≡ end_of_last g - s = omega (arith, order, low) in
+    let spans : q ∣ (end_of_last g - s) = subst P two (dvd-add q (subst P one (dvd-add q grid from.2)) (dvd_refl q)) in
+    let within = multiple_within q some (end_of_last g - s) (n - s) spans (omega (arith, whole)) in
+    let end : end_of_image bytes g - s ≡ n - s - (n - s) % q = omega (arith, few) in
+    let rest : end_of_image bytes g - s - (end_of_last g - s) ≡ end_of_image bytes g - end_of_last g = omega (arith, low, order) in (
+      from.0,
+      low,
+      from.2,
+      omega (arith, within, few, low, order, whole),
+      subst P rest (dvd-sub q (subst P (sym end) to.2) spans),
+      omega arith,
+      omega (arith, less, few, low, order, whole),
+    )

@@ -54,10 +54,10 @@ laid_out s none place =
 
 module _ (bytes : List ℕ) (g : Group) (found : IsFound bytes g) (w : Way) (has : Contains (told_ways bytes g) w) where
   abbrev here : Detected
-  here = told_by (start_of_image bytes g) (end_of_image bytes g) w
+  here = told_by (start_of_image g) (end_of_image bytes g) w
 
   among : Contains (told bytes g) here
-  among = contains_map (told_by (start_of_image bytes g) (end_of_image bytes g)) (told_ways bytes g) w has
+  among = contains_map (told_by (start_of_image g) (end_of_image bytes g)) (told_ways bytes g) w has
 
   detected : AreDetected bytes (told bytes g) × Contains (told bytes g) here
   detected = (record { group = g; is = found; are = refl; some = λ e. let none = ap length e in let a = among.1 in omega (arith, a, none) }, among)

@@ -1,5 +1,5 @@
 -- The size of an image in a file is sure if it is in the image's own bytes.
-use Rattle.ubi_detect.proofs.Prelude.{◌≡◌, ℕ, ◌+◌, ◌-◌, ◌*◌, ◌/◌, ◌%◌, ◌≤◌, Bool, true, false, List, length, refl, ap, sym, ◌∙◌, arith, All, ◌==◌, ◌&&◌, ◌||◌, nat_le, nat_lt, not, mul-div-le, mul-le-mul_right, and_parts, leb-true, slots, record_size, vid_magic, step, layout, HoldsPart, SureOfPart, moved, count_starts, all_are, are_no_parts, copy_at, end_in, ends_blank, goes_on, has_room, have_copies, holds_table, is_blank_at, is_filled, is_hole, is_prime, is_seen, is_start, is_sure, is_whole_size, looked_at, may_be_parts, may_be_size, meet_in, meets, number_at, says_so, some_ends_blank, some_inner, some_part, some_start, tables_meet, plain_ways, put, ways, Group, Way}
+use Rattle.ubi_detect.proofs.Prelude.{◌≡◌, ℕ, ◌+◌, ◌-◌, ◌*◌, ◌/◌, ◌%◌, ◌≤◌, Bool, true, false, List, length, refl, ap, sym, ◌∙◌, arith, All, ◌==◌, ◌&&◌, ◌||◌, nat_le, nat_lt, not, mul-div-le, mul-le-mul_right, and_parts, leb-true, slots, record_size, vid_magic, step, layout, HoldsPart, SureOfPart, moved, count_starts, all_are, are_no_parts, copy_at, end_in, ends_blank, goes_on, has_room, have_copies, holds_table, is_blank_at, is_filled, is_hole, is_prime, is_seen, is_start, is_sure, is_whole_size, looked_at, may_be_parts, may_be_size, meet_in, meets, number_at, says_so, some_ends_blank, some_inner, some_part, some_start, tables_meet, plain_ways, put, ways, Group, Way, are_no_halves, blocks, is_borne_out, is_even}
 use Rattle.ubi_detect.proofs.OnePlain.{next_mul}
 use Rattle.ubi_detect.proofs.PartPlaces.{first_or_behind, size_of_unit}
 use Rattle.ubi_detect.proofs.PartReads.{all_same, any_each, any_same, le_moved, lt_moved, same_all, same_blocks, same_count, same_number, same_some, same_start}
@@ -179,13 +179,31 @@ module _ (file : List ℕ) (at : ℕ) (part : List ℕ) (g : Group) (holds : Hol
   whole_size_same : is_whole_size file (moved at g) ≡ is_whole_size part g
   whole_size_same = all_same _ _ (g.size / step) (λ i below. parts_by (i + 2) (may_be_parts g.key.offsets g.size (i + 2)) refl)
 
+  -- whether its eraseblocks are no halves, by how many they are, and how many of those with even numbers start with a header
+  abbrev no_halves_by : ℕ → ℕ → Bool
+  no_halves_by n even = (g.count == n) || not (nat_lt (4 * even) ((n + 1) / 2) || nat_lt (4 * (g.count - even)) (n / 2))
+
+  even_same : (p : ℕ) → p + g.size ≤ length part → is_even (moved at g) (at + p) ≡ is_even g p
+  even_same p inside = let e : at + p - (at + g.first) ≡ p - g.first = omega arith in ap (λ x. x / g.size % 2 == 0) e
+
+  no_halves_same : are_no_halves file (moved at g) ≡ are_no_halves part g
+  no_halves_same =
+      ap (λ n. no_halves_by n (count_starts file (moved at g) (is_even (moved at g))))
+      (same_blocks file part at holds.lies g unit order holds.whole)
+      ∙ ap (no_halves_by (blocks g)) (count_of_same (is_even (moved at g)) (is_even g) even_same)
+
+  says_same : says_so file (moved at g) ≡ says_so part g
+  says_same =
+      ap (λ b. b && (tables_meet file (moved at g) || (nat_le 3 g.count && is_whole_size file (moved at g)))) some_ends_same
+      ∙ ap (λ b. some_ends_blank part g && (b || (nat_le 3 g.count && is_whole_size file (moved at g)))) tables_same
+      ∙ ap (λ b. some_ends_blank part g && (tables_meet part g || (nat_le 3 g.count && b))) whole_size_same
+
   sure_same : is_sure file (moved at g) ≡ is_sure part g
   sure_same =
-      ap (λ n. (has_room g.key.offsets g.size && nat_lt n (2 * g.count) && is_seen g) && says_so file (moved at g))
+      ap (λ n. (has_room g.key.offsets g.size && nat_lt n (2 * g.count) && is_seen g) && is_borne_out file (moved at g))
       (same_blocks file part at holds.lies g unit order holds.whole)
-      ∙ ap (λ b. may_be_size g && (b && (tables_meet file (moved at g) || (nat_le 3 g.count && is_whole_size file (moved at g))))) some_ends_same
-      ∙ ap (λ b. may_be_size g && (some_ends_blank part g && (b || (nat_le 3 g.count && is_whole_size file (moved at g))))) tables_same
-      ∙ ap (λ b. may_be_size g && (some_ends_blank part g && (tables_meet part g || (nat_le 3 g.count && b)))) whole_size_same
+      ∙ ap (λ b. may_be_size g && (b && says_so file (moved at g))) no_halves_same
+      ∙ ap (λ b. may_be_size g && (are_no_halves part g && b)) says_same
 
 pub sure_of_part : SureOfPart
 sure_of_part file at part g holds = sure_same file at part g holds

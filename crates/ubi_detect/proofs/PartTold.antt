@@ -1,7 +1,6 @@
--- What is found for an image in a file is what is found in the image's own bytes.
-use Rattle.ubi_detect.proofs.Prelude.{◌≡◌, ◌≢◌, ℕ, ◌+◌, ◌-◌, ◌≤◌, cond, List, [], ◌∷◌, length, inr, refl, ap, sym, ◌∙◌, arith, All, filter, fold, ◌==◌, ◌&&◌, ◌||◌, map, max, nat_lt, vid_magic, HoldsPart, StandsAlone, ToldOfPart, further, moved, end_of_image, has_vid, has_vote, is_voted, is_without, start_of_image, told, told_by, told_ways, top_vote, votes, ways_with, ways_without, has_no_way, Detected, Group, Way}
+-- What is found for an image in a file has the geometries that are found in the image's own bytes.
+use Rattle.ubi_detect.proofs.Prelude.{◌≡◌, ◌≢◌, ℕ, ◌+◌, ◌-◌, ◌≤◌, cond, List, [], ◌∷◌, length, inr, refl, ap, sym, ◌∙◌, arith, All, filter, fold, ◌==◌, ◌&&◌, ◌||◌, map, max, nat_lt, vid_magic, HoldsPart, ToldOfPart, moved, end_of_image, has_vid, has_vote, is_voted, is_without, start_of_image, told, told_by, told_ways, top_vote, votes, ways_with, ways_without, has_no_way, Detected, Group, Way, placed_in}
 use Rattle.ubi_detect.proofs.PartGroups.{part_of_file}
-use Rattle.ubi_detect.proofs.PartPlaces.{place_of_part}
 use Rattle.ubi_detect.proofs.PartReads.{filter_each, map_each}
 use Rattle.ubi_detect.proofs.PartSure.{count_of_same, number_same, some_same, sure_of_part}
 use Rattle.ubi_detect.proofs.PartWays.{Fits, plain_ways_fit, vid_inside, ways_fit}
@@ -45,31 +44,27 @@ module _ (file : List ℕ) (at : ℕ) (part : List ℕ) (g : Group) (holds : Hol
       ∙ ap (λ ws. cond (is_without part g) (filter (has_vote part g) (ways_without g)) ws)
       (filter_each (Fits g.size) (is_voted file (moved at g)) (is_voted part g) voted_same (ways_with g) (ways_fit g.size g.key.offsets))
 
-  -- each of them is told so many bytes further behind
-  told_further : (s e : ℕ) (ws : List Way) → map (told_by (at + s) (at + e)) ws ≡ map (further at) (map (told_by s e) ws)
-  told_further s e [] = refl
-  told_further s e (w ∷ ws) =
-      let long : at + e - (at + s) ≡ e - s = omega arith in
-      ap (λ n. record { geometry = w.geometry; oob = w.oob; start = at + s; length = n } ∷ map (told_by (at + s) (at + e)) ws) long
-      ∙ ap (λ ds. record { geometry = w.geometry; oob = w.oob; start = at + s; length = e - s } ∷ ds) (told_further s e ws)
+  -- each of them is told for the place that it has in the file
+  told_placed : (s e : ℕ) (ws : List Way)
+      → map (told_by (start_of_image (moved at g)) (end_of_image file (moved at g))) ws
+      ≡ map (placed_in file (moved at g)) (map (told_by s e) ws)
+  told_placed s e [] = refl
+  told_placed s e (w ∷ ws) =
+      ap (λ ds. placed_in file (moved at g) (told_by s e w) ∷ ds) (told_placed s e ws)
 
-  told_same : StandsAlone file at part g → told file (moved at g) ≡ map (further at) (told part g)
-  told_same alone =
-      let place = place_of_part file at part g holds alone in
-      let s = start_of_image part g in
-      let e = end_of_image part g in
-      ap (λ n. map (told_by n (end_of_image file (moved at g))) (told_ways file (moved at g))) place.0
-      ∙ ap (λ n. map (told_by (at + s) n) (told_ways file (moved at g))) place.1
-      ∙ ap (map (told_by (at + s) (at + e))) ways_same ∙ told_further s e (told_ways part g)
+  told_same : told file (moved at g) ≡ map (placed_in file (moved at g)) (told part g)
+  told_same =
+      ap (map (told_by (start_of_image (moved at g)) (end_of_image file (moved at g)))) ways_same
+      ∙ told_placed (start_of_image g) (end_of_image part g) (told_ways part g)
 
-no_map : (at : ℕ) (ds : List Detected) → ds ≢ [] → map (further at) ds ≢ []
-no_map at [] some none = some refl
-no_map at (d ∷ ds) some none = let n = ap length none in omega (arith, n)
+no_map : (file : List ℕ) (g : Group) (ds : List Detected) → ds ≢ [] → map (placed_in file g) ds ≢ []
+no_map file g [] some none = some refl
+no_map file g (d ∷ ds) some none = let n = ap length none in omega (arith, n)
 
 pub told_of_part : ToldOfPart
-told_of_part file at part g holds foremost alone sure some = record {
+told_of_part file at part g holds foremost sure some = record {
   group = moved at g;
   is = inr (part_of_file file at part g holds foremost, sure_of_part file at part g holds ∙ sure);
-  are = sym (told_same file at part g holds alone);
-  some = no_map at (told part g) some;
+  are = sym (told_same file at part g holds);
+  some = no_map file (moved at g) (told part g) some;
 }

@@ -1,5 +1,5 @@
 -- Laws of what is detected.
-use Rattle.std.specs.Prelude.{◌≡◌, ℕ, ◌+◌, ◌-◌, ◌≤◌, ◌⊎◌, Contains, IsFalse, IsTrue, List, None}
+use Rattle.std.specs.Prelude.{◌≡◌, ℕ, ◌+◌, ◌-◌, ◌<◌, ◌≤◌, ◌⊎◌, Contains, IsFalse, IsTrue, List, None, length}
 use Rattle.std.specs.Int.{◌∣◌}
 use Rattle.ubi_media.specs.Limits.{first_broken}
 use Rattle.ubi_detect.specs.Detected.{AreDetected, IsFound, IsUndetected}
@@ -48,20 +48,22 @@ GeometryOfImage = (bytes : List ℕ) (g : Group) (page : ℕ) → IsFound bytes 
     → let s = layout_sizes g.size g.key.offsets page in let w : Way = record { geometry = s; oob = 0 } in
     first_broken s ≡ None → data_place page g.key.offsets.vid_offset ≡ g.key.offsets.data_offset
     → IsTrue (is_without bytes g) → IsTrue (has_vote bytes g w)
-    → AreDetected bytes (told bytes g) × Contains (told bytes g) (told_by (start_of_image bytes g) (end_of_image bytes g) w)
+    → AreDetected bytes (told bytes g) × Contains (told bytes g) (told_by (start_of_image g) (end_of_image bytes g) w)
 
 -- so is a page with out-of-band bytes, if they don't: as many volume-identifier headers stand where it has them as for any other
 abbrev pub OutOfBandOfImage : Type 0
 OutOfBandOfImage = (bytes : List ℕ) (g : Group) (w : Way) → IsFound bytes g → Contains (ways_with g) w → IsFalse (is_without bytes g)
     → IsTrue (is_voted bytes g w)
-    → AreDetected bytes (told bytes g) × Contains (told bytes g) (told_by (start_of_image bytes g) (end_of_image bytes g) w)
+    → AreDetected bytes (told bytes g) × Contains (told bytes g) (told_by (start_of_image g) (end_of_image bytes g) w)
 
--- the place of an image begins at its first header or whole eraseblocks before it, and ends with the eraseblock of the last
--- one or whole eraseblocks after it
+-- the place of an image is all whole eraseblocks of the file on the grid of its headers: less than one eraseblock lies before it, and
+-- less than one behind it; if the eraseblock of the last header is all there, it lies in the place
 abbrev pub PlaceOnGrid : Type 0
-PlaceOnGrid = (bytes : List ℕ) (g : Group) → 1 ≤ g.size
-    → (start_of_image bytes g ≤ g.first) × (g.size ∣ (g.first - start_of_image bytes g))
+PlaceOnGrid = (bytes : List ℕ) (g : Group) → 1 ≤ g.size → g.first ≤ g.last → end_of_last g ≤ length bytes
+    → g.size ∣ (g.last - g.first)
+    → (start_of_image g < g.size) × (start_of_image g ≤ g.first) × (g.size ∣ (g.first - start_of_image g))
     × (end_of_last g ≤ end_of_image bytes g) × (g.size ∣ (end_of_image bytes g - end_of_last g))
+    × (end_of_image bytes g ≤ length bytes) × (length bytes < end_of_image bytes g + g.size)
 
 -- what is found in a file is one list
 abbrev pub OneDetection : Type 0

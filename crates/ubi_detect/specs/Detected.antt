@@ -1,10 +1,11 @@
 -- What is detected about the geometry of a file, or why nothing is.
-use Rattle.std.specs.Prelude.{◌≡◌, ◌≢◌, ℕ, ◌-◌, ◌<◌, ◌≤◌, ◌⊎◌, IsFalse, IsTrue, List, [], Result, Err, length}
+use Rattle.std.specs.Prelude.{IfErr, ◌≡◌, ◌≢◌, ℕ, ◌-◌, ◌<◌, ◌≤◌, ◌⊎◌, IsFalse, IsTrue, List, [], Result, Err, length}
 use Rattle.ubi_detect.specs.Groups.{IsImage}
 use Rattle.ubi_detect.specs.Heads.{heads_of, key_count, most_keys}
 use Rattle.ubi_detect.specs.Place.{end_of_last, has_no_page, told}
 use Rattle.ubi_detect.specs.Plain.{IsSurelyPlain}
-use Rattle.ubi_scan.specs.Source.{Agreed, Source, WhereHeld, failed}
+use Rattle.ubi_scan.specs.Source.{Agreed, Narrows, Source, WhereHeld, failed}
+use Rattle.ubi_scan.specs.declared.source.BlockSource.{Ghosts}
 use Rattle.ubi_detect.specs.Sure.{is_sure}
 use Rattle.ubi_detect.specs.declared.detect.DetectError.{DetectError}
 use Rattle.ubi_detect.specs.declared.detect.DetectError.TheVariants as error
@@ -65,6 +66,13 @@ after_detecting k _ = k
 abbrev pub NamesPlace : ℕ → DetectError → Type 0
 NamesPlace at (error.Read place) = place ≡ at
 NamesPlace at _ = Unit {0}
+
+-- what a call does to a source: one more read has failed if the answer is Read, and none otherwise; what the source may hold, it could
+-- hold before; and Read names the place where the failed read began
+pub record Looks {S A : Type 0} (g : Ghosts S) (old new : S) (result : Result A DetectError) : Type 0 where
+  pub known : g.known new ≡ after_detecting (g.known old) result
+  pub narrows : Narrows (g.agrees old) (g.agrees new)
+  pub named : IfErr result (NamesPlace (g.failed_at new))
 
 -- what is found in a source: it is right for whatever the source may hold
 abbrev pub AreDetectedOf : Agreed → List Detected → Type 0

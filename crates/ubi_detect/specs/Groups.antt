@@ -1,8 +1,8 @@
 -- What a group of headers says about the size of eraseblocks, and which group is that of the image.
-use Rattle.std.specs.Prelude.{◌≡◌, ℕ, ◌-◌, ◌*◌, ◌<◌, ◌≤◌, ◌⊎◌, IsTrue, List, length, slice_index_or}
+use Rattle.std.specs.Prelude.{◌≡◌, ℕ, ◌-◌, ◌*◌, ◌<◌, ◌≤◌, ◌⊎◌, ◌==◌, ◌&&◌, ◌||◌, Bool, IsTrue, List, length, map, nat_le, not, slice_index_or}
 use Rattle.std.specs.Int.{◌∣◌}
-use Rattle.std.specs.List.{All}
-use Rattle.ubi_detect.specs.Heads.{first_place, keys_of, last_place, places, speaks}
+use Rattle.std.specs.List.{All, list_all}
+use Rattle.ubi_detect.specs.Heads.{first_place, keys_of, last_place, places, same_offsets, speaks}
 use Rattle.ubi_detect.specs.declared.groups.Group.{Group}
 use Rattle.ubi_detect.specs.declared.heads.Head.{Head}
 use Rattle.ubi_detect.specs.declared.heads.Key.{Key}
@@ -50,3 +50,20 @@ spoken g = (g.count - 1) * g.size
 pub record IsImage (heads : List Head) (j : ℕ) (g : Group) : Type 0 where
   pub says : Says heads j g
   pub most : (i : ℕ) (f : Group) → Says heads i f → (spoken f < spoken g) ⊎ ((spoken f ≡ spoken g) × (j ≤ i))
+
+-- these are the groups of headers, in the order of their keys
+pub record AreGroups (heads : List Head) (gs : List Group) : Type 0 where
+  pub keys : map (λ g. g.key) gs ≡ keys_of heads
+  pub each : All (IsGroup heads) gs
+
+-- whether no key with the offsets of a key has a number
+abbrev pub are_unnumbered : List Group → Key → Bool
+are_unnumbered gs k = list_all (λ g. not (same_offsets k g.key) || (g.key.image_seq == 0)) gs
+
+-- whether a key speaks for an image among groups
+abbrev pub speaks_among : List Group → Key → Bool
+speaks_among gs k = not (k.image_seq == 0) || are_unnumbered gs k
+
+-- whether one of groups says a size
+abbrev pub says_size : List Group → Group → Bool
+says_size gs g = nat_le 2 g.count && nat_le 1 g.size && nat_le g.size greatest_size && speaks_among gs g.key

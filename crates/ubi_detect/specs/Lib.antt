@@ -3,6 +3,7 @@ pub mod DetectLaws
 pub mod ErrorTexts
 pub mod Groups
 pub mod Heads
+pub mod Images
 pub mod Layout
 pub mod PartLaws
 pub mod Place

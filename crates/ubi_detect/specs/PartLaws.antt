@@ -4,7 +4,7 @@ use Rattle.ubi_detect.specs.Detected.{AreDetected, IsWholeGroup, NonePlain}
 use Rattle.ubi_detect.specs.Groups.{Says, spoken}
 use Rattle.ubi_detect.specs.Heads.{heads_of, is_of, key_at, key_count, most_keys, step}
 use Rattle.ubi_detect.specs.Place.{end_of_image, end_of_last, start_of_image, told}
-use Rattle.ubi_detect.specs.Sure.{is_blank_at, is_sure}
+use Rattle.ubi_detect.specs.Sure.{is_sure}
 use Rattle.ubi_detect.specs.declared.detect.Detected.{Detected}
 use Rattle.ubi_detect.specs.declared.groups.Group.{Group}
 use Rattle.ubi_detect.specs.declared.heads.Key.{Key}
@@ -35,20 +35,13 @@ pub record IsForemost (file : List ℕ) (at : ℕ) (part : List ℕ) (g : Group)
   pub plain : NonePlain file
   pub few : key_count file ≤ most_keys
 
--- no blank eraseblock lies right before the image, and none right after it, unless these bytes have all of it
-pub record StandsAlone (file : List ℕ) (at : ℕ) (part : List ℕ) (g : Group) : Type 0 where
-  pub before : start_of_image part g < g.size → g.size ≤ at + start_of_image part g
-      → IsFalse (is_blank_at file (at + start_of_image part g - g.size))
-  pub behind : length part < end_of_image part g + g.size → at + end_of_image part g + g.size ≤ length file
-      → IsFalse (is_blank_at file (at + end_of_image part g))
-
 -- the group of the same headers, this many bytes further on
 abbrev pub moved : ℕ → Group → Group
 moved at g = record g { first = at + g.first; last = at + g.last }
 
--- the same geometry, and an image this many bytes further on
-abbrev pub further : ℕ → Detected → Detected
-further at d = record d { start = at + d.start }
+-- the same geometry, for an image that is all whole eraseblocks of a file on the grid of a group
+abbrev pub placed_in : List ℕ → Group → Detected → Detected
+placed_in file g d = record d { start = start_of_image g; length = end_of_image file g - start_of_image g }
 
 -- the group is that of the file's image
 abbrev pub PartOfFile : Type 0
@@ -60,12 +53,7 @@ abbrev pub SureOfPart : Type 0
 SureOfPart = (file : List ℕ) (at : ℕ) (part : List ℕ) (g : Group) → HoldsPart file at part g
     → is_sure file (moved at g) ≡ is_sure part g
 
--- the image begins where it does in its own bytes, and ends where it does in them
-abbrev pub PlaceOfPart : Type 0
-PlaceOfPart = (file : List ℕ) (at : ℕ) (part : List ℕ) (g : Group) → HoldsPart file at part g → StandsAlone file at part g
-    → (start_of_image file (moved at g) ≡ at + start_of_image part g) × (end_of_image file (moved at g) ≡ at + end_of_image part g)
-
--- what is found in the file is what is found in the image's own bytes
+-- what is found in the file has the geometries that are found in the image's own bytes
 abbrev pub ToldOfPart : Type 0
 ToldOfPart = (file : List ℕ) (at : ℕ) (part : List ℕ) (g : Group) → HoldsPart file at part g → IsForemost file at part g
-    → StandsAlone file at part g → IsTrue (is_sure part g) → told part g ≢ [] → AreDetected file (map (further at) (told part g))
+    → IsTrue (is_sure part g) → told part g ≢ [] → AreDetected file (map (placed_in file (moved at g)) (told part g))

@@ -1,5 +1,5 @@
 -- Whether the size that a group of headers says is sure, by what stands at the places of its eraseblocks.
-use Rattle.std.specs.Prelude.{ℕ, ◌+◌, ◌-◌, ◌*◌, ◌/◌, ◌%◌, ◌==◌, ◌&&◌, ◌||◌, Bool, List, Option, None, Some, false, if◌then◌else◌, length, min, nat_le, nat_lt, not, slice_range}
+use Rattle.std.specs.Prelude.{ℕ, ◌+◌, ◌-◌, ◌*◌, ◌/◌, ◌%◌, ◌==◌, ◌&&◌, ◌||◌, Bool, List, Option, None, Some, count_by, false, if◌then◌else◌, length, min, nat_le, nat_lt, not, slice_range}
 use Rattle.std.specs.List.{list_all, list_any, range_with_len}
 use Rattle.ubi_media.specs.Fields.{field}
 use Rattle.ubi_media.specs.Geometry.{slots}
@@ -50,6 +50,10 @@ is_start bytes g p = nat_le (p + 64) (length bytes) && is_member g.key (key_at b
 abbrev pub some_start : List ℕ → Group → (ℕ → Bool) → Bool
 some_start bytes g test = list_any (λ i. is_start bytes g (block_at g i) && test (block_at g i)) (range_with_len 0 (blocks g))
 
+-- how many of the eraseblocks do, and pass a test
+abbrev pub count_starts : List ℕ → Group → (ℕ → Bool) → ℕ
+count_starts bytes g test = count_by (λ i. is_start bytes g (block_at g i) && test (block_at g i)) (range_with_len 0 (blocks g))
+
 -- whether q bytes have room for data after the headers
 abbrev pub has_room : EcOffsets → ℕ → Bool
 has_room o q = nat_le (o.data_offset + 64) q
@@ -57,6 +61,19 @@ has_room o q = nat_le (o.data_offset + 64) q
 -- whether more than half of the eraseblocks start with a header of the group
 abbrev pub is_dense : Group → Bool
 is_dense g = nat_lt (blocks g) (2 * g.count)
+
+-- whether the eraseblock at a place has an even number, counted from that of the first header
+abbrev pub is_even : Group → ℕ → Bool
+is_even g p = (p - g.first) / g.size % 2 == 0
+
+-- whether the eraseblocks may be halves of the true ones, if so many of those with even numbers start with a header: fewer than a
+-- quarter of each second one do, from the first on or from the next
+abbrev pub may_be_halves : Group → ℕ → Bool
+may_be_halves g even = nat_lt (4 * even) ((blocks g + 1) / 2) || nat_lt (4 * (g.count - even)) (blocks g / 2)
+
+-- whether they are no halves: all start with a header, or enough of those with even numbers and of those with odd ones do
+abbrev pub are_no_halves : List ℕ → Group → Bool
+are_no_halves bytes g = (g.count == blocks g) || not (may_be_halves g (count_starts bytes g (is_even g)))
 
 -- whether headers of eraseblocks of half or a quarter of this size would all be seen: they stand at multiples of 64, or no page with
 -- out-of-band bytes fits them
@@ -157,9 +174,13 @@ says_so bytes g = some_ends_blank bytes g && (tables_meet bytes g || (nat_le 3 g
 abbrev pub may_be_size : Group → Bool
 may_be_size g = has_room g.key.offsets g.size && is_dense g && is_seen g
 
--- whether the size of a group is sure: it may be one, and what stands in the eraseblocks says so
+-- whether the eraseblocks bear the size out: they are no halves, and what stands in them says it
+abbrev pub is_borne_out : List ℕ → Group → Bool
+is_borne_out bytes g = are_no_halves bytes g && says_so bytes g
+
+-- whether the size of a group is sure: it may be one, and the eraseblocks bear it out
 abbrev pub is_sure : List ℕ → Group → Bool
-is_sure bytes g = may_be_size g && says_so bytes g
+is_sure bytes g = may_be_size g && is_borne_out bytes g
 
 -- whether a header of the group stands where one of d parts of an eraseblock would begin, if it may have so many
 abbrev pub has_part_start : List ℕ → Group → ℕ → Bool

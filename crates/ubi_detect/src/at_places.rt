@@ -2,9 +2,9 @@
 
 ghost use Rattle.std.specs.List.{list_all};
 ghost use Rattle.std.specs.Prelude.{◌≡◌, ◌+◌, ◌<◌, ◌≤◌, ◌^◌, ◌==◌, IfErr, IfOk, IsTrue, length, nat_le, slice_range};
-ghost use Rattle.ubi_detect.specs.Detected.{NamesPlace, after_detecting};
 ghost use Rattle.ubi_detect.specs.Heads.{key_at};
-ghost use Rattle.ubi_scan.specs.Source.{Narrows, WhereHeld};
+ghost use Rattle.ubi_detect.specs.Detected.{Looks};
+ghost use Rattle.ubi_scan.specs.Source.{WhereHeld};
 ghost use Rattle.ubi_detect.specs.Sure.{all_are, is_start, number_at};
 ghost use Rattle.ubi_detect.specs.inner.Detecting.{IsReadAt};
 
@@ -19,15 +19,17 @@ use ubi_scan::BlockSource;
 /// # Errors
 ///
 /// `Read` if the read failed.
-fn read_there<S: BlockSource>(source: &mut S, at: u64, out: &mut [u8]) -> Result<bool, DetectError>
+pub fn read_there<S: BlockSource>(
+    source: &mut S,
+    at: u64,
+    out: &mut [u8],
+) -> Result<bool, DetectError>
     requires size { (S.known source.old).size < 2 ^ 63 }
     requires some { 1 ≤ length out.old }
-    ensures known { S.known source.new ≡ after_detecting (S.known source.old) result }
-    ensures narrows { Narrows (S.agrees source.old) (S.agrees source.new) }
+    ensures source { Looks S.BlockSource source.old source.new result }
     ensures there { IfOk result (λ there. WhereHeld (S.agrees source.new) (λ bytes. there ≡ nat_le (at + length out.old) (length bytes))) }
     ensures bytes { IfOk result (λ there. IsTrue there → WhereHeld (S.agrees source.new) (λ bytes. out.new ≡ slice_range bytes at (at + length out.old))) }
     ensures failed { IfErr result (IsReadAt (S.known source.old).size) }
-    ensures named { IfErr result (NamesPlace (S.failed_at source.new)) }
 {
     if at.saturating_add(out.len() as u64) > source.len() {
         return Ok(false);
@@ -59,11 +61,9 @@ pub fn all_are<S: BlockSource>(
     requires size { (S.known source.old).size < 2 ^ 63 }
     requires some { 1 ≤ count }
     requires few { count ≤ 192 }
-    ensures known { S.known source.new ≡ after_detecting (S.known source.old) result }
-    ensures narrows { Narrows (S.agrees source.old) (S.agrees source.new) }
+    ensures source { Looks S.BlockSource source.old source.new result }
     ensures are { IfOk result (λ are. WhereHeld (S.agrees source.new) (λ bytes. are ≡ all_are byte count bytes at)) }
     ensures failed { IfErr result (IsReadAt (S.known source.old).size) }
-    ensures named { IfErr result (NamesPlace (S.failed_at source.new)) }
 {
     let mut bytes = [0u8; 192];
     let out = &mut bytes[..count];
@@ -81,11 +81,9 @@ pub fn all_are<S: BlockSource>(
 /// `Read` if the read failed.
 pub fn number_at<S: BlockSource>(source: &mut S, at: u64) -> Result<u32, DetectError>
     requires { (S.known source.old).size < 2 ^ 63 }
-    ensures known { S.known source.new ≡ after_detecting (S.known source.old) result }
-    ensures narrows { Narrows (S.agrees source.old) (S.agrees source.new) }
+    ensures source { Looks S.BlockSource source.old source.new result }
     ensures is { IfOk result (λ number. WhereHeld (S.agrees source.new) (λ bytes. number ≡ number_at bytes at)) }
     ensures failed { IfErr result (IsReadAt (S.known source.old).size) }
-    ensures named { IfErr result (NamesPlace (S.failed_at source.new)) }
 {
     let mut bytes = [0u8; 4];
     if read_there(source, at, &mut bytes)? {
@@ -102,11 +100,9 @@ pub fn number_at<S: BlockSource>(source: &mut S, at: u64) -> Result<u32, DetectE
 /// `Read` if the read failed.
 pub fn key_at<S: BlockSource>(source: &mut S, at: u64) -> Result<Option<Key>, DetectError>
     requires { at + 64 ≤ (S.known source.old).size }
-    ensures known { S.known source.new ≡ after_detecting (S.known source.old) result }
-    ensures narrows { Narrows (S.agrees source.old) (S.agrees source.new) }
+    ensures source { Looks S.BlockSource source.old source.new result }
     ensures key { IfOk result (λ key. WhereHeld (S.agrees source.new) (λ bytes. key ≡ key_at bytes at)) }
     ensures failed { IfErr result (IsReadAt (S.known source.old).size) }
-    ensures named { IfErr result (NamesPlace (S.failed_at source.new)) }
 {
     let mut bytes = [0u8; 64];
     match source.read(at, &mut bytes) {
@@ -122,11 +118,9 @@ pub fn key_at<S: BlockSource>(source: &mut S, at: u64) -> Result<Option<Key>, De
 /// `Read` if the read failed.
 pub fn is_start<S: BlockSource>(source: &mut S, group: &Group, at: u64) -> Result<bool, DetectError>
     requires { (S.known source.old).size < 2 ^ 63 }
-    ensures known { S.known source.new ≡ after_detecting (S.known source.old) result }
-    ensures narrows { Narrows (S.agrees source.old) (S.agrees source.new) }
+    ensures source { Looks S.BlockSource source.old source.new result }
     ensures is { IfOk result (λ is. WhereHeld (S.agrees source.new) (λ bytes. is ≡ is_start bytes group.now at)) }
     ensures failed { IfErr result (IsReadAt (S.known source.old).size) }
-    ensures named { IfErr result (NamesPlace (S.failed_at source.new)) }
 {
     let mut bytes = [0u8; 64];
     if !read_there(source, at, &mut bytes)? {

@@ -1,10 +1,9 @@
 //! Tests of the eraseblocks that start with a header of a group.
 
 ghost use Rattle.std.specs.Prelude.{◌≡◌, ℕ, ◌+◌, ◌<◌, ◌≤◌, ◌^◌, ◌&&◌, Bool, IfErr, IfOk, List, if◌then◌else◌};
-ghost use Rattle.ubi_detect.specs.Detected.{NamesPlace, after_detecting};
-ghost use Rattle.ubi_detect.specs.Place.{count_starts};
-ghost use Rattle.ubi_scan.specs.Source.{Narrows, WhereHeld};
-ghost use Rattle.ubi_detect.specs.Sure.{block_at, blocks, is_start, some_start};
+ghost use Rattle.ubi_detect.specs.Detected.{Looks};
+ghost use Rattle.ubi_scan.specs.Source.{WhereHeld};
+ghost use Rattle.ubi_detect.specs.Sure.{block_at, blocks, count_starts, is_start, some_start};
 ghost use Rattle.ubi_detect.specs.inner.Detecting.{IsReadAt, LiesIn};
 
 use crate::at_places::is_start;
@@ -28,11 +27,9 @@ pub trait BlockTest {
     fn holds<S: BlockSource>(&self, source: &mut S, at: u64) -> Result<bool, DetectError>
         requires size { (S.known source.old).size < 2 ^ 63 }
         requires inside { at + reach self.now < 2 ^ 63 + 2 ^ 33 }
-        ensures known { S.known source.new ≡ after_detecting (S.known source.old) result }
-        ensures narrows { Narrows (S.agrees source.old) (S.agrees source.new) }
+        ensures source { Looks S.BlockSource source.old source.new result }
         ensures answer { IfOk result (λ answer. WhereHeld (S.agrees source.new) (λ bytes. answer ≡ holds self.now bytes at)) }
-        ensures failed { IfErr result (IsReadAt (S.known source.old).size) }
-        ensures named { IfErr result (NamesPlace (S.failed_at source.new)) };
+        ensures failed { IfErr result (IsReadAt (S.known source.old).size) };
 }
 
 impl Group {
@@ -72,11 +69,9 @@ fn start_holds<S: BlockSource, T: BlockTest>(
 ) -> Result<bool, DetectError>
     requires size { (S.known source.old).size < 2 ^ 63 }
     requires inside { at + T.reach test.now < 2 ^ 63 + 2 ^ 33 }
-    ensures known { S.known source.new ≡ after_detecting (S.known source.old) result }
-    ensures narrows { Narrows (S.agrees source.old) (S.agrees source.new) }
+    ensures source { Looks S.BlockSource source.old source.new result }
     ensures answer { IfOk result (λ answer. WhereHeld (S.agrees source.new) (λ bytes. answer ≡ is_start bytes group.now at && T.holds test.now bytes at)) }
     ensures failed { IfErr result (IsReadAt (S.known source.old).size) }
-    ensures named { IfErr result (NamesPlace (S.failed_at source.new)) }
 {
     // Most tests fail: then the header isn't read.
     if test.holds(source, at)? {
@@ -99,11 +94,9 @@ pub fn some_start<S: BlockSource, T: BlockTest>(
     requires size { (S.known source.old).size < 2 ^ 63 }
     requires lies { LiesIn (S.known source.old).size group.now }
     requires reach { T.reach test.now < 2 ^ 32 }
-    ensures known { S.known source.new ≡ after_detecting (S.known source.old) result }
-    ensures narrows { Narrows (S.agrees source.old) (S.agrees source.new) }
+    ensures source { Looks S.BlockSource source.old source.new result }
     ensures some { IfOk result (λ some. WhereHeld (S.agrees source.new) (λ bytes. some ≡ some_start bytes group.now (T.holds test.now bytes))) }
     ensures failed { IfErr result (IsReadAt (S.known source.old).size) }
-    ensures named { IfErr result (NamesPlace (S.failed_at source.new)) }
 {
     for i in 0..group.blocks() {
         if start_holds(source, group, test, group.block_at(i))? {
@@ -134,11 +127,9 @@ pub fn count_starts<S: BlockSource, T: BlockTest>(
     requires size { (S.known source.old).size < 2 ^ 63 }
     requires lies { LiesIn (S.known source.old).size group.now }
     requires reach { T.reach test.now < 2 ^ 32 }
-    ensures known { S.known source.new ≡ after_detecting (S.known source.old) result }
-    ensures narrows { Narrows (S.agrees source.old) (S.agrees source.new) }
+    ensures source { Looks S.BlockSource source.old source.new result }
     ensures count { IfOk result (λ count. WhereHeld (S.agrees source.new) (λ bytes. count ≡ count_starts bytes group.now (T.holds test.now bytes))) }
     ensures failed { IfErr result (IsReadAt (S.known source.old).size) }
-    ensures named { IfErr result (NamesPlace (S.failed_at source.new)) }
 {
     let mut count = 0;
     for i in 0..group.blocks() {

@@ -6,8 +6,8 @@ ghost use Rattle.std.specs.Prelude.{◌≡◌, ◌+◌, ◌*◌, ◌<◌, ◌≤
 ghost use Rattle.ubi_detect.specs.Groups.{IsImage};
 ghost use Rattle.ubi_detect.specs.Heads.{step};
 ghost use Rattle.ubi_detect.specs.declared.heads.Head.{Head};
-ghost use Rattle.ubi_detect.specs.Groups.{IsGroup, greatest_size, spoken};
-ghost use Rattle.ubi_detect.specs.inner.Detecting.{AreAdded, AreGroups, AreReady, IsAdded, IsWithin, are_unnumbered, speaks_for_more, first_with, group_with, has_key, says_size, speaks_among};
+ghost use Rattle.ubi_detect.specs.Groups.{AreGroups, are_unnumbered, IsGroup, greatest_size, says_size, speaks_among, spoken};
+ghost use Rattle.ubi_detect.specs.inner.Detecting.{AreAdded, AreReady, IsAdded, IsWithin, first_with, group_with, has_key, speaks_for_more};
 
 use crate::heads::{Head, Key};
 use std::alloc::AllocError;
@@ -177,7 +177,7 @@ fn speaks(groups: &[Group], key: &Key) -> bool
 }
 
 /// Whether a group says a size: it speaks, has two headers or more, and the size is one that an eraseblock may have.
-fn says_size(groups: &[Group], group: &Group) -> bool
+pub fn says_size(groups: &[Group], group: &Group) -> bool
     ensures { result ≡ says_size groups.now group.now }
 {
     group.count >= 2 && group.size >= 1 && group.size <= GREATEST_SIZE && speaks(groups, &group.key)

@@ -1,7 +1,7 @@
 //! Laws of the definitions that the contracts cite, each as the contract of a function that does nothing.
 
 ghost use Rattle.ubi_detect.specs.DetectLaws.{DetectedOrNot, DetectedOrRefused, EachOnGrid, GeometryOfImage, GreatestSize, OneDetection, OneFound, OneImage, OneUndetected, OutOfBandOfImage, PlaceOnGrid, SizeOfImage, TwoHeaders};
-ghost use Rattle.ubi_detect.specs.PartLaws.{PartOfFile, PlaceOfPart, SureOfPart, ToldOfPart};
+ghost use Rattle.ubi_detect.specs.PartLaws.{PartOfFile, SureOfPart, ToldOfPart};
 
 /// The headers of a file say at most one image, and a file holds at most one.
 pub fn one_image()
@@ -22,7 +22,7 @@ pub fn one_detection()
 {}
 
 /// The headers of an image stand at multiples of its size from the first one, up to the last one, and no greater size has that. The
-/// place that is found for it begins and ends at such multiples.
+/// place that is found for it is all whole eraseblocks of the file at such multiples, before the first header and behind the last too.
 pub fn image_on_grid()
     ensures each { EachOnGrid }
     ensures greatest { GreatestSize }
@@ -41,11 +41,10 @@ pub fn detected_or_refused()
     ensures { DetectedOrRefused }
 {}
 
-/// If an image lies in a file, with anything before and after it, what is found in the file is what is found in the image's own bytes,
-/// that much further on, unless something else in the file takes its place. So are its group, whether its size is sure, and its place.
+/// If an image lies in a file, with anything before and after it, the file shows the geometries that the image's own bytes show, unless
+/// something else in the file takes its place. So it does its group, and whether its size is sure.
 pub fn part_of_file()
     ensures image { PartOfFile }
     ensures sure { SureOfPart }
-    ensures place { PlaceOfPart }
     ensures told { ToldOfPart }
 {}

@@ -1,14 +1,14 @@
 //! Where an image lies in a source, and the geometries that its headers give.
 
 ghost use Rattle.std.specs.List.{filter, fold};
-ghost use Rattle.std.specs.Prelude.{◌≡◌, ℕ, ◌+◌, ◌-◌, ◌/◌, ◌<◌, ◌≤◌, ◌^◌, ◌==◌, ◌&&◌, IfErr, IfOk, length, map, max, nat_lt, vec_len};
-ghost use Rattle.ubi_detect.specs.Detected.{NamesPlace, after_detecting};
-ghost use Rattle.ubi_detect.specs.Place.{blanks_before, blanks_behind, end_of_image, end_of_last, has_vote, start_of_image, told, told_by, told_ways, votes, ways_without, has_vid};
-ghost use Rattle.ubi_scan.specs.Source.{Narrows, WhereHeld};
+ghost use Rattle.std.specs.Prelude.{◌≡◌, ℕ, ◌+◌, ◌-◌, ◌<◌, ◌≤◌, ◌^◌, ◌==◌, ◌&&◌, IfErr, IfOk, length, map, max, nat_lt, vec_len};
+ghost use Rattle.ubi_detect.specs.Place.{end_of_image, end_of_last, has_vid, has_vote, start_of_image, told, told_by, told_ways, votes, ways_without};
+ghost use Rattle.ubi_detect.specs.Detected.{Looks};
+ghost use Rattle.ubi_scan.specs.Source.{WhereHeld};
 ghost use Rattle.ubi_detect.specs.declared.way.Way.{Way};
 ghost use Rattle.ubi_detect.specs.inner.Detecting.{AreWays, IsReadAt, IsReadError, LiesIn, is_most_voted};
 
-use crate::at_places::{all_are, number_at};
+use crate::at_places::number_at;
 use crate::block_tests::{BlockTest, count_starts, some_start};
 use crate::detect::{DetectError, Detected};
 use crate::groups::Group;
@@ -35,56 +35,6 @@ impl BlockTest for HasVid<'_> {
     }
 }
 
-/// How many eraseblocks right before the first header of a group are blank.
-///
-/// # Errors
-///
-/// `Read` if a read failed.
-fn blanks_before<S: BlockSource>(source: &mut S, group: &Group) -> Result<u64, DetectError>
-    requires size { (S.known source.old).size < 2 ^ 63 }
-    requires lies { LiesIn (S.known source.old).size group.now }
-    ensures known { S.known source.new ≡ after_detecting (S.known source.old) result }
-    ensures narrows { Narrows (S.agrees source.old) (S.agrees source.new) }
-    ensures blanks { IfOk result (λ blanks. WhereHeld (S.agrees source.new) (λ bytes. blanks ≡ blanks_before bytes group.now)) }
-    ensures few { IfOk result (λ blanks. blanks ≤ group.now.first / group.now.size) }
-    ensures failed { IfErr result (IsReadAt (S.known source.old).size) }
-    ensures named { IfErr result (NamesPlace (S.failed_at source.new)) }
-{
-    let most = group.first / group.size;
-    for j in 0..most {
-        if !all_are(source, 0xFF, 64, group.first - (j + 1) * group.size)? {
-            return Ok(j);
-        }
-    }
-    Ok(most)
-}
-
-/// How many eraseblocks right after that of the last header of a group are blank.
-///
-/// # Errors
-///
-/// `Read` if a read failed.
-fn blanks_behind<S: BlockSource>(source: &mut S, group: &Group) -> Result<u64, DetectError>
-    requires size { (S.known source.old).size < 2 ^ 63 }
-    requires lies { LiesIn (S.known source.old).size group.now }
-    requires whole { end_of_last group.now ≤ (S.known source.old).size }
-    ensures known { S.known source.new ≡ after_detecting (S.known source.old) result }
-    ensures narrows { Narrows (S.agrees source.old) (S.agrees source.new) }
-    ensures blanks { IfOk result (λ blanks. WhereHeld (S.agrees source.new) (λ bytes. blanks ≡ blanks_behind bytes group.now)) }
-    ensures few { IfOk result (λ blanks. blanks ≤ ((S.known source.old).size - end_of_last group.now) / group.now.size) }
-    ensures failed { IfErr result (IsReadAt (S.known source.old).size) }
-    ensures named { IfErr result (NamesPlace (S.failed_at source.new)) }
-{
-    let end = group.last + group.size;
-    let most = (source.len() - end) / group.size;
-    for j in 0..most {
-        if !all_are(source, 0xFF, 64, end + j * group.size)? {
-            return Ok(j);
-        }
-    }
-    Ok(most)
-}
-
 /// How many votes each of some ways has.
 ///
 /// # Errors
@@ -98,12 +48,10 @@ fn votes_of<S: BlockSource>(
 ) -> Result<Vec<u64>, DetectError>
     requires size { (S.known source.old).size < 2 ^ 63 }
     requires lies { LiesIn (S.known source.old).size group.now }
-    ensures known { S.known source.new ≡ after_detecting (S.known source.old) result }
-    ensures narrows { Narrows (S.agrees source.old) (S.agrees source.new) }
+    ensures source { Looks S.BlockSource source.old source.new result }
     ensures many { IfOk result (λ counts. vec_len counts ≡ length ways.now) }
     ensures votes { IfOk result (λ counts. WhereHeld (S.agrees source.new) (λ bytes. counts.items ≡ map (votes bytes group.now) ways.now)) }
     ensures failed { IfErr result (IsReadError (S.known source.old).size) }
-    ensures named { IfErr result (NamesPlace (S.failed_at source.new)) }
 {
     let mut counts = Vec::new(alloc);
     for way in ways {
@@ -164,11 +112,9 @@ fn voted<S: BlockSource>(
 ) -> Result<Vec<Way>, DetectError>
     requires size { (S.known source.old).size < 2 ^ 63 }
     requires lies { LiesIn (S.known source.old).size group.now }
-    ensures known { S.known source.new ≡ after_detecting (S.known source.old) result }
-    ensures narrows { Narrows (S.agrees source.old) (S.agrees source.new) }
+    ensures source { Looks S.BlockSource source.old source.new result }
     ensures voted { IfOk result (λ voted. WhereHeld (S.agrees source.new) (λ bytes. voted.items ≡ filter (has_vote bytes group.now) ways.now)) }
     ensures failed { IfErr result (IsReadError (S.known source.old).size) }
-    ensures named { IfErr result (NamesPlace (S.failed_at source.new)) }
 {
     let mut voted = Vec::new(alloc);
     for way in ways {
@@ -193,11 +139,9 @@ fn told_ways<S: BlockSource>(
     requires size { (S.known source.old).size < 2 ^ 63 }
     requires lies { LiesIn (S.known source.old).size group.now }
     requires ways { AreWays group.now ways.now }
-    ensures known { S.known source.new ≡ after_detecting (S.known source.old) result }
-    ensures narrows { Narrows (S.agrees source.old) (S.agrees source.new) }
+    ensures source { Looks S.BlockSource source.old source.new result }
     ensures told { IfOk result (λ told. WhereHeld (S.agrees source.new) (λ bytes. told.items ≡ told_ways bytes group.now)) }
     ensures failed { IfErr result (IsReadError (S.known source.old).size) }
-    ensures named { IfErr result (NamesPlace (S.failed_at source.new)) }
 {
     if ways.with.is_empty() {
         return voted(alloc, source, group, ways.without.as_slice());
@@ -231,7 +175,7 @@ fn placed(alloc: Global, ways: &[Way], start: u64, end: u64) -> Result<Vec<Detec
     Ok(found)
 }
 
-/// What is found for the image of a group.
+/// What is found for the image of a group: all whole eraseblocks of the source on the grid of its headers.
 ///
 /// # Errors
 ///
@@ -246,16 +190,13 @@ pub fn told<S: BlockSource>(
     requires lies { LiesIn (S.known source.old).size group.now }
     requires whole { end_of_last group.now ≤ (S.known source.old).size }
     requires ways { AreWays group.now ways.now }
-    ensures known { S.known source.new ≡ after_detecting (S.known source.old) result }
-    ensures narrows { Narrows (S.agrees source.old) (S.agrees source.new) }
+    ensures source { Looks S.BlockSource source.old source.new result }
     ensures told { IfOk result (λ found. WhereHeld (S.agrees source.new) (λ bytes. found.items ≡ told bytes group.now)) }
     ensures failed { IfErr result (IsReadError (S.known source.old).size) }
-    ensures named { IfErr result (NamesPlace (S.failed_at source.new)) }
 {
-    let before = blanks_before(source, group)?;
-    let behind = blanks_behind(source, group)?;
-    let start = group.first - before * group.size;
-    let end = group.last + group.size + behind * group.size;
+    let start = group.start_of_image();
+    let len = source.len();
+    let end = len - (len - start) % group.size;
     let ways = told_ways(alloc, source, group, ways)?;
     Ok(placed(alloc, ways.as_slice(), start, end)?)
 }

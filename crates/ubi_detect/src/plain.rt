@@ -1,11 +1,11 @@
 //! Sources that are plainly an image, as whole dumps are: their first two eraseblocks are read, and the first 64 bytes of each.
 
 ghost use Rattle.std.specs.Prelude.{◌≡◌, ℕ, ◌*◌, ◌+◌, ◌/◌, ◌%◌, ◌<◌, ◌≤◌, ◌^◌, IfErr, IfOk, IfSome, MatchOption, Some};
-ghost use Rattle.ubi_detect.specs.Detected.{NamesPlace, after_detecting};
 ghost use Rattle.ubi_detect.specs.Heads.{key_at, step};
 ghost use Rattle.ubi_detect.specs.Place.{end_of_last};
 ghost use Rattle.ubi_detect.specs.Plain.{IsPlain};
-ghost use Rattle.ubi_scan.specs.Source.{Narrows, WhereHeld};
+ghost use Rattle.ubi_detect.specs.Detected.{Looks};
+ghost use Rattle.ubi_scan.specs.Source.{WhereHeld};
 ghost use Rattle.ubi_detect.specs.declared.groups.Group.{Group};
 ghost use Rattle.ubi_detect.specs.inner.Detecting.{IsReadAt, LiesIn};
 ghost use Rattle.ubi_detect.specs.inner.Joined.{AreJoined, IsCut, IsFirstHead, IsPlainSize, NoHeads, NoneJoined, NotPlain};
@@ -28,12 +28,10 @@ fn first_head<S: BlockSource>(
 ) -> Result<Option<u64>, DetectError>
     requires size { (S.known source.old).size < 2 ^ 63 }
     requires to { to ≤ (S.known source.old).size / step }
-    ensures known { S.known source.new ≡ after_detecting (S.known source.old) result }
-    ensures narrows { Narrows (S.agrees source.old) (S.agrees source.new) }
+    ensures source { Looks S.BlockSource source.old source.new result }
     ensures inside { IfOk result (λ o. IfSome o (λ u. (from ≤ u) × (u < to))) }
     ensures first { IfOk result (λ o. MatchOption o (WhereHeld (S.agrees source.new) (λ bytes. NoHeads bytes from to)) (λ u. WhereHeld (S.agrees source.new) (λ bytes. IsFirstHead bytes from to u))) }
     ensures failed { IfErr result (IsReadAt (S.known source.old).size) }
-    ensures named { IfErr result (NamesPlace (S.failed_at source.new)) }
 {
     for u in from..to {
         if key_at(source, u * STEP)?.is_some() {
@@ -59,11 +57,9 @@ fn joined_key<S: BlockSource>(
     requires step { step ≤ size }
     requires inside { count * size ≤ (S.known source.old).size }
     requires first { WhereHeld (S.agrees source.old) (λ bytes. key_at bytes 0 ≡ Some first) }
-    ensures known { S.known source.new ≡ after_detecting (S.known source.old) result }
-    ensures narrows { Narrows (S.agrees source.old) (S.agrees source.new) }
+    ensures source { Looks S.BlockSource source.old source.new result }
     ensures joined { IfOk result (λ o. MatchOption o (WhereHeld (S.agrees source.new) (λ bytes. NoneJoined bytes size count)) (λ key. WhereHeld (S.agrees source.new) (λ bytes. AreJoined bytes size count key))) }
     ensures failed { IfErr result (IsReadAt (S.known source.old).size) }
-    ensures named { IfErr result (NamesPlace (S.failed_at source.new)) }
 {
     let mut key = first;
     for i in 1..count {
@@ -86,12 +82,10 @@ fn joined_key<S: BlockSource>(
 fn plain_size<S: BlockSource>(source: &mut S) -> Result<Option<u64>, DetectError>
     requires size { (S.known source.old).size < 2 ^ 63 }
     requires two { 2 * step ≤ (S.known source.old).size }
-    ensures known { S.known source.new ≡ after_detecting (S.known source.old) result }
-    ensures narrows { Narrows (S.agrees source.old) (S.agrees source.new) }
+    ensures source { Looks S.BlockSource source.old source.new result }
     ensures plain { IfOk result (λ o. MatchOption o (WhereHeld (S.agrees source.new) NotPlain) (λ q. WhereHeld (S.agrees source.new) (λ bytes. IsPlainSize bytes q))) }
     ensures size { IfOk result (λ o. IfSome o (IsCut (S.known source.old).size)) }
     ensures failed { IfErr result (IsReadAt (S.known source.old).size) }
-    ensures named { IfErr result (NamesPlace (S.failed_at source.new)) }
 {
     let len = source.len();
     let most = (len / 2).min(GREATEST_SIZE) / STEP + 1;
@@ -114,13 +108,11 @@ fn plain_size<S: BlockSource>(source: &mut S) -> Result<Option<u64>, DetectError
 /// `Read` if a read failed.
 pub fn read_plain<S: BlockSource>(source: &mut S) -> Result<Option<Group>, DetectError>
     requires { (S.known source.old).size < 2 ^ 63 }
-    ensures known { S.known source.new ≡ after_detecting (S.known source.old) result }
-    ensures narrows { Narrows (S.agrees source.old) (S.agrees source.new) }
+    ensures source { Looks S.BlockSource source.old source.new result }
     ensures plain { IfOk result (λ o. MatchOption o (WhereHeld (S.agrees source.new) NotPlain) (λ g. WhereHeld (S.agrees source.new) (λ bytes. IsPlain bytes g))) }
     ensures lies { IfOk result (λ o. IfSome o (LiesIn (S.known source.old).size)) }
     ensures whole { IfOk result (λ o. IfSome o (λ g. end_of_last g ≤ (S.known source.old).size)) }
     ensures failed { IfErr result (IsReadAt (S.known source.old).size) }
-    ensures named { IfErr result (NamesPlace (S.failed_at source.new)) }
 {
     let len = source.len();
     if len < 2 * STEP {

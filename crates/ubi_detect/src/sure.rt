@@ -1,15 +1,15 @@
 //! Whether the size that a group of headers says is sure, by what stands at the places of its eraseblocks.
 
-ghost use Rattle.std.specs.Prelude.{◌≡◌, ℕ, ◌+◌, ◌/◌, ◌<◌, ◌≤◌, ◌^◌, ◌||◌, IfErr, IfOk, not, ◌-◌};
-ghost use Rattle.ubi_detect.specs.Detected.{NamesPlace, after_detecting};
+ghost use Rattle.std.specs.Prelude.{◌≡◌, ℕ, ◌+◌, ◌-◌, ◌/◌, ◌%◌, ◌<◌, ◌≤◌, ◌^◌, ◌==◌, ◌||◌, IfErr, IfOk, not};
 ghost use Rattle.ubi_detect.specs.Groups.{greatest_size};
 ghost use Rattle.ubi_detect.specs.Place.{ways_with};
-ghost use Rattle.ubi_scan.specs.Source.{Narrows, WhereHeld};
-ghost use Rattle.ubi_detect.specs.Sure.{are_no_parts, end_in, goes_on, has_inner_start, has_part_start, has_room, have_copies, holds_table, is_dense, is_filled, is_hole, is_prime, is_seen, is_sure, is_whole_size, may_be_parts, may_be_size, meet_in, says_so, some_ends_blank, tables_meet, all_are, meets, is_start, some_part, some_inner};
+ghost use Rattle.ubi_detect.specs.Detected.{Looks};
+ghost use Rattle.ubi_scan.specs.Source.{WhereHeld};
+ghost use Rattle.ubi_detect.specs.Sure.{are_no_halves, are_no_parts, end_in, goes_on, has_inner_start, has_part_start, has_room, have_copies, holds_table, is_borne_out, is_dense, is_even, is_filled, is_hole, is_prime, is_seen, is_sure, is_whole_size, may_be_halves, may_be_parts, may_be_size, meet_in, says_so, some_ends_blank, tables_meet, all_are, meets, is_start, some_part, some_inner};
 ghost use Rattle.ubi_detect.specs.inner.Detecting.{AreWays, IsReadAt, IsReadError, LiesIn};
 
 use crate::at_places::{all_are, is_start, number_at};
-use crate::block_tests::{BlockTest, some_start};
+use crate::block_tests::{BlockTest, count_starts, some_start};
 use crate::detect::DetectError;
 use crate::groups::Group;
 use crate::heads::STEP;
@@ -50,11 +50,9 @@ impl BlockTest for EndsBlank {
 /// `Read` if a read failed.
 fn is_filled<S: BlockSource>(source: &mut S, at: u64) -> Result<bool, DetectError>
     requires size { (S.known source.old).size < 2 ^ 63 }
-    ensures known { S.known source.new ≡ after_detecting (S.known source.old) result }
-    ensures narrows { Narrows (S.agrees source.old) (S.agrees source.new) }
+    ensures source { Looks S.BlockSource source.old source.new result }
     ensures is { IfOk result (λ is. WhereHeld (S.agrees source.new) (λ bytes. is ≡ is_filled bytes at)) }
     ensures failed { IfErr result (IsReadAt (S.known source.old).size) }
-    ensures named { IfErr result (NamesPlace (S.failed_at source.new)) }
 {
     if all_are(source, 0xFF, 64, at)? {
         return Ok(false);
@@ -69,11 +67,9 @@ fn is_filled<S: BlockSource>(source: &mut S, at: u64) -> Result<bool, DetectErro
 /// `Read` if a read failed.
 fn is_hole<S: BlockSource>(source: &mut S, at: u64) -> Result<bool, DetectError>
     requires size { (S.known source.old).size < 2 ^ 63 }
-    ensures known { S.known source.new ≡ after_detecting (S.known source.old) result }
-    ensures narrows { Narrows (S.agrees source.old) (S.agrees source.new) }
+    ensures source { Looks S.BlockSource source.old source.new result }
     ensures is { IfOk result (λ is. WhereHeld (S.agrees source.new) (λ bytes. is ≡ is_hole bytes at)) }
     ensures failed { IfErr result (IsReadAt (S.known source.old).size) }
-    ensures named { IfErr result (NamesPlace (S.failed_at source.new)) }
 {
     if !is_filled(source, at)? {
         return Ok(false);
@@ -90,11 +86,9 @@ fn goes_on<S: BlockSource>(source: &mut S, count: usize, at: u64) -> Result<bool
     requires size { (S.known source.old).size < 2 ^ 63 }
     requires some { 1 ≤ count }
     requires few { count ≤ 192 }
-    ensures known { S.known source.new ≡ after_detecting (S.known source.old) result }
-    ensures narrows { Narrows (S.agrees source.old) (S.agrees source.new) }
+    ensures source { Looks S.BlockSource source.old source.new result }
     ensures goes { IfOk result (λ goes. WhereHeld (S.agrees source.new) (λ bytes. goes ≡ goes_on count bytes at)) }
     ensures failed { IfErr result (IsReadAt (S.known source.old).size) }
-    ensures named { IfErr result (NamesPlace (S.failed_at source.new)) }
 {
     if all_are(source, 0xFF, count, at)? {
         return Ok(false);
@@ -113,11 +107,9 @@ fn goes_on<S: BlockSource>(source: &mut S, count: usize, at: u64) -> Result<bool
 fn holds_table<S: BlockSource>(source: &mut S, way: &Way, at: u64) -> Result<bool, DetectError>
     requires size { (S.known source.old).size < 2 ^ 63 }
     requires inside { at < 2 ^ 63 + 2 ^ 34 }
-    ensures known { S.known source.new ≡ after_detecting (S.known source.old) result }
-    ensures narrows { Narrows (S.agrees source.old) (S.agrees source.new) }
+    ensures source { Looks S.BlockSource source.old source.new result }
     ensures is { IfOk result (λ is. WhereHeld (S.agrees source.new) (λ bytes. is ≡ holds_table bytes way.now at)) }
     ensures failed { IfErr result (IsReadAt (S.known source.old).size) }
-    ensures named { IfErr result (NamesPlace (S.failed_at source.new)) }
 {
     let geometry = &way.geometry;
     let vid = at + way.put(geometry.vid_offset());
@@ -146,11 +138,9 @@ fn have_copies<S: BlockSource>(
     requires size { (S.known source.old).size < 2 ^ 63 }
     requires inside { at < 2 ^ 63 + 2 ^ 34 }
     requires next { next < 2 ^ 63 + 2 ^ 34 }
-    ensures known { S.known source.new ≡ after_detecting (S.known source.old) result }
-    ensures narrows { Narrows (S.agrees source.old) (S.agrees source.new) }
+    ensures source { Looks S.BlockSource source.old source.new result }
     ensures have { IfOk result (λ have. WhereHeld (S.agrees source.new) (λ bytes. have ≡ have_copies bytes way.now at next)) }
     ensures failed { IfErr result (IsReadAt (S.known source.old).size) }
-    ensures named { IfErr result (NamesPlace (S.failed_at source.new)) }
 {
     if !holds_table(source, way, at)? {
         return Ok(false);
@@ -333,11 +323,9 @@ fn are_no_parts<S: BlockSource>(
     requires lies { LiesIn (S.known source.old).size group.now }
     requires some { 1 ≤ parts }
     requires part { 1 ≤ group.now.size / parts }
-    ensures known { S.known source.new ≡ after_detecting (S.known source.old) result }
-    ensures narrows { Narrows (S.agrees source.old) (S.agrees source.new) }
+    ensures source { Looks S.BlockSource source.old source.new result }
     ensures are { IfOk result (λ are. WhereHeld (S.agrees source.new) (λ bytes. are ≡ are_no_parts bytes group.now parts)) }
     ensures failed { IfErr result (IsReadAt (S.known source.old).size) }
-    ensures named { IfErr result (NamesPlace (S.failed_at source.new)) }
 {
     let goes_on = SomeInner {
         last: group.last,
@@ -377,11 +365,9 @@ fn is_no_number<S: BlockSource>(
     requires lies { LiesIn (S.known source.old).size group.now }
     requires some { 1 ≤ parts }
     requires few { parts < 2 ^ 32 }
-    ensures known { S.known source.new ≡ after_detecting (S.known source.old) result }
-    ensures narrows { Narrows (S.agrees source.old) (S.agrees source.new) }
+    ensures source { Looks S.BlockSource source.old source.new result }
     ensures is { IfOk result (λ is. WhereHeld (S.agrees source.new) (λ bytes. is ≡ (not (may_be_parts group.now.key.offsets group.now.size parts) || are_no_parts bytes group.now parts))) }
     ensures failed { IfErr result (IsReadAt (S.known source.old).size) }
-    ensures named { IfErr result (NamesPlace (S.failed_at source.new)) }
 {
     if may_be_parts(&group.key.offsets, group.size, parts) {
         are_no_parts(source, group, parts)
@@ -398,11 +384,9 @@ fn is_no_number<S: BlockSource>(
 fn is_whole_size<S: BlockSource>(source: &mut S, group: &Group) -> Result<bool, DetectError>
     requires size { (S.known source.old).size < 2 ^ 63 }
     requires lies { LiesIn (S.known source.old).size group.now }
-    ensures known { S.known source.new ≡ after_detecting (S.known source.old) result }
-    ensures narrows { Narrows (S.agrees source.old) (S.agrees source.new) }
+    ensures source { Looks S.BlockSource source.old source.new result }
     ensures is { IfOk result (λ is. WhereHeld (S.agrees source.new) (λ bytes. is ≡ is_whole_size bytes group.now)) }
     ensures failed { IfErr result (IsReadAt (S.known source.old).size) }
-    ensures named { IfErr result (NamesPlace (S.failed_at source.new)) }
 {
     for i in 0..group.size / STEP {
         if !is_no_number(source, group, i + 2)? {
@@ -420,11 +404,9 @@ fn is_whole_size<S: BlockSource>(source: &mut S, group: &Group) -> Result<bool, 
 fn meet_in<S: BlockSource>(source: &mut S, group: &Group, ways: &[Way]) -> Result<bool, DetectError>
     requires size { (S.known source.old).size < 2 ^ 63 }
     requires lies { LiesIn (S.known source.old).size group.now }
-    ensures known { S.known source.new ≡ after_detecting (S.known source.old) result }
-    ensures narrows { Narrows (S.agrees source.old) (S.agrees source.new) }
+    ensures source { Looks S.BlockSource source.old source.new result }
     ensures meet { IfOk result (λ meet. WhereHeld (S.agrees source.new) (λ bytes. meet ≡ meet_in bytes group.now ways.now)) }
     ensures failed { IfErr result (IsReadAt (S.known source.old).size) }
-    ensures named { IfErr result (NamesPlace (S.failed_at source.new)) }
 {
     for way in ways {
         if some_start(source, group, &Meets { group, way })? {
@@ -442,11 +424,9 @@ fn meet_in<S: BlockSource>(source: &mut S, group: &Group, ways: &[Way]) -> Resul
 fn end_in<S: BlockSource>(source: &mut S, group: &Group, ways: &[Way]) -> Result<bool, DetectError>
     requires size { (S.known source.old).size < 2 ^ 63 }
     requires lies { LiesIn (S.known source.old).size group.now }
-    ensures known { S.known source.new ≡ after_detecting (S.known source.old) result }
-    ensures narrows { Narrows (S.agrees source.old) (S.agrees source.new) }
+    ensures source { Looks S.BlockSource source.old source.new result }
     ensures end { IfOk result (λ end. WhereHeld (S.agrees source.new) (λ bytes. end ≡ end_in bytes group.now ways.now)) }
     ensures failed { IfErr result (IsReadAt (S.known source.old).size) }
-    ensures named { IfErr result (NamesPlace (S.failed_at source.new)) }
 {
     for way in ways {
         let test = EndsBlank {
@@ -470,6 +450,62 @@ impl Group {
     {
         self.blocks() / 2 < self.count
     }
+}
+
+/// Whether an eraseblock of a group has an even number, counted from that of the first header.
+#[derive(Drop)]
+struct Even {
+    first: u64,
+    /// The size of an eraseblock in bytes.
+    size: u64,
+    ghost some: { 1 ≤ size },
+}
+
+impl BlockTest for Even {
+    ghost holds = { λ test _ p. (p - test.first) / test.size % 2 == 0 };
+
+    ghost reach = { λ _. 0 };
+
+    fn holds<S: BlockSource>(&self, _source: &mut S, at: u64) -> Result<bool, DetectError> {
+        Ok(at.saturating_sub(self.first) / self.size % 2 == 0)
+    }
+}
+
+impl Group {
+    /// Whether its eraseblocks may be halves of the true ones, if `even` of those with even numbers start with a header.
+    fn may_be_halves(&self, even: u64) -> bool
+        requires from { 1 ≤ self.now.size }
+        requires order { self.now.first ≤ self.now.last }
+        requires last { self.now.last < 2 ^ 63 }
+        ensures { result ≡ may_be_halves self.now even }
+    {
+        let blocks = self.blocks();
+        let odd = self.count.saturating_sub(even);
+        even.saturating_mul(4) < (blocks + 1) / 2 || odd.saturating_mul(4) < blocks / 2
+    }
+}
+
+/// Whether the eraseblocks of a group are no halves of the true ones.
+///
+/// # Errors
+///
+/// `Read` if a read failed.
+fn are_no_halves<S: BlockSource>(source: &mut S, group: &Group) -> Result<bool, DetectError>
+    requires size { (S.known source.old).size < 2 ^ 63 }
+    requires lies { LiesIn (S.known source.old).size group.now }
+    ensures source { Looks S.BlockSource source.old source.new result }
+    ensures are { IfOk result (λ are. WhereHeld (S.agrees source.new) (λ bytes. are ≡ are_no_halves bytes group.now)) }
+    ensures failed { IfErr result (IsReadAt (S.known source.old).size) }
+{
+    if group.count == group.blocks() {
+        return Ok(true);
+    }
+    let test = Even {
+        first: group.first,
+        size: group.size,
+    };
+    let even = count_starts(source, group, &test)?;
+    Ok(!group.may_be_halves(even))
 }
 
 /// Whether headers of eraseblocks of half or a quarter of a group's size would all be seen.
@@ -503,11 +539,9 @@ fn some_ends_blank<S: BlockSource>(
     requires size { (S.known source.old).size < 2 ^ 63 }
     requires lies { LiesIn (S.known source.old).size group.now }
     requires ways { with.now ≡ ways_with group.now }
-    ensures known { S.known source.new ≡ after_detecting (S.known source.old) result }
-    ensures narrows { Narrows (S.agrees source.old) (S.agrees source.new) }
+    ensures source { Looks S.BlockSource source.old source.new result }
     ensures ends { IfOk result (λ ends. WhereHeld (S.agrees source.new) (λ bytes. ends ≡ some_ends_blank bytes group.now)) }
     ensures failed { IfErr result (IsReadAt (S.known source.old).size) }
-    ensures named { IfErr result (NamesPlace (S.failed_at source.new)) }
 {
     let test = EndsBlank {
         size: group.size,
@@ -532,11 +566,9 @@ fn tables_meet<S: BlockSource>(
     requires size { (S.known source.old).size < 2 ^ 63 }
     requires lies { LiesIn (S.known source.old).size group.now }
     requires ways { AreWays group.now ways.now }
-    ensures known { S.known source.new ≡ after_detecting (S.known source.old) result }
-    ensures narrows { Narrows (S.agrees source.old) (S.agrees source.new) }
+    ensures source { Looks S.BlockSource source.old source.new result }
     ensures meet { IfOk result (λ meet. WhereHeld (S.agrees source.new) (λ bytes. meet ≡ tables_meet bytes group.now)) }
     ensures failed { IfErr result (IsReadAt (S.known source.old).size) }
-    ensures named { IfErr result (NamesPlace (S.failed_at source.new)) }
 {
     if meet_in(source, group, ways.without.as_slice())? {
         return Ok(true);
@@ -554,11 +586,9 @@ fn says_so<S: BlockSource>(source: &mut S, group: &Group, ways: &Ways) -> Result
     requires size { (S.known source.old).size < 2 ^ 63 }
     requires lies { LiesIn (S.known source.old).size group.now }
     requires ways { AreWays group.now ways.now }
-    ensures known { S.known source.new ≡ after_detecting (S.known source.old) result }
-    ensures narrows { Narrows (S.agrees source.old) (S.agrees source.new) }
+    ensures source { Looks S.BlockSource source.old source.new result }
     ensures says { IfOk result (λ says. WhereHeld (S.agrees source.new) (λ bytes. says ≡ says_so bytes group.now)) }
     ensures failed { IfErr result (IsReadAt (S.known source.old).size) }
-    ensures named { IfErr result (NamesPlace (S.failed_at source.new)) }
 {
     if !some_ends_blank(source, group, ways.with.as_slice())? {
         return Ok(false);
@@ -594,6 +624,29 @@ fn may_be_size(alloc: Global, group: &Group) -> Result<bool, AllocError>
     is_seen(alloc, group)
 }
 
+/// Whether the eraseblocks of a group bear its size out: they are no halves of the true ones, and what stands in them says the size.
+///
+/// # Errors
+///
+/// `Read` if a read failed.
+fn is_borne_out<S: BlockSource>(
+    source: &mut S,
+    group: &Group,
+    ways: &Ways,
+) -> Result<bool, DetectError>
+    requires size { (S.known source.old).size < 2 ^ 63 }
+    requires lies { LiesIn (S.known source.old).size group.now }
+    requires ways { AreWays group.now ways.now }
+    ensures source { Looks S.BlockSource source.old source.new result }
+    ensures is { IfOk result (λ is. WhereHeld (S.agrees source.new) (λ bytes. is ≡ is_borne_out bytes group.now)) }
+    ensures failed { IfErr result (IsReadAt (S.known source.old).size) }
+{
+    if !are_no_halves(source, group)? {
+        return Ok(false);
+    }
+    says_so(source, group, ways)
+}
+
 /// Whether the size that a group says is sure.
 ///
 /// # Errors
@@ -608,14 +661,12 @@ pub fn is_sure<S: BlockSource>(
     requires size { (S.known source.old).size < 2 ^ 63 }
     requires lies { LiesIn (S.known source.old).size group.now }
     requires ways { AreWays group.now ways.now }
-    ensures known { S.known source.new ≡ after_detecting (S.known source.old) result }
-    ensures narrows { Narrows (S.agrees source.old) (S.agrees source.new) }
+    ensures source { Looks S.BlockSource source.old source.new result }
     ensures sure { IfOk result (λ sure. WhereHeld (S.agrees source.new) (λ bytes. sure ≡ is_sure bytes group.now)) }
     ensures failed { IfErr result (IsReadError (S.known source.old).size) }
-    ensures named { IfErr result (NamesPlace (S.failed_at source.new)) }
 {
     if may_be_size(alloc, group)? {
-        says_so(source, group, ways)
+        is_borne_out(source, group, ways)
     } else {
         Ok(false)
     }
@@ -635,11 +686,9 @@ fn has_part_start<S: BlockSource>(
     requires lies { LiesIn (S.known source.old).size group.now }
     requires some { 1 ≤ parts }
     requires few { parts < 2 ^ 32 }
-    ensures known { S.known source.new ≡ after_detecting (S.known source.old) result }
-    ensures narrows { Narrows (S.agrees source.old) (S.agrees source.new) }
+    ensures source { Looks S.BlockSource source.old source.new result }
     ensures has { IfOk result (λ has. WhereHeld (S.agrees source.new) (λ bytes. has ≡ has_part_start bytes group.now parts)) }
     ensures failed { IfErr result (IsReadAt (S.known source.old).size) }
-    ensures named { IfErr result (NamesPlace (S.failed_at source.new)) }
 {
     if !may_be_parts(&group.key.offsets, group.size, parts) {
         return Ok(false);
@@ -660,11 +709,9 @@ fn has_part_start<S: BlockSource>(
 pub fn has_inner_start<S: BlockSource>(source: &mut S, group: &Group) -> Result<bool, DetectError>
     requires size { (S.known source.old).size < 2 ^ 63 }
     requires lies { LiesIn (S.known source.old).size group.now }
-    ensures known { S.known source.new ≡ after_detecting (S.known source.old) result }
-    ensures narrows { Narrows (S.agrees source.old) (S.agrees source.new) }
+    ensures source { Looks S.BlockSource source.old source.new result }
     ensures has { IfOk result (λ has. WhereHeld (S.agrees source.new) (λ bytes. has ≡ has_inner_start bytes group.now)) }
     ensures failed { IfErr result (IsReadAt (S.known source.old).size) }
-    ensures named { IfErr result (NamesPlace (S.failed_at source.new)) }
 {
     for i in 0..group.size / STEP {
         if has_part_start(source, group, i + 2)? {

@@ -2,11 +2,12 @@
 
 ghost use Rattle.std.specs.List.{All};
 ghost use Rattle.std.specs.Prelude.{◌≡◌, ℕ, ◌+◌, ◌-◌, ◌++◌, ◌/◌, ◌%◌, ◌<◌, ◌≤◌, ◌^◌, IfErr, IfOk, IfSome, IsTrue, List, MatchOption, OnOk, length, min, slice_range, vec_len};
-ghost use Rattle.ubi_detect.specs.Detected.{NamesPlace, after_detecting};
 ghost use Rattle.ubi_detect.specs.Heads.{heads_of, heads_to, key_count, most_keys, step};
-ghost use Rattle.ubi_scan.specs.Source.{Narrows, WhereHeld};
+ghost use Rattle.ubi_detect.specs.Detected.{Looks};
+ghost use Rattle.ubi_scan.specs.Source.{WhereHeld};
 ghost use Rattle.ubi_detect.specs.declared.heads.Head.{Head};
-ghost use Rattle.ubi_detect.specs.inner.Detecting.{AreGroups, AreGroupsIf, IsReadError, IsWithin, head_in};
+ghost use Rattle.ubi_detect.specs.Groups.{AreGroups};
+ghost use Rattle.ubi_detect.specs.inner.Detecting.{AreGroupsIf, IsReadError, IsWithin, head_in};
 
 use crate::detect::DetectError;
 use crate::groups::{Group, MOST_KEYS, add_head};
@@ -69,13 +70,11 @@ fn add_window<S: BlockSource>(
     requires within { All (IsWithin (at / step)) groups.old.items }
     requires few { vec_len groups.old ≤ most_keys }
     ensures window { length window.new ≡ length window.old }
-    ensures known { S.known source.new ≡ after_detecting (S.known source.old) result }
-    ensures narrows { Narrows (S.agrees source.old) (S.agrees source.new) }
+    ensures source { Looks S.BlockSource source.old source.new result }
     ensures groups { IfOk result (λ few. WhereHeld (S.agrees source.new) (λ bytes. AreGroups (heads_to bytes (at / step)) groups.old.items → AreGroupsIf (heads_to bytes (at / step + min ((S.known source.old).size - at) (length window.old) / step)) groups.new.items few)) }
     ensures within { IfOk result (λ few. IsTrue few → All (IsWithin (at / step + min ((S.known source.old).size - at) (length window.old) / step)) groups.new.items) }
     ensures few { IfOk result (λ few. IsTrue few → vec_len groups.new ≤ most_keys) }
     ensures failed { IfErr result (IsReadError (S.known source.old).size) }
-    ensures named { IfErr result (NamesPlace (S.failed_at source.new)) }
 {
     let count = (source.len() - at).min(window.len() as u64) as usize;
     let bytes = &mut window[..count];
@@ -102,13 +101,11 @@ pub fn read_groups<S: BlockSource>(
     source: &mut S,
 ) -> Result<Option<Vec<Group>>, DetectError>
     requires size { (S.known source.old).size < 2 ^ 63 }
-    ensures known { S.known source.new ≡ after_detecting (S.known source.old) result }
-    ensures narrows { Narrows (S.agrees source.old) (S.agrees source.new) }
+    ensures source { Looks S.BlockSource source.old source.new result }
     ensures groups { IfOk result (λ o. MatchOption o (WhereHeld (S.agrees source.new) (λ bytes. most_keys < key_count bytes)) (λ groups. WhereHeld (S.agrees source.new) (λ bytes. AreGroups (heads_of bytes) groups.items))) }
     ensures within { IfOk result (λ o. IfSome o (λ groups. All (IsWithin ((S.known source.old).size / step)) groups.items)) }
     ensures few { IfOk result (λ o. IfSome o (λ groups. vec_len groups ≤ most_keys)) }
     ensures failed { IfErr result (IsReadError (S.known source.old).size) }
-    ensures named { IfErr result (NamesPlace (S.failed_at source.new)) }
 {
     let mut groups = Vec::new(alloc);
     let mut window = zeros(alloc, WINDOW)?;

@@ -53,6 +53,7 @@ pub use blocks::Blocks;
 pub use errors::StreamError;
 pub use file::FileSource;
 pub use found::{Leb, MemberHeader, Scan, ScanState};
+pub use header::member_of;
 pub use placed::{PlacedFile, SystemFile, file_len};
 pub use read::{read_headers, read_leb, read_member, read_part};
 pub use scans::{scan, scan_from};

@@ -3,7 +3,7 @@ use Rattle.std.specs.Prelude.{◌≡◌, ℕ, ◌+◌, ◌-◌, ◌*◌, ◌<◌
 use Rattle.std.specs.Int.{IsGcd}
 use Rattle.std.specs.List.{All, list_all, list_any}
 use Rattle.std.specs.Option.{option_to_list}
-use Rattle.ubi_detect.specs.Groups.{IsGroup, greatest_size, spoken}
+use Rattle.ubi_detect.specs.Groups.{AreGroups, IsGroup, greatest_size, says_size, spoken}
 use Rattle.ubi_detect.specs.Heads.{is_of, key_in, keys_of, most_keys, same_key, same_offsets, step, with_key}
 use Rattle.ubi_detect.specs.Place.{has_no_page, told, ways_with, ways_without}
 use Rattle.ubi_scan.specs.Source.{Agreed, WhereHeld}
@@ -36,11 +36,6 @@ pub record IsWithin (n : ℕ) (g : Group) : Type 0 where
   pub last : 1 ≤ g.count → g.last + step ≤ n * step
   pub none : g.last ≤ n * step
 
--- these are the groups of headers, in the order of their keys
-pub record AreGroups (heads : List Head) (gs : List Group) : Type 0 where
-  pub keys : map (λ g. g.key) gs ≡ keys_of heads
-  pub each : All (IsGroup heads) gs
-
 -- whether these are the groups of headers; if not, the headers name too many keys
 abbrev pub AreGroupsIf : List Head → List Group → Bool → Type 0
 AreGroupsIf heads gs true = AreGroups heads gs
@@ -71,18 +66,6 @@ unnumbered k = record k { image_seq = 0 }
 -- the group of a key, if there is one
 abbrev pub group_with : List Group → Key → Option Group
 group_with gs k = find (λ g. same_key k g.key) gs
-
--- whether no key with the offsets of a key has a number
-abbrev pub are_unnumbered : List Group → Key → Bool
-are_unnumbered gs k = list_all (λ g. not (same_offsets k g.key) || (g.key.image_seq == 0)) gs
-
--- whether a key speaks for an image among groups
-abbrev pub speaks_among : List Group → Key → Bool
-speaks_among gs k = not (k.image_seq == 0) || are_unnumbered gs k
-
--- whether one of groups says a size
-abbrev pub says_size : List Group → Group → Bool
-says_size gs g = nat_le 2 g.count && nat_le 1 g.size && nat_le g.size greatest_size && speaks_among gs g.key
 
 -- whether a group speaks for more bytes than another, if there is one
 abbrev pub speaks_for_more : Group → Option Group → Bool

@@ -13,12 +13,12 @@ returns-then-branch-clause-some g c = λ bytes holds.
 
 pub loop-i-preserved : goal.loop-i-preserved
 loop-i-preserved g c = record {
-  source = c.in_ok-start_holds.ensures.known ∙ c.loop-i.invariant.source;
-  narrows = λ bytes holds. c.loop-i.invariant.narrows bytes (c.in_ok-start_holds.ensures.narrows bytes holds);
+  source = c.in_ok-start_holds.ensures.source.known ∙ c.loop-i.invariant.source;
+  narrows = λ bytes holds. c.loop-i.invariant.narrows bytes (c.in_ok-start_holds.ensures.source.narrows bytes holds);
   none = λ bytes holds.
       let p : ℕ → Bool = λ i. is_start bytes c.args.group.now (block_at c.args.group.now i)
       && g.T.BlockTest.holds c.args.test.now bytes (block_at c.args.group.now i) in
       let here = rw c.block_at.ensures.place at c.in_ok-start_holds.ensures.answer in
-      none_more p c.loop-i.i (c.loop-i.invariant.none bytes (c.in_ok-start_holds.ensures.narrows bytes holds))
+      none_more p c.loop-i.i (c.loop-i.invariant.none bytes (c.in_ok-start_holds.ensures.source.narrows bytes holds))
       (sym (here bytes holds) ∙ c.if-branch.false);
 }

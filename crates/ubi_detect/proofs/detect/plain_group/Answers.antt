@@ -9,5 +9,5 @@ returns-in_default-clause-plain g c = λ bytes holds.
 pub returns-then-branch-clause-plain : goal.returns-then-branch-clause-plain
 returns-then-branch-clause-plain g c = λ bytes holds.
     let plain = rw c.in-Some.is at c.in_ok-group.ensures.plain in
-    none_alone bytes c.in-Some.group (plain bytes (c.in_ok-has_inner_start.ensures.narrows bytes holds))
+    none_alone bytes c.in-Some.group (plain bytes (c.in_ok-has_inner_start.ensures.source.narrows bytes holds))
     (sym (c.in_ok-has_inner_start.ensures.has bytes holds) ∙ c.if-branch.true)

@@ -6,7 +6,7 @@ use Rattle.ubi_detect.proofs.detect.said_group.Goals as goal
 pub returns-in_default-clause-refused : goal.returns-in_default-clause-refused
 returns-in_default-clause-refused g c = λ bytes holds.
     let many = rw c.in_default.is at c.in_ok-groups.ensures.groups in
-    too_many bytes (c.requires.none bytes (c.in_ok-groups.ensures.narrows bytes holds)) (many bytes holds)
+    too_many bytes (c.requires.none bytes (c.in_ok-groups.ensures.source.narrows bytes holds)) (many bytes holds)
 
 pub returns-then-is_empty-clause-refused : goal.returns-then-is_empty-clause-refused
 returns-then-is_empty-clause-refused g c = λ bytes holds.
@@ -23,20 +23,20 @@ returns-in_default-image_among-clause-refused g c = λ bytes holds.
     let none = rw c.in_default-image_among.is at c.image_among.ensures.image in
     let P : List Group → Type 0 = λ gs. AreGroups (heads_of bytes) gs in (
       some_heads (heads_of bytes) c.in-Some.groups.items (are bytes holds) (omega (arith, some, ok)),
-      c.requires.none bytes (c.in_ok-groups.ensures.narrows bytes holds),
+      c.requires.none bytes (c.in_ok-groups.ensures.source.narrows bytes holds),
       inr (inl (none (heads_of bytes) (subst P (sym c.as_slice.ensures.value) (are bytes holds)))),
     )
 
 pub returns-then-rest-group-clause-refused : goal.returns-then-rest-group-clause-refused
 returns-then-rest-group-clause-refused g c = λ bytes holds.
-    let before = c.in_ok-groups.ensures.narrows bytes holds in
+    let before = c.in_ok-groups.ensures.source.narrows bytes holds in
     let are = rw c.in-Some.is at c.in_ok-groups.ensures.groups in
     let few = rw c.in-Some.is at c.in_ok-groups.ensures.few in
     let found = rw c.in-Some-image_among.is at c.image_among.ensures.image in
     let P : List Group → Type 0 = λ gs. AreGroups (heads_of bytes) gs in
     let image = found (heads_of bytes) (subst P (sym c.as_slice.ensures.value) (are bytes holds)) in
     let sized = (g.met.S.BlockSource.sized c.args.source.now).sized bytes before in
-    let known = ap (λ k. k.size) c.in_ok-groups.ensures.known in
+    let known = ap (λ k. k.size) c.in_ok-groups.ensures.source.known in
     let len : c.len.result ≡ length bytes = c.len.ensures ∙ known ∙ sym sized in
     let keys = as_many_keys (heads_of bytes) c.in-Some.groups.items (are bytes holds) in
     let ok = c.in-Some.groups.ok in (
@@ -54,14 +54,14 @@ returns-then-rest-group-clause-refused g c = λ bytes holds.
 
 pub returns-clause-found : goal.returns-clause-found
 returns-clause-found g c = λ bytes holds.
-    let before = c.in_ok-groups.ensures.narrows bytes holds in
+    let before = c.in_ok-groups.ensures.source.narrows bytes holds in
     let are = rw c.in-Some.is at c.in_ok-groups.ensures.groups in
     let few = rw c.in-Some.is at c.in_ok-groups.ensures.few in
     let found = rw c.in-Some-image_among.is at c.image_among.ensures.image in
     let P : List Group → Type 0 = λ gs. AreGroups (heads_of bytes) gs in
     let image = found (heads_of bytes) (subst P (sym c.as_slice.ensures.value) (are bytes holds)) in
     let sized = (g.met.S.BlockSource.sized c.args.source.now).sized bytes before in
-    let known = ap (λ k. k.size) c.in_ok-groups.ensures.known in
+    let known = ap (λ k. k.size) c.in_ok-groups.ensures.source.known in
     let len : c.len.result ≡ length bytes = c.len.ensures ∙ known ∙ sym sized in
     let keys = as_many_keys (heads_of bytes) c.in-Some.groups.items (are bytes holds) in
     let ok = c.in-Some.groups.ok in

@@ -17,15 +17,15 @@ returns-in_default-clause-joined g c = λ bytes holds.
 pub returns-in_default-joined-clause-joined : goal.returns-in_default-joined-clause-joined
 returns-in_default-joined-clause-joined g c = λ bytes holds.
     none_joined bytes c.args.size c.loop-i.i c.loop-i.key c.in-Some.next
-    (c.loop-i.invariant.joined bytes (c.in_ok-next.ensures.narrows bytes holds))
+    (c.loop-i.invariant.joined bytes (c.in_ok-next.ensures.source.narrows bytes holds))
     (sym (c.in_ok-next.ensures.key bytes holds) ∙ c.in-Some.is) c.args.count c.loop-i-test.true c.in_default-joined.ensures
 
 pub loop-i-preserved : goal.loop-i-preserved
 loop-i-preserved g c = record {
-  source = c.in_ok-next.ensures.known ∙ c.loop-i.invariant.source;
-  narrows = λ bytes holds. c.loop-i.invariant.narrows bytes (c.in_ok-next.ensures.narrows bytes holds);
+  source = c.in_ok-next.ensures.source.known ∙ c.loop-i.invariant.source;
+  narrows = λ bytes holds. c.loop-i.invariant.narrows bytes (c.in_ok-next.ensures.source.narrows bytes holds);
   joined = λ bytes holds.
       joined_more bytes c.args.size c.loop-i.i c.loop-i.key c.in-Some.next
-      (c.loop-i.invariant.joined bytes (c.in_ok-next.ensures.narrows bytes holds))
+      (c.loop-i.invariant.joined bytes (c.in_ok-next.ensures.source.narrows bytes holds))
       (sym (c.in_ok-next.ensures.key bytes holds) ∙ c.in-Some.is) c.in-Some-joined.joined c.in-Some-joined.ensures;
 }

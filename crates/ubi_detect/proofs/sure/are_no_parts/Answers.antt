@@ -16,7 +16,7 @@ returns-clause-are g c = λ bytes holds.
     let group = c.args.group.now in
     let at = some_inner group.last group.size c.args.parts in
     let goes : some_start bytes group (at (goes_on c.min.result bytes)) ≡ true =
-    sym (c.in_ok-some_start.ensures.some bytes (c.in_ok-some_start-2.ensures.narrows bytes holds)) ∙ c.if-not-branch.false in
+    sym (c.in_ok-some_start.ensures.some bytes (c.in_ok-some_start-2.ensures.source.narrows bytes holds)) ∙ c.if-not-branch.false in
     sym (ap₂ (λ (a b : Bool). a && not b)
     (subst (λ (n : ℕ). some_start bytes group (at (goes_on n bytes)) ≡ true) c.min.ensures goes)
     (sym (c.in_ok-some_start-2.ensures.some bytes holds)))

@@ -11,10 +11,10 @@ returns-then-branch-clause-has g c = λ bytes holds.
 
 pub loop-i-preserved : goal.loop-i-preserved
 loop-i-preserved g c = record {
-  source = c.in_ok-has_part_start.ensures.known ∙ c.loop-i.invariant.source;
-  narrows = λ bytes holds. c.loop-i.invariant.narrows bytes (c.in_ok-has_part_start.ensures.narrows bytes holds);
+  source = c.in_ok-has_part_start.ensures.source.known ∙ c.loop-i.invariant.source;
+  narrows = λ bytes holds. c.loop-i.invariant.narrows bytes (c.in_ok-has_part_start.ensures.source.narrows bytes holds);
   none = λ bytes holds.
       let p : ℕ → Bool = λ i. has_part_start bytes c.args.group.now (i + 2) in
-      none_more p c.loop-i.i (c.loop-i.invariant.none bytes (c.in_ok-has_part_start.ensures.narrows bytes holds))
+      none_more p c.loop-i.i (c.loop-i.invariant.none bytes (c.in_ok-has_part_start.ensures.source.narrows bytes holds))
       (sym (c.in_ok-has_part_start.ensures.has bytes holds) ∙ c.if-branch.false);
 }

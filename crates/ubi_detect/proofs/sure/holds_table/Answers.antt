@@ -13,7 +13,7 @@ pub returns-then-branch-ne-LAYOUT_VOLUME-clause-is : goal.returns-then-branch-ne
 returns-then-branch-ne-LAYOUT_VOLUME-clause-is g c = λ bytes holds.
     let w = c.args.way.now in
     let place = c.put.ensures.place ∙ ap (put w) c.vid_offset.ensures.value in
-    let one = c.in_ok-number_at.ensures.is bytes (c.in_ok-number_at-2.ensures.narrows bytes holds)
+    let one = c.in_ok-number_at.ensures.is bytes (c.in_ok-number_at-2.ensures.source.narrows bytes holds)
     ∙ ap (λ x. number_at bytes (c.args.at + x)) place in
     let two = c.in_ok-number_at-2.ensures.is bytes holds ∙ ap (λ x. number_at bytes (c.args.at + x + 8)) place in
     second_fails _ _ _ (eq-eqb _ vid_magic (sym one ∙ c.if-branch-ne-VID_MAGIC.false))
@@ -23,8 +23,8 @@ pub returns-clause-is : goal.returns-clause-is
 returns-clause-is g c = λ bytes holds.
     let w = c.args.way.now in
     let place = c.put.ensures.place ∙ ap (put w) c.vid_offset.ensures.value in
-    let after = c.in_ok-all_are.ensures.narrows bytes holds in
-    let one = c.in_ok-number_at.ensures.is bytes (c.in_ok-number_at-2.ensures.narrows bytes after)
+    let after = c.in_ok-all_are.ensures.source.narrows bytes holds in
+    let one = c.in_ok-number_at.ensures.is bytes (c.in_ok-number_at-2.ensures.source.narrows bytes after)
     ∙ ap (λ x. number_at bytes (c.args.at + x)) place in
     let two = c.in_ok-number_at-2.ensures.is bytes after ∙ ap (λ x. number_at bytes (c.args.at + x + 8)) place in
     let last : c.put-2.result ≡ put w (w.geometry.data_offset + record_size * (slots w.geometry - 1)) = c.put-2.ensures.place

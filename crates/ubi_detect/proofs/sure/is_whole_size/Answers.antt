@@ -11,11 +11,11 @@ returns-then-not-branch-clause-is g c = λ bytes holds.
 
 pub loop-i-preserved : goal.loop-i-preserved
 loop-i-preserved g c = record {
-  source = c.in_ok-is_no_number.ensures.known ∙ c.loop-i.invariant.source;
-  narrows = λ bytes holds. c.loop-i.invariant.narrows bytes (c.in_ok-is_no_number.ensures.narrows bytes holds);
+  source = c.in_ok-is_no_number.ensures.source.known ∙ c.loop-i.invariant.source;
+  narrows = λ bytes holds. c.loop-i.invariant.narrows bytes (c.in_ok-is_no_number.ensures.source.narrows bytes holds);
   all = λ bytes holds.
       let f = c.args.group.now in
       let p : ℕ → Bool = λ i. not (may_be_parts f.key.offsets f.size (i + 2)) || are_no_parts bytes f (i + 2) in
-      all_pass p c.loop-i.i (c.loop-i.invariant.all bytes (c.in_ok-is_no_number.ensures.narrows bytes holds))
+      all_pass p c.loop-i.i (c.loop-i.invariant.all bytes (c.in_ok-is_no_number.ensures.source.narrows bytes holds))
       (sym (c.in_ok-is_no_number.ensures.is bytes holds) ∙ c.if-not-branch.false);
 }

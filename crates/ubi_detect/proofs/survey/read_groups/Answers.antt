@@ -16,13 +16,13 @@ loop-i-preserved g c =
     ≡ min ((c.loop-i.i + 1) * 1024) (n / step) = ap (λ k. at / step + k / step) count ∙ sym units.1 in
     let groups = rw c.if-not-branch.false at c.in_ok-add_window.ensures.groups in
     record {
-      source = c.in_ok-add_window.ensures.known ∙ c.loop-i.invariant.source;
-      narrows = λ bytes holds. c.loop-i.invariant.narrows bytes (c.in_ok-add_window.ensures.narrows bytes holds);
+      source = c.in_ok-add_window.ensures.source.known ∙ c.loop-i.invariant.source;
+      narrows = λ bytes holds. c.loop-i.invariant.narrows bytes (c.in_ok-add_window.ensures.source.narrows bytes holds);
       groups = λ bytes holds.
           let P : ℕ → Type 0 = λ k. AreGroups (heads_to bytes k) c.add_window.new.groups.items in
           let Q : ℕ → Type 0 = λ k. AreGroups (heads_to bytes k) c.loop-i.groups.items in
           subst P next (groups bytes holds
-          (subst Q units.0 (c.loop-i.invariant.groups bytes (c.in_ok-add_window.ensures.narrows bytes holds))));
+          (subst Q units.0 (c.loop-i.invariant.groups bytes (c.in_ok-add_window.ensures.source.narrows bytes holds))));
       within = let P : ℕ → Type 0 = λ k. All (IsWithin k) c.add_window.new.groups.items in
           subst P next (c.in_ok-add_window.ensures.within c.if-not-branch.false);
       few = c.in_ok-add_window.ensures.few c.if-not-branch.false;
@@ -31,7 +31,7 @@ loop-i-preserved g c =
 
 pub returns-then-not-branch-clause-groups : goal.returns-then-not-branch-clause-groups
 returns-then-not-branch-clause-groups g c = λ bytes holds.
-    let before = c.in_ok-add_window.ensures.narrows bytes holds in
+    let before = c.in_ok-add_window.ensures.source.narrows bytes holds in
     let n = (g.S.BlockSource.known c.args.source.now).size in
     let size = ap (λ (k : Source). k.size) c.loop-i.invariant.source in
     let sized : length bytes ≡ n = (g.met.S.BlockSource.sized c.args.source.now).sized bytes (c.loop-i.invariant.narrows bytes before) in

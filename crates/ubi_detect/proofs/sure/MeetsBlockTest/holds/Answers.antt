@@ -12,6 +12,6 @@ returns-clause-answer g c =
     IfOk-weaker c.have_copies.result _ _
     (λ answer have bytes holds.
     third_decides _ _ _ answer (le-leb (c.args.at + c.args.self.now.group.now.size) c.args.self.now.group.now.last c.if-next-self.false)
-    (sym (c.in_ok-is_start.ensures.is bytes (c.have_copies.ensures.narrows bytes holds)) ∙ c.if-not-branch.false)
+    (sym (c.in_ok-is_start.ensures.is bytes (c.have_copies.ensures.source.narrows bytes holds)) ∙ c.if-not-branch.false)
     (have bytes holds))
     c.have_copies.ensures.have

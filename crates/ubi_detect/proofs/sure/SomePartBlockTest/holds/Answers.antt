@@ -11,11 +11,11 @@ returns-then-branch-clause-answer g c = λ bytes holds.
 
 pub loop-j-preserved : goal.loop-j-preserved
 loop-j-preserved g c = record {
-  source = c.in_ok-holds.ensures.known ∙ c.loop-j.invariant.source;
-  narrows = λ bytes holds. c.loop-j.invariant.narrows bytes (c.in_ok-holds.ensures.narrows bytes holds);
+  source = c.in_ok-holds.ensures.source.known ∙ c.loop-j.invariant.source;
+  narrows = λ bytes holds. c.loop-j.invariant.narrows bytes (c.in_ok-holds.ensures.source.narrows bytes holds);
   none = λ bytes holds.
       let s = c.args.self.now in
       let p : ℕ → Bool = λ j. g.T.BlockTest.holds s.test.now bytes (c.args.at + (j + 1) * (s.size / s.parts)) in
-      none_more p c.loop-j.j (c.loop-j.invariant.none bytes (c.in_ok-holds.ensures.narrows bytes holds))
+      none_more p c.loop-j.j (c.loop-j.invariant.none bytes (c.in_ok-holds.ensures.source.narrows bytes holds))
       (sym (c.in_ok-holds.ensures.answer bytes holds) ∙ c.if-branch.false);
 }
