@@ -13,6 +13,14 @@
 #   -e N     end after step N. PAGES may then be just the pages up to there
 #   -c       check, and write nothing
 #
+# Before the first step it looks at the chip, and refuses
+# - a chip that doesn't hold DUMP. Without -d there is nothing to compare, and it sees no more than what follows
+# - a fastmap's anchor that the plan doesn't erase before all else: a kernel that attaches by the fastmap takes each
+#   eraseblock for what it was before the plan
+# - a plan that erases or programs an eraseblock that isn't UBI's: it holds something, and neither of its headers has the
+#   magic. A boot loader has none
+# - a page to be programmed that isn't free
+#
 # Exit status: 0 done; 1 a step failed, or was interrupted: a line says which. Those before it are done, and nothing
 # after it was tried; 2 nothing was written. Needs mtdinfo, nanddump and flash_erase of mtd-utils. All else may be
 # busybox's.
@@ -98,12 +106,13 @@ look_for_tools() {
   flash_erase --help 2>&1 | grep -q noskipbad || refuse "this flash_erase has no -N: take that of mtd-utils"
 }
 
-# Makes the blank files: an eraseblock, a page and a sub-page of 0xFF bytes.
+# Makes the blank files, an eraseblock, a page and a sub-page of 0xFF bytes; and one of zeros, as long as a header.
 make_blanks() {
   for bytes in "$peb" "$page" "$sub"; do
     dd if=/dev/zero bs="$bytes" count=1 2> /dev/null | tr '\000' '\377' > "$tmp/blank.$bytes"
     [ "$(size_of "$tmp/blank.$bytes")" = "$bytes" ] || refuse "$tmp can't be written"
   done
+  dd if=/dev/zero of="$tmp/zeros" bs=64 count=1 2> /dev/null || refuse "$tmp can't be written"
 }
 
 # Sets `value` to what the kernel says about the device.
@@ -290,6 +299,47 @@ piece() { # FILE FROM BYTES WHICH
 same() { cmp -s "$1" "$2"; } # FILE FILE
 blank() { cmp -s "$1" "$tmp/blank.$2"; } # FILE BYTES
 
+# Sets `kind` to what 64 bytes of a file are: `ec` or `vid`, a header by its magic; `blank`, all 0xFF; or `other`. Sets
+# `field` to the offset that an erase-counter header names, or to the volume that a volume-identifier header names.
+look_at_header() { # FILE WHICH
+  kind='' field=0
+  read -r kind field << LINE
+$(dd if="$1" bs=64 skip="$2" count=1 2> /dev/null | cmp -l - "$tmp/zeros" 2> /dev/null | awk '
+    BEGIN { split("16777216 65536 256 1", weight) }
+    {
+      byte = int($2 / 100) * 64 + int($2 / 10) % 10 * 8 + $2 % 10
+      word[int(($1 - 1) / 4)] += byte * weight[($1 - 1) % 4 + 1]
+      full += byte == 255
+    }
+    END {
+      kind = full == 64 ? "blank" : word[0] == 1430407459 ? "ec" : word[0] == 1430407457 ? "vid" : "other"
+      printf "%s %.0f\n", kind, kind == "ec" ? word[4] : word[2]
+    }
+  ')
+LINE
+  [ -n "$kind" ] || refuse "a header can't be read with cmp and awk"
+}
+
+# Reads a page, also if it has bits that ECC can't correct.
+get_header() { # FILE P K
+  get_page "$@" || [ "$(size_of "$1")" -eq "$page" ] ||
+    refuse "page $3 of eraseblock $2 of $device can't be read: $(reason)"
+}
+
+# Looks at the headers of an eraseblock: sets `own` to what its first bytes are, and `volume` to the volume that its
+# second header names, if it has one. `vid` is where that header is, going by the first header, or by the last one seen.
+look_at_headers() { # P
+  volume=''
+  get_header "$tmp/head" "$1" 0
+  look_at_header "$tmp/head" 0
+  own=$kind
+  [ "$own" != blank ] || return 0
+  if [ "$own" = ec ] && [ $((field % 64 == 0 && field > 0 && field < peb)) -eq 1 ]; then vid=$field; fi
+  [ "$vid" -lt "$page" ] || get_header "$tmp/head" "$1" $((vid / page))
+  look_at_header "$tmp/head" $((vid % page / 64))
+  [ "$kind" != vid ] || volume=$field
+}
+
 # Whether a page can become another one by programs, that is, whether it is blank. With sub-pages, only the sub-pages of
 # page 0 that change are programmed, as UBI does it, and those must be blank; `parts` is set to their numbers then.
 fits() { # OLD NEW K
@@ -324,11 +374,14 @@ holds() { # P COUNT
 look_at_dump() {
   file "$dump"
   length=$(size_of "$dump")
-  [ "$length" = "$size" ] || refuse "$dump has $length bytes and $device $size: take the dump with --bb=padbad"
+  [ $((length > size)) -eq 0 ] || refuse "$dump has $length bytes and $device $size: it is the dump of another device"
+  [ $((length < size)) -eq 0 ] ||
+    refuse "$dump has $length bytes and $device $size: take the dump with --bb=padbad, of the whole device"
   sed -n 's/ BAD$//p' "$tmp/marks" > "$tmp/bad"
   while read -r p <&3; do
     piece "$tmp/here" "$dump" "$peb" "$p" || refuse "$dump can't be read"
-    blank "$tmp/here" "$peb" || refuse "eraseblock $p is bad, and $dump has bytes there: take the dump with --bb=padbad"
+    blank "$tmp/here" "$peb" ||
+      refuse "eraseblock $p is bad, and $dump has bytes there: take a new dump, with --bb=padbad, and plan again"
   done 3< "$tmp/bad"
   if [ "$first" -gt 1 ]; then touched_by "$first" > "$tmp/touched"; else : > "$tmp/touched"; fi
   # the runs of eraseblocks between those
@@ -336,8 +389,9 @@ look_at_dump() {
     awk -v blocks="$blocks" '{ if ($1 > p) print p + 0, $1 - p; p = $1 + 1 } END { if (blocks > p) print p + 0, blocks - p }' > "$tmp/runs"
   while read -r p count <&3; do
     if ! holds "$p" "$count"; then
-      while [ "$count" -gt 1 ] && holds "$p" 1; do
-        p=$((p + 1)) count=$((count - 1))
+      while [ "$count" -gt 1 ]; do
+        half=$((count / 2))
+        if holds "$p" "$half"; then p=$((p + half)) count=$((count - half)); else count=$half; fi
       done
       refuse "eraseblock $p of $device isn't that of $dump: take a new dump and plan again"
     fi
@@ -394,6 +448,58 @@ LINE
     esac
     refuse "eraseblock $p of $device isn't as the steps before step $first leave it: begin with another step, or plan again on a new dump"
   done 3< "$tmp/touched"
+}
+
+# Refuses a fastmap's anchor, an eraseblock of volume 0x7FFFF000, that isn't erased before all else. A kernel looks for
+# it in the first 64 eraseblocks of what it attaches. If that is only a part of the device, it begins at the first
+# header or before it, and not behind the eraseblocks of the plan.
+look_at_anchors() {
+  p=$(touched_by "$steps" | sed -n 1p)
+  vid=$(((63 / sub + 1) * sub)) end=$((p + 64)) begun='' anchors=''
+  look_at_headers "$p"
+  p=0
+  bad=" $(sed -n 's/ BAD$//p' "$tmp/marks" | tr '\n' ' ')"
+  while [ "$p" -lt "$blocks" ] && [ "$p" -lt "$end" ]; do
+    case $bad in
+    *" $p "*) ;;
+    *)
+      look_at_headers "$p"
+      if [ -z "$begun" ] && [ "$own" = ec ]; then begun=yes end=$((p + 64)); fi
+      [ "$volume" != 2147479552 ] || anchors="$anchors $p"
+      ;;
+    esac
+    p=$((p + 1))
+  done
+  [ -n "$anchors" ] || return 0
+  kept=$(awk -v first="$first" -v anchors="$anchors" '
+    BEGIN { count = split(anchors, anchor); for (i = 1; i <= count; i++) is_one[anchor[i]] = 1 }
+    $1 < first { next }
+    !($3 in is_one) { exit }
+    $2 == "erase" { erased[$3] = 1 }
+    END { for (i = 1; i <= count; i++) if (!(anchor[i] in erased)) { print anchor[i]; exit } }
+  ' "$tmp/steps")
+  [ -n "$kept" ] || return 0
+  erase="flash_erase -N $device $((kept * peb)) 1"
+  refuse "eraseblock $kept of $device holds the anchor of a fastmap, and the plan doesn't erase it before all else:" \
+    "erase it ($erase), take a new dump, and plan again"
+}
+
+# Refuses a plan that erases or programs an eraseblock that isn't UBI's, or that programs one behind a header that isn't
+# there.
+look_at_owners() {
+  awk -v first="$first" '$1 >= first && !($3 in seen) { seen[$3] = 1; print $1, $2, $3, $4 }' "$tmp/steps" > "$tmp/begins"
+  while read -r n word p k <&3; do
+    if ! get_page "$tmp/here" "$p" 0; then
+      # an erase that was cut may leave this behind
+      [ "$first $word" != "$n erase" ] || [ "$first" -eq 1 ] || continue
+      refuse "page 0 of eraseblock $p of $device can't be read: $(reason)"
+    fi
+    look_at_headers "$p"
+    [ "$own$volume" != other ] ||
+      refuse "eraseblock $p of $device has no header of UBI, and isn't blank: it isn't that of the plan"
+    [ "$own $word" != 'blank program' ] || [ "$k" -eq 0 ] ||
+      refuse "eraseblock $p of $device has no header, and step $n programs page $k: it isn't that of the plan"
+  done 3< "$tmp/begins"
 }
 
 # Whether $tmp/new would program page 0 a second time, with the same header, on a chip without sub-pages.
@@ -536,8 +642,10 @@ make_blanks
 read_plan
 read_pages
 look_at_marks
+look_at_anchors
 [ -z "$dump" ] || look_at_dump
 [ "$first" -eq 1 ] || look_at_done
+look_at_owners
 look_at_begun
 look_at_rest
 say "checked: $device, $blocks eraseblocks, $(grep -c ' BAD$' "$tmp/marks") bad; $steps steps, $all pages"

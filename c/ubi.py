@@ -176,10 +176,12 @@ class Library:
 
     def geometry(self, image):
         """The geometries that the headers of a dump give, most likely one: a list of Found. Raises Refused if none can
-        be found."""
+        be found. A dump that holds several images has a Found for the first; cut the others out to read them."""
         found = []
         for line in self._answer("geometry", None, [image])[0].decode("ascii").splitlines():
             values = {name: int(number) for name, number in re.findall(r"--(\w+) (\d+)", line)}
+            if "peb" not in values:
+                continue
             sizes = Sizes(values["peb"], values["page"], values["vid"], values["data"])
             found.append(Found(sizes, values.get("oob", 0), values.get("start", 0), values.get("length", len(image))))
         return found

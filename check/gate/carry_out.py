@@ -7,13 +7,15 @@ usage: carry_out.py [--tool PROGRAM] [--script PATH] [--only WORD]
 The tools that the script calls are those of check/gate/fakes, which behave as mtd-utils and dd do on NAND flash. They
 can be made to fail: an erase that fails, or does nothing or half of its work; a program that fails, is torn, or can't
 be read back; an eraseblock that is bad. Images are small, with sub-pages and without, and with bad eraseblocks. In each
-image one mapped LEB and one unmapped LEB are changed, and a volume is renamed. The cases are
+image one mapped LEB and one unmapped LEB are changed, and a volume is renamed. Other chips have a boot loader before
+the image, the anchor of a fastmap, or more than 4,096 eraseblocks. The cases are
 
 - the whole plan, with a dump and without; `-c`, which writes nothing
 - plans that end after each step (`-e`) and are continued (`-s`)
 - each write going wrong, in each way: the script must name the step and write nothing after it; the chip must hold the
   right bytes; and the plan can be continued if nothing was torn
 - each refusal: its line, and that no byte has changed
+- anchors that the plan leaves, erases first or erases late; and eraseblocks that aren't UBI's
 - interrupts, outputs that are closed or full, offsets beyond 4 GiB
 
 The chip must hold the image after the steps that are done, and mean the old or the new. Plans, pages and meanings are
@@ -22,6 +24,7 @@ its `list` and `extract` say. The script is run by dash, bash and busybox in tur
 the cases whose names contain WORD. The last line is 'N passed, M failed', and the exit status is 0 if none failed.
 """
 import argparse
+import dataclasses
 import itertools
 import os
 import random
@@ -40,7 +43,10 @@ DATA = ROOT / 'crates/ubi_tool/data'
 sys.path.insert(0, str(ROOT / 'check/second'))
 import rules  # noqa: E402
 from fuzz import Failure, expect  # noqa: E402
-from rules import LAYOUT, Geometry, Record, Vid  # noqa: E402
+from rules import LAYOUT, Geometry, Record, Vid, is_blank  # noqa: E402
+
+# The volumes of a fastmap: its anchor, and the rest of it.
+ANCHOR, FASTMAP = LAYOUT + 1, LAYOUT + 2
 
 # The names of shells, and the words before those of the script. busybox has a dd of its own, which it prefers to the
 # fake one.
@@ -105,8 +111,25 @@ def image_of(geometry, layout):
         'free': lambda: rules.put_block(geometry, rules.put_ec(geometry, 4, 7), data=bytes(9)),
         'blank': lambda: b'\xFF' * geometry.peb,
         'bad': lambda: b'\xFF' * geometry.peb,
+        'anchor': lambda: member(ANCHOR, 0, rng.randbytes(geometry.page), compat=1),
+        'fastmap': lambda: member(FASTMAP, 0, rng.randbytes(geometry.page), compat=1),
+        'boot': lambda: rng.randbytes(geometry.peb),
     }
     return b''.join(made[word]() for word in layout.split())
+
+
+def without_header(image, geometry, p):
+    """An image in which the erase-counter header of an eraseblock is blank."""
+    at = p * geometry.peb
+    return image[:at] + b'\xFF' * 64 + image[at + 64 :]
+
+
+def without_magic(image, geometry, *blocks):
+    """An image in which the erase-counter headers of some eraseblocks have no magic."""
+    image = bytearray(image)
+    for p in blocks:
+        image[p * geometry.peb] ^= 0x20
+    return bytes(image)
 
 
 # The first has two clean eraseblocks, the second none; both have bad ones.
@@ -114,13 +137,18 @@ LAYOUTS = {
     'clean': 'bad table0 old1 leb0 clean bad leb1 table1 static clean blank',
     'used': 'table0 free leb0 old1 leb1 static table1 bad free bad',
 }
+# What lies before an image; and an image of which no eraseblock may be taken.
+BOOT = 'boot boot blank boot boot'
+FULL = 'table0 leb0 leb1 static table1'
 
 
 class Plan:
-    """A plan for an image: its steps, its pages, and the image after each number of steps."""
+    """A plan for an image, which may lie behind some eraseblocks of the chip: its steps, its pages, and the chip after
+    each number of steps."""
 
-    def __init__(self, name, geometry, sub, image, made, words, files=(), bad=()):
+    def __init__(self, name, geometry, sub, image, made, words, files=(), bad=(), before=0):
         self.name, self.geometry, self.sub, self.image, self.bad = name, geometry, sub, image, bad
+        self.before = before
         self.steps, self.words, self.files = made.steps, words, dict(files)
         self.text = ''.join(rules.plan_lines(self.steps))
         self.pages = [step[3] for step in self.steps if step[0] == 'program']
@@ -153,6 +181,11 @@ class Plan:
         """The step and the line of each write of some steps."""
         return [(n, line) for n in range(first, (self.count if last is None else last) + 1) for line in self.writes(n)]
 
+    def places(self):
+        """The words that say where the image lies, and which eraseblocks are bad."""
+        start = ['--start', str(self.before * self.geometry.peb)] if self.before else []
+        return start + (['--bad', ','.join(map(str, self.bad))] if self.bad else [])
+
     def with_bad(self, data):
         """The bytes of a chip whose bad eraseblocks hold something."""
         data, peb = bytearray(data), self.geometry.peb
@@ -171,14 +204,38 @@ def plans():
         if (geometry, layout) == (SIZES[2][0], 'clean'):
             continue
         data, bad = image_of(geometry, words), [p for p, word in enumerate(words.split()) if word == 'bad']
-        image, page = rules.Image(geometry, data), geometry.page
-        new = random.Random(layout).randbytes(page) + b'\xFF' * page + b'end'.ljust(page, b'\xFF')
         name = f'peb {geometry.peb} {layout}'
         for lnum, which in ((1, 'mapped'), (4, 'unmapped'))[: 1 if layout == 'clean' else 2]:
-            yield Plan(f'{name} {which}', geometry, sub, data, rules.Change(image, 0, lnum, new),
-                ['change', '--id', '0', '--lnum', str(lnum), '--from', 'new.bin'], {'new.bin': new}, bad)
-        yield Plan(f'{name} rename', geometry, sub, data, rules.Rename(image, 1, b'kernel_old'),
-            ['rename', '--id', '1', '--name', 'kernel_old'], (), bad)
+            yield change_of(f'{name} {which}', geometry, sub, data, bad, lnum=lnum)
+        yield rename_of(f'{name} rename', geometry, sub, data, bad)
+    for geometry, sub in SIZES[:2]:
+        data = image_of(geometry, f'{BOOT} {LAYOUTS["used"]}')
+        for word, of in (('mapped', change_of), ('rename', rename_of)):
+            yield of(f'boot loader, peb {geometry.peb} {word}', geometry, sub, data, (12, 14), 5)
+    for geometry, sub in SIZES:
+        # members that have lost the magic of their first headers: the one is taken, the other given up
+        data = without_magic(image_of(geometry, 'table0 leb0 old1 leb1 static table1'), geometry, 2, 3)
+        yield change_of(f'no magic, peb {geometry.peb}', geometry, sub, data)
+
+
+def masked_image(geometry, data, bad, before):
+    """What the rules read of a chip: no step touches an eraseblock before the image, nor a bad one."""
+    return rules.Image(geometry, data, lambda p: p < before or p in bad)
+
+
+def change_of(name, geometry, sub, data, bad=(), before=0, lnum=1):
+    """The plan of a change of a LEB."""
+    page = geometry.page
+    new = random.Random(name).randbytes(page) + b'\xFF' * page + b'end'.ljust(page, b'\xFF')
+    made = rules.Change(masked_image(geometry, data, bad, before), 0, lnum, new)
+    words = ['change', '--id', '0', '--lnum', str(lnum), '--from', 'new.bin']
+    return Plan(name, geometry, sub, data, made, words, {'new.bin': new}, bad, before)
+
+
+def rename_of(name, geometry, sub, data, bad=(), before=0):
+    """The plan of a rename."""
+    made = rules.Rename(masked_image(geometry, data, bad, before), 1, b'kernel_old')
+    return Plan(name, geometry, sub, data, made, ['rename', '--id', '1', '--name', 'kernel_old'], (), bad, before)
 
 
 # What an image means: by the rules, or to the program.
@@ -186,7 +243,7 @@ def plans():
 
 def by_rules(plan, data):
     try:
-        return rules.Image(plan.geometry, data).meaning()
+        return masked_image(plan.geometry, data, plan.bad, plan.before).meaning()
     except rules.Refused as refused:
         return f'refused {refused}'
 
@@ -207,15 +264,16 @@ class Program:
 
     def meaning(self, plan, data):
         """What `list` says about an image, and the bytes of each volume that can be extracted."""
-        key = plan.geometry, data
+        key = plan.geometry, data, plan.before
         if key not in self.known:
             self.put('cut.img', data)
-            listed, status = self.run('list', 'cut.img', *plan.geometry.words())
+            words = [*plan.geometry.words(), *plan.places()]
+            listed, status = self.run('list', 'cut.img', *words)
             volumes = re.findall(r'^volume (\d+) ', listed, re.M)
             read = []
             for number in volumes:
                 (self.folder / 'volume').write_bytes(b'')
-                answer = self.run('extract', 'cut.img', '--id', number, '--out', 'volume', *plan.geometry.words())
+                answer = self.run('extract', 'cut.img', '--id', number, '--out', 'volume', *words)
                 read.append((number, answer, (self.folder / 'volume').read_bytes()))
             self.known[key] = listed, status, read
         return self.known[key]
@@ -225,25 +283,18 @@ class Program:
         for name, data in plan.files.items():
             self.put(name, data)
         command, *rest = plan.words
-        words = [command, self.put('dump.img', plan.image), *rest, '--out', 'out.img', *plan.geometry.words()]
+        words = [command, self.put('dump.img', plan.image), *rest, '--out', 'out.img', *plan.geometry.words(),
+            *plan.places()]
         path = self.folder / 'pages'
         path.unlink(missing_ok=True)
         text, status = self.run(*words, '--pages', 'pages')
         pages = path.read_bytes() if path.exists() else None
-        if status == 2:
-            # it has no --pages
-            text, status = self.run(*words)
-            programs = [k for k, step in enumerate(plan.steps, 1) if step[0] == 'program']
-            pages = b''.join(self.page_after(plan, words, k) for k in programs)
         expect((text, status) == (plan.text, 0), f'the program plans {text!r} with status {status}')
         expect(pages == plan.pages_of(plan.count), "the program's pages differ")
-
-    def page_after(self, plan, words, k):
-        """The page that step K programs, taken from the image after it."""
-        self.run(*words, '--stop', str(k))
-        _, p, page, _ = plan.steps[k - 1]
-        at = p * plan.geometry.peb + page * plan.geometry.page
-        return (self.folder / 'out.img').read_bytes()[at : at + plan.geometry.page]
+        # what lies before the image is blank there
+        at = plan.before * plan.geometry.peb
+        wanted = b'\xFF' * at + plan.after[-1][at:]
+        expect((self.folder / 'out.img').read_bytes() == wanted, 'the image of the program differs')
 
 
 # The chip that a file simulates.
@@ -319,14 +370,17 @@ class Chip:
         } | others
         return [*map(str, options), *map(str, named.values())]
 
-    def start(self, words, shell=None, environment=(), **how):
-        shell = shell or SHELLS_THERE[next(self.turns) % len(SHELLS_THERE)]
+    def environment(self):
+        """The variables of the script and of the fakes."""
         path = f'{self.folder / "stubs"}:{FAKES}:{os.environ["PATH"]}'
-        variables = {
+        return {
             **os.environ, 'PATH': path, 'FAKES': str(FAKES), 'FAKE_CHIP': str(self.chip), 'FAKE_DD': REAL_DD,
             'FAKE_PYTHON': sys.executable, 'CARRY_OUT_ROOT': str(self.root), 'TMPDIR': str(self.scratch),
-            **dict(environment),
         }
+
+    def start(self, words, shell=None, environment=(), **how):
+        shell = shell or SHELLS_THERE[next(self.turns) % len(SHELLS_THERE)]
+        variables = {**self.environment(), **dict(environment)}
         how = {'stdout': subprocess.PIPE, 'stderr': subprocess.PIPE, 'stdin': subprocess.DEVNULL} | how
         command = [*SHELLS[shell], self.script, *words]
         return subprocess.Popen(command, cwd=self.folder, env=variables, start_new_session=True, **how)
@@ -515,6 +569,14 @@ class Cases:
                 chip.device.write_bytes(data)
             return change
 
+        def foreign(p):
+            """Puts something else into an eraseblock of the chip."""
+            def change(chip):
+                data, peb = bytearray(chip.data()), chip.plan.geometry.peb
+                data[p * peb : (p + 1) * peb] = random.Random(p).randbytes(peb)
+                chip.device.write_bytes(data)
+            return change
+
         def done(k, *more):
             """Fills the chip with the image after K steps."""
             def change(chip):
@@ -624,6 +686,10 @@ class Cases:
         for p in range(10):
             if p not in plan.bad:
                 yield f'another byte in eraseblock {p}', of(f"eraseblock {p} of", '-d', 'dump', change=byte(p))
+        yield 'a dump that is longer than the device', of('it is the dump of another device', '-d', 'dump',
+            change=lambda chip: chip.put('dump', plan.image + b'\xFF' * 8192))
+        yield 'a dump that is a byte longer', of('it is the dump of another device', '-d', 'dump',
+            change=lambda chip: chip.put('dump', plan.image + b'\xFF'))
         yield 'bits of the dump that ECC cannot correct', of('uncorrectable', '-d', 'dump',
             change=lambda chip: chip.set('unread', other * 4 + 1))
         for k in (1, 2, 3):
@@ -656,10 +722,171 @@ class Cases:
         yield "continued with an erase of an eraseblock that isn't the dump's", of(f'eraseblock {given_up} of',
             '-s', plan.count - 1, '-d', 'dump', change=done(plan.count - 2, byte(given_up)))
         yield 'page 0 programmed twice without sub-pages', of('which needs sub-pages', change=said('subpagesize', 2048))
+        for p in (taken, given_up):
+            yield f"eraseblock {p} isn't UBI's", of(f'eraseblock {p} of', change=foreign(p))
+            yield f'eraseblock {p} begins with bits that ECC cannot correct', of(
+                f"page 0 of eraseblock {p} of", change=lambda chip, p=p: chip.set('unread', p * 4))
+        yield 'a header that is not there', of('has no header, and step 1 programs page 1',
+            change=lambda chip: chip.device.write_bytes(without_header(chip.data(), SIZES[0][0], unused.steps[0][1])),
+            of_plan='peb 512 clean mapped')
+        yield 'continued, and an eraseblock that a later step erases is not UBI\'s', of(
+            f'eraseblock {given_up} of', '-s', 3, change=done(2, foreign(given_up)))
+        yield 'continued with the erase of an eraseblock that is not UBI\'s', of(f'eraseblock {given_up} of',
+            '-s', plan.count - 1, change=done(plan.count - 2, foreign(given_up)))
         yield 'no folder for scratch files', of('no folder for scratch files',
             start={'environment': {'TMPDIR': '/nowhere'}})
         yield 'a nanddump that is too old', of('no --bb=dumpbad', change=lambda chip: stub(chip, 'nanddump'))
         yield 'a flash_erase that is too old', of('has no -N', change=lambda chip: stub(chip, 'flash_erase'))
+
+    # The anchor of a fastmap, a boot loader, and eraseblocks with large numbers.
+
+    def made(self, layout, of=None, which=0, before=0, bad=(), change=None):
+        """A chip with an image of a layout, and a plan for it."""
+        geometry, sub = SIZES[which]
+        geometry = dataclasses.replace(geometry, pebs=8192)
+        data = image_of(geometry, layout)
+        data = change(data, geometry) if change else data
+        plan = (of or change_of)(layout, geometry, sub, data, bad, before=before)
+        return Chip(self.folder / 'a chip', self.script, plan)
+
+    def carry_out(self, chip, *options):
+        """Carries the whole plan out, after which the chip means the new."""
+        plan = chip.plan
+        chip.expect(chip.run(*options), 0, plan.after[-1], [line for _, line in plan.all_writes()])
+        expect(self.look(plan, plan.after[-1], 'done'), 'the chip means the old')
+
+    def expect_anchor(self, chip, p, *options):
+        peb = chip.plan.geometry.peb
+        line = (f"eraseblock {p} of {chip.device} holds the anchor of a fastmap, and the plan doesn't erase it before "
+                f'all else: erase it (flash_erase -N {chip.device} {p * peb} 1), take a new dump, and plan again')
+        chip.expect_refused(line, *options)
+
+    def try_anchors_that_stay(self):
+        for which, p, options in ((0, 5, ()), (1, 6, ('-d', 'dump')), (2, 7, ()), (2, 0, ())):
+            words = f'{FULL} clean clean'.split()
+            words.insert(p, 'anchor')
+            self.expect_anchor(self.made(' '.join(words), which=which), p, *options)
+
+    def try_anchors_without_a_magic(self):
+        """An anchor counts even if its first header is damaged, or if its bits can't be corrected."""
+        for which in range(len(SIZES)):
+            words = {'change': lambda data, geometry: without_magic(data, geometry, 0), 'which': which}
+            self.expect_anchor(self.made(f'anchor {FULL} clean', **words), 0)
+        for pages in ((0,), (1,), (0, 1)):
+            chip = self.made(f'anchor {FULL} clean', which=2)
+            chip.set('unread', *pages)
+            self.expect_anchor(chip, 0)
+
+    def try_anchors_that_are_erased(self):
+        """The plan erases the anchor by its first step, and may be cut there."""
+        for which in range(len(SIZES)):
+            self.carry_out(self.made(f'{FULL} anchor free', which=which), *(('-d', 'dump') if which else ()))
+        chip = self.made(f'{FULL} anchor free')
+        plan = chip.plan
+        expect(plan.steps[0] == ('erase', 5), f'the plan begins with {plan.steps[0]}')
+        for first, last in ((1, 1), (2, plan.count - 1), (plan.count, plan.count)):
+            chip.set('log')
+            ran = chip.run('-s', first, '-e', last, *(('-d', 'dump') if first > 2 else ()))
+            chip.expect(ran, 0, plan.after[last], [line for _, line in plan.all_writes(first, last)])
+
+    def try_anchors_that_are_erased_late(self):
+        """Something is written before the last anchor is erased. A cut in between would leave it."""
+        self.expect_anchor(self.made(f'{FULL} free anchor', rename_of), 6)
+        self.expect_anchor(self.made(f'{FULL} anchor anchor', rename_of), 6, '-d', 'dump')
+        self.expect_anchor(self.made(f'{FULL} anchor anchor free'), 6)
+        chip = self.made(f'{FULL} free anchor', rename_of)
+        chip.fill(chip.plan.after[2])
+        self.expect_anchor(chip, 6, '-s', 3, '-d', 'dump')
+        # what an earlier step has erased has got another anchor since then
+        chip = self.made(f'{FULL} anchor free')
+        chip.fill(chip.plan.image)
+        self.expect_anchor(chip, 5, '-s', 2)
+
+    def try_anchors_that_are_none(self):
+        """The rest of a fastmap, one whose first header is blank, what a bad eraseblock holds, and what lies behind the
+        first 64 eraseblocks."""
+        self.carry_out(self.made(f'{FULL} fastmap clean', which=1))
+        blank = {'change': lambda data, geometry: without_header(data, geometry, 5)}
+        self.carry_out(self.made(f'{FULL} anchor clean', which=1, **blank))
+        chip = self.made(f'{FULL} bad clean', bad=(5,))
+        peb = chip.plan.geometry.peb
+        anchor = image_of(chip.plan.geometry, 'anchor')
+        chip.device.write_bytes(chip.plan.image[: 5 * peb] + anchor + chip.plan.image[6 * peb :])
+        ran = chip.run('-d', 'dump')
+        wanted = chip.plan.after[-1][: 5 * peb] + anchor + chip.plan.after[-1][6 * peb :]
+        expect(ran.status == 0 and chip.data() == wanted, f'{ran}')
+        self.expect_anchor(self.made(f'{FULL}{" clean" * 58} anchor'), 63)
+        self.carry_out(self.made(f'{FULL}{" clean" * 59} anchor'))
+
+    def try_anchors_behind_a_boot_loader(self):
+        """The 64 eraseblocks are counted from the first header on."""
+        self.expect_anchor(self.made(f'{BOOT} {FULL}{" clean" * 58} anchor', before=5), 68)
+        self.carry_out(self.made(f'{BOOT} {FULL}{" clean" * 59} anchor', before=5))
+        self.expect_anchor(self.made(f'{"boot " * 66} {FULL} clean anchor', before=66), 72)
+
+    def try_the_way_out(self):
+        """What a refusal of an anchor says is done, and the new plan is carried out."""
+        chip = self.made(f'{FULL} clean anchor', rename_of, which=1)
+        plan = chip.plan
+        ran = chip.run()
+        said = re.search(rf'\(flash_erase -N {re.escape(str(chip.device))} (\d+) 1\)', ran.err)
+        expect(said, f'{ran}')
+        words = [FAKES / 'flash_erase', '-N', chip.device, said[1], '1']
+        done = subprocess.run(words, env=chip.environment(), capture_output=True)
+        expect((done.returncode, done.stderr) == (0, b''), f'{done}')
+        image = chip.data()
+        at = 6 * plan.geometry.peb
+        expect(image == plan.image[:at] + b'\xFF' * plan.geometry.peb, 'something else was erased')
+        chip = Chip(chip.folder, self.script, rename_of('again', plan.geometry, plan.sub, image))
+        self.carry_out(chip, '-d', 'dump')
+
+    def try_a_part_that_was_cut_off(self):
+        """The plan of a part, which counts from the beginning of the part, on the whole chip."""
+        for geometry, sub in SIZES:
+            whole = image_of(geometry, f'{BOOT} boot boot {LAYOUTS["used"]}')
+            for of in (change_of, rename_of):
+                cut = of('cut off', geometry, sub, whole[7 * geometry.peb :], (7, 9))
+                chip = Chip(self.folder / 'a chip', self.script, of('whole', geometry, sub, whole, (14, 16), 7))
+                chip.put('plan', cut.text.encode())
+                chip.put('pages', cut.pages_of(cut.count))
+                chip.put('cut off', cut.image)
+                chip.expect_refused('take the dump with --bb=padbad', '-d', 'cut off')
+                line = f"eraseblock {cut.steps[0][1]} of {chip.device} has no header of UBI, and isn't blank"
+                for options in ((), ('-d', 'dump')):
+                    chip.expect_refused(line, *options)
+
+    def try_a_part_at_an_odd_place(self):
+        """The program plans nothing for a part that doesn't begin with an eraseblock of the file."""
+        if not self.program:
+            return
+        plan = self.plans['boot loader, peb 512 mapped']
+        for name, data in plan.files.items():
+            self.program.put(name, data)
+        (self.program.folder / 'pages').unlink(missing_ok=True)
+        self.program.put('dump.img', b'x' * 64 + plan.image)
+        command, *rest = plan.words
+        words = [command, 'dump.img', *rest, '--out', 'out.img', '--pages', 'pages', *plan.geometry.words()]
+        ran = self.program.run(*words, '--bad', '12,14', '--start', str(5 * 512 + 64))
+        expect(ran == ('refused F11 Start peb=512 rest=64\n', 1), f'the program answers {ran}')
+        expect(not (self.program.folder / 'pages').exists(), 'pages are written')
+
+    def try_large_numbers(self):
+        """Bad eraseblocks with numbers of 4,096 and more."""
+        bad = 999, 4096, 4098, 4100
+        chip = self.made(f'table0 leb0 static table1 {"blank " * 4092} bad leb1 bad clean bad clean', bad=bad)
+        touched = {step[1] for step in chip.plan.steps}
+        expect(touched == {4097, 4099}, f'the plan names {touched}')
+        for p in sorted(touched):
+            chip.set('bad', *bad, p)
+            chip.expect_refused(f'the plan names eraseblock {p}, which is BAD', '-d', 'dump')
+        chip.set('bad', bad[0], *bad[2:])
+        chip.expect_refused(f'eraseblock {bad[1]} of', '-d', 'dump')
+        chip.set('bad', *bad, 4101)
+        chip.expect_refused('eraseblock 4101 is bad, and', '-d', 'dump')
+        chip.fill(chip.plan.image)
+        ran = chip.run('-d', 'dump')
+        chip.expect(ran, 0, chip.plan.after[-1], [line for _, line in chip.plan.all_writes()])
+        expect(ran.out.startswith(f'checked: {chip.device}, 4102 eraseblocks, 4 bad; '), f'it prints {ran.out!r}')
 
     # Others.
 
@@ -718,7 +945,7 @@ class Cases:
         (geometry, sub), rng = SIZES[1], random.Random(1)
         image = image_of(geometry, LAYOUTS['clean'])
         made = rules.Plan(rules.Image(geometry, image))
-        made.program(10, 0, rng.randbytes(sub) + b'\xFF' * sub + rng.randbytes(sub))
+        made.program(10, 0, rules.put_ec(geometry).ljust(sub, b'\0') + b'\xFF' * sub + rng.randbytes(sub))
         plan = Plan('two parts', geometry, sub, image, made, ())
         chip = Chip(self.folder / 'a chip', self.script, plan)
         for shell in SHELLS_THERE:
@@ -732,14 +959,16 @@ class Cases:
 
     def try_an_erase_that_was_cut(self):
         """Going on with an erase whose eraseblock can't be read."""
-        chip = self.chip('peb 8192 used mapped')
-        plan, n = chip.plan, chip.plan.count - 1
-        for options in (('-d', 'dump'), ()):
-            chip.fill(plan.after[n])
-            chip.set('unread', plan.steps[n - 1][1] * 4 + 2)
-            ran = chip.run('-s', n, '-e', n, *options)
-            chip.expect(ran, 0, plan.after[n], plan.writes(n))
-        chip.set('unread', plan.steps[0][1] * 4 + 2)
+        for name, page in itertools.product(('mapped', 'unmapped'), (0, 2)):
+            chip = self.chip(f'peb 8192 used {name}')
+            plan, n = chip.plan, chip.plan.count - 1
+            for options in (('-d', 'dump'), ()):
+                chip.fill(plan.after[n])
+                chip.set('unread', plan.steps[n - 1][1] * 4 + page)
+                ran = chip.run('-s', n, '-e', n, *options)
+                chip.expect(ran, 0, plan.after[n], plan.writes(n))
+        others = {step[1] for step in plan.steps} - {plan.steps[n - 1][1]}
+        chip.set('unread', others.pop() * 4 + 2)
         chip.set('log')
         chip.expect_refused("can't be read: ECC: 1 uncorrectable", '-s', n)
 
@@ -826,6 +1055,7 @@ class Cases:
     def try_far_offsets(self):
         """Offsets beyond 4 GiB."""
         peb, page, blocks, p = 2**22, 2**15, 1100, 1050
+        header = rules.counter_header(0, page, 2 * page)
         for shell in SHELLS_THERE:
             chip = self.chip()
             sizes = {'size': peb * blocks, 'erasesize': peb, 'writesize': page, 'subpagesize': page}
@@ -833,8 +1063,11 @@ class Cases:
                 chip.say(name, value)
             chip.set('bad', 3)
             (chip.chip / 'blank').write_bytes(b'\xFF' * peb)
-            chip.device.write_bytes(b'')
+            chip.device.write_bytes(header)
             os.truncate(chip.device, peb * blocks)
+            with open(chip.device, 'r+b') as file:
+                file.seek(p * peb)
+                file.write(header)
             data = [random.Random(k).randbytes(page) for k in range(2)]
             steps = f'erase block={p}', f'program block={p} page=1', f'program block={p} page=127'
             chip.put('plan', ''.join(f'{line}\n' for line in ('steps 3', *steps)).encode())
@@ -855,10 +1088,7 @@ class Cases:
         """The fakes behave like the real tools, which is why the script checks, reads back, and uses dd."""
         chip = self.chip()
         bad, page = chip.plan.bad[0], chip.plan.geometry.page
-        environment = {
-            **os.environ, 'PATH': f'{FAKES}:{os.environ["PATH"]}', 'FAKE_CHIP': str(chip.chip), 'FAKE_DD': REAL_DD,
-            'FAKE_PYTHON': sys.executable, 'CARRY_OUT_ROOT': str(chip.root),
-        }
+        environment = chip.environment()
 
         def run(*words):
             done = subprocess.run([str(FAKES / words[0]), *map(str, words[1:])], env=environment, capture_output=True)

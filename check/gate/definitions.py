@@ -32,8 +32,8 @@ import contracts
 ROOT = os.path.dirname(os.path.dirname(os.path.dirname(os.path.abspath(__file__))))
 CRATES = (
     "ubi_words", "ubi_media", "ubi_config", "ubi_scan", "ubi_detect", "ubi_files", "ubi_table", "ubi_volume",
-    "ubi_compose", "ubi_compare", "ubi_change", "ubi_probe", "ubi_json", "ubi_map", "ubi_commands", "ubi_calls",
-    "ubi_tool",
+    "ubi_laid", "ubi_compose", "ubi_compare", "ubi_change", "ubi_probe", "ubi_json", "ubi_map", "ubi_commands",
+    "ubi_calls", "ubi_tool",
 )
 HEADLINE = ("ubi_commands", "Headline", "Headline")
 # The calls that compute what the headline speaks of, by their files.

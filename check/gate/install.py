@@ -6,9 +6,9 @@ usage: install.py [--tool PROGRAM]
 It installs PROGRAM below an empty prefix, again over that, below DESTDIR, and from an unpacked archive. It compares the
 files and their bytes; the program has to run with an empty environment, the Python module has to load the library that
 is installed with it, the checksums of the archive have to be right, and an archive that is made twice has to be the
-same. If c/build.sh has made no library, it compares only the path that the module tries. What isn't built, is older
-than its sources or can't be written has to be refused, and wrong words too. Ends with 'N passed, M failed', and with
-status 1 if some failed.
+same. A user's mask of 077 changes no mode, and VERSION says if a clone has changes. If c/build.sh has made no library,
+it compares only the path that the module tries. What isn't built, is older than its sources or can't be written has to
+be refused, and wrong words too. Ends with 'N passed, M failed', and with status 1 if some failed.
 """
 import argparse
 import os
@@ -205,6 +205,39 @@ def installed(room, tool):
     yield from looked_at(Path(f'{stage}{prefix}'), room)
 
 
+def masked(room, tool):
+    """Others can read what a user with a mask of 077 installs."""
+    prefix = room / 'a masked prefix'
+    ran = run('sh', '-c', 'umask 077 && exec "$@"', 'sh', ROOT / 'install.sh', '--tool', tool, prefix, cwd=room)
+    modes = {place: mode for place, (_, mode) in files(prefix).items()}
+    all_modes = {place: mode for place, (_, mode) in wanted(tool, ROOT, ROOT / 'c/out').items()}
+    is_right = modes == all_modes | {'share/doc/ubi_tool/VERSION': 0o644}
+    yield f'with a mask of 077: {ran}, {modes}', ran[0] == 0 and is_right
+    folders = {str(path): path.stat().st_mode & 0o777 for path in (prefix, *prefix.rglob('*')) if path.is_dir()}
+    yield f'the folders with a mask of 077: {folders}', set(folders.values()) == {0o755}
+
+
+def cloned(room, tool):
+    """VERSION says whether a clone has changes in files that git knows."""
+    home = house(room, tool)
+    identity = ('-c', 'user.name=a', '-c', 'user.email=a@example')
+    for words in (('init', '-q'), ('add', 'README.md'), (*identity, 'commit', '-q', '-m', 'a')):
+        ran = run('git', '-C', home, *words, HOME=str(room))
+        if ran[0] != 0:
+            yield f'git {words}: {ran}', False
+            return
+    head = run('git', '-C', home, 'rev-parse', 'HEAD')[1].decode().strip()
+    (home / 'new').write_text('git does not know it\n')
+    for changes in ('', ', with changes'):
+        if changes:
+            (home / 'README.md').write_text('changed\n')
+        prefix = room / f'of a clone{changes}'
+        ran = run(home / 'install.sh', '--tool', tool, prefix, cwd=room)
+        place = prefix / 'share/doc/ubi_tool/VERSION'
+        version = place.read_text() if place.is_file() else ''
+        yield f'a clone{changes}: {ran}, {version}', version == f'ubi_tool 0.1.0\ncommit {head}{changes}\n'
+
+
 def packed(room, tool):
     """An archive: made twice, unpacked, checked, run, and installed from."""
     name = 'ubi_tool-0.1.0-linux-x86_64'
@@ -259,7 +292,8 @@ def main():
         sys.exit('install.py: nothing is built yet: run ./ubi_tool --version, or give --tool')
     with tempfile.TemporaryDirectory(prefix='ubi-install-') as room:
         room = Path(room)
-        return report((*refused(room, tool), *installed(room, tool), *packed(room, tool)))
+        return report((*refused(room, tool), *installed(room, tool), *masked(room, tool), *cloned(room, tool),
+                       *packed(room, tool)))
 
 
 if __name__ == '__main__':

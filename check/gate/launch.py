@@ -5,9 +5,9 @@ usage: launch.py [--tool PROGRAM]
 
 It runs the program with words that are right, wrong, not UTF-8, or refused; with a terminal for standard error, which
 has to show how far long work is, and with a pipe, which has to get nothing; and through `./ubi_tool`, called by links,
-in folders and with words that have blanks. With an `rt` that builds another program, the launcher has to run that
-program if a source is newer, and nothing if the build fails. Ends with 'N passed, M failed', and with status 1 if some
-failed.
+in folders and with words that have blanks, and with pipes as images. With an `rt` that builds another program, the
+launcher has to run that program if a source is newer, also one that was edited during the build, and nothing if the
+build fails. Ends with 'N passed, M failed', and with status 1 if some failed.
 """
 import argparse
 import os
@@ -28,7 +28,7 @@ LONG = 2048
 # The crates that the launcher builds, in this order, and the program that it runs.
 CRATES = (
     'ubi_words', 'ubi_media', 'ubi_config', 'ubi_scan', 'ubi_files', 'ubi_detect', 'ubi_table', 'ubi_volume',
-    'ubi_change', 'ubi_compose', 'ubi_compare', 'ubi_json', 'ubi_map', 'ubi_commands', 'ubi_tool',
+    'ubi_laid', 'ubi_change', 'ubi_compose', 'ubi_compare', 'ubi_json', 'ubi_map', 'ubi_commands', 'ubi_tool',
 )
 PROGRAM = 'crates/ubi_tool/out/launched/ubi_tool'
 
@@ -43,13 +43,13 @@ CASES = [
     (['--version'], 2, b'', b'ubi_tool 0.1.0\n'),
     (['list', b'\xff\xfe'], 2, b'', b"error: the words aren't text\n"),
     (['list', 'a', '--peb', '500', '--page', '64'], 2, b'refused G2 PebSize\n', b''),
-    (['list', '/nonexistent', *SMALL], 1, b'cannot read /nonexistent\n', b''),
+    (['list', '/nonexistent', *SMALL], 1, b'cannot read /nonexistent\n', b'/nonexistent: No such file'),
     (['extract', IMAGE, '--id', '7', '--out', '/dev/null', *SMALL], 1, b'refused L1 NoVolume\n', b''),
     (['list', IMAGE, *SMALL, '--bad', '3,,4'], 2, b'', b"error: '--bad <LIST>'"),
     (['change', '/dev/zero', *CHANGE], 2, b'', b"error: '--bad <LIST>' is needed"),
     (['change', '/dev/zero', *CHANGE, '--pebs', '8'], 2, b'', b"error: '--bad <LIST>' is needed"),
     (['rename', '/dev/zero', *RENAME], 2, b'', b"error: '--bad <LIST>' is needed"),
-    (['list', '/dev/zero', *SMALL, '--pebs', '64'], 1, b'cannot read /dev/zero\n', b''),
+    (['list', '/dev/zero', *SMALL, '--pebs', '64'], 1, b'cannot read /dev/zero\n', b'/dev/zero: it has no end\n'),
     (['change', IMAGE, *CHANGE, '--blank', 'no'], 2, b'', b"error: '--blank' takes"),
     (['same', IMAGE, IMAGE, *SMALL], 0, b'same\n', b''),
     (['same', IMAGE, ROOT / 'crates/ubi_tool/data/spare.img', *SMALL], 0, b'same\n', b''),
@@ -125,12 +125,14 @@ def launched(tool, folder):
     (folder / 'beyond' / 'far link').symlink_to('../link')
     shutil.copy(IMAGE, folder / 'an image')
     for name in (f'{home.name}/ubi_tool', 'link', 'beyond/far link'):
-        for words, status, out in ((['list', 'an image', *SMALL], 0, b'geometry peb=512 '),
-                                   (['list', 'no image', *SMALL], 1, b'cannot read no image\n'),
-                                   (['list', 'a * b', *SMALL], 1, b'cannot read a * b\n'),
-                                   (['nonsense word'], 2, b'')):
+        for words, status, out, error in (
+            (['list', 'an image', *SMALL], 0, b'geometry peb=512 ', b''),
+            (['list', 'no image', *SMALL], 1, b'cannot read no image\n', b'no image: No such file'),
+            (['list', 'a * b', *SMALL], 1, b'cannot read a * b\n', b'a * b: No such file'),
+            (['nonsense word'], 2, b'', b'error: '),
+        ):
             ran = run(folder / name, words, cwd=folder)
-            yield f'{name} {words}: {ran}'[:300], fits(ran, status, out, b'' if status < 2 else b'error: ')
+            yield f'{name} {words}: {ran}'[:300], fits(ran, status, out, error)
     with open(IMAGE, 'rb') as image:
         ran = run(folder / 'link', ['list', '/dev/stdin', *SMALL], stdin=image)
     yield f'with standard input: {ran}'[:300], fits(ran, 0, b'geometry peb=512 ', b'')
@@ -138,6 +140,25 @@ def launched(tool, folder):
     for words in (SMALL, []):
         ran = run(folder / 'link', ['list', '/dev/stdin', *words], input=IMAGE.read_bytes())
         yield f'with a pipe as input {words}: {ran}'[:300], fits(ran, 0, b'geometry peb=512 ', b'')
+        for command in (['normalise'], ['extract', '--id', '0']):
+            wanted, found = folder / 'of a file', folder / 'of a pipe'
+            answer = run(folder / 'link', [*command, IMAGE, '--out', wanted, *words])
+            ran = run(folder / 'link', [*command, '/dev/stdin', '--out', found, *words], input=IMAGE.read_bytes())
+            is_same = answer[0] == 0 and ran == answer and found.read_bytes() == wanted.read_bytes() != b''
+            yield f'{command} with a pipe as input {words}: {ran}'[:300], is_same
+            found.unlink(missing_ok=True)
+
+
+def tunables(folder):
+    """The program gets the user's tunables of the C library, or that which asks for huge pages."""
+    (folder / 'tuned').mkdir()
+    home = house(folder / 'tuned')
+    (home / PROGRAM).write_text('#!/bin/sh\necho "$GLIBC_TUNABLES"\n')
+    (home / PROGRAM).chmod(0o755)
+    ours, theirs = 'glibc.malloc.hugetlb=1', 'glibc.malloc.check=0'
+    for given, wanted in (({}, ours), ({'GLIBC_TUNABLES': ''}, ours), ({'GLIBC_TUNABLES': theirs}, theirs)):
+        ran = run(home / 'ubi_tool', [], env={'PATH': '/usr/bin:/bin', **given})
+        yield f'with {given}: {ran}', ran == (0, f'{wanted}\n'.encode(), b'')
 
 
 def house(folder):
@@ -146,6 +167,7 @@ def house(folder):
     for crate in CRATES:
         (home / 'crates' / crate / 'src').mkdir(parents=True)
         (home / 'crates' / crate / 'src/lib.rt').write_text('')
+    (home / 'crates/ubi_table/src/topic.rt').write_text('')
     (home / PROGRAM).parent.mkdir(parents=True)
     (home / 'crates.txt').write_text('')
     for source in sources(home):
@@ -159,7 +181,8 @@ def sources(home):
 
 
 def kit(folder):
-    """A folder with an `rt` that builds a program which prints its words, unless there is a file `broken` beside it."""
+    """A folder with an `rt` that builds a program which prints its words, unless there is a file `broken` beside it. If
+    there is a link `edited`, what it leads to is edited during the build."""
     place = folder / 'kit'
     place.mkdir()
     (place / 'program').write_text('#!/bin/sh\necho "new $1"\nexit 7\n')
@@ -167,6 +190,7 @@ def kit(folder):
 echo "$1" >>{place}/calls
 case $1 in
     version) echo rattle-kit-13b ;;
+    lib) [ ! -e {place}/edited ] || {{ sleep 0.02 && touch {place}/edited; }} ;;
     run) [ ! -e {place}/broken ] && cp {place}/program out/ubi_tool ;;
 esac
 """)
@@ -196,12 +220,30 @@ def rebuilt(tool, folder):
         ran = run(home / 'ubi_tool', ['a word'], env=path)
         yield f'again: {ran}', ran == (7, b'new a word\n', b'') and not calls.exists()
         os.utime(source, (1, 1))
+    yield from edited(home, tools, path)
     os.utime(home / PROGRAM, (0, 0))
     (tools / 'broken').write_text('')
     ran = run(home / 'ubi_tool', ['a word'], env=path)
     yield f'a build that fails: {ran}', fits(ran, 1, b'', b'ubi_tool: building, once')
     ran = run(home / 'ubi_tool', ['a word'], env={'PATH': '/usr/bin:/bin'})
     yield f'without rt: {ran}', fits(ran, 1, b'', b'ubi_tool: not built yet')
+
+
+def edited(home, tools, path):
+    """A source that is edited during the build is newer than what is built. One of the future isn't."""
+    source = home / 'crates/ubi_table/src/topic.rt'
+    os.utime(home / PROGRAM, (0, 0))
+    (tools / 'edited').symlink_to(source)
+    ran = run(home / 'ubi_tool', ['a word'], env=path)
+    yield f'a source that is edited during the build: {ran}', fits(ran, 7, b'new a word\n', b'ubi_tool: building')
+    (tools / 'edited').unlink()
+    for what, line in (('after that', b'ubi_tool: building'), ('again', b'')):
+        ran = run(home / 'ubi_tool', ['a word'], env=path)
+        yield f'{what}: {ran}', fits(ran, 7, b'new a word\n', line)
+    for seconds, line in ((2**32 - 1, b'ubi_tool: building'), (2**32 - 1, b'')):
+        os.utime(source, (seconds, seconds))
+        ran = run(home / 'ubi_tool', ['a word'], env=path)
+        yield f'a source of the future: {ran}', fits(ran, 7, b'new a word\n', line)
 
 
 def report(cases):
@@ -223,7 +265,7 @@ def main():
         room = Path(room)
         shutil.copy(tool, room / 'ubi_tool')
         tool = room / 'ubi_tool'
-        return report((*statuses(tool), *watching(tool, room), *launched(tool, room), *rebuilt(tool, room)))
+        return report((*statuses(tool), *watching(tool, room), *launched(tool, room), *tunables(room), *rebuilt(tool, room)))
 
 
 if __name__ == '__main__':

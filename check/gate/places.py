@@ -25,7 +25,8 @@ from pathlib import Path
 ROOT = Path(__file__).resolve().parents[2]
 CRATES = (
     'ubi_words', 'ubi_media', 'ubi_config', 'ubi_scan', 'ubi_detect', 'ubi_files', 'ubi_table', 'ubi_volume',
-    'ubi_change', 'ubi_compose', 'ubi_compare', 'ubi_json', 'ubi_map', 'ubi_commands', 'ubi_calls', 'ubi_tool',
+    'ubi_laid', 'ubi_change', 'ubi_compose', 'ubi_compare', 'ubi_json', 'ubi_map', 'ubi_commands', 'ubi_calls',
+    'ubi_tool',
 )
 LISTED = Path(__file__).resolve().with_name('places.txt')
 # The proofs by hand.

@@ -211,7 +211,7 @@ class Case:
         except ubi.Refused as refused:
             is_right = right[0] == 1 and f"{refused}\n".encode() == right[1]
         else:
-            lines = right[1].decode().splitlines()
+            lines = [line for line in right[1].decode().splitlines() if line.startswith("--peb ")]
             sizes = [f"--peb {of.peb_size} --page {of.page} --vid {of.vid_offset} --data {of.data_offset}"
                 for of in (one.sizes for one in found)]
             is_right = right[0] == 0 and len(found) == len(lines)

@@ -8,14 +8,16 @@ The files are those of dumps.py: images with anything around them, damaged, cut,
 and hostile ones. For each, `geometry` has to print the lines of geometry.py, or the line of the cause for which there
 are none; and what it prints has to be true, unless docs/FORMAT.md allows the wrong answer. Then `list`, `check`,
 `extract`, `unpack` and `normalise` of the file, without a number, have to answer what the rules say about the image
-that lies there with the first geometry: its bytes without those around it and without out-of-band bytes. If no geometry
-can be found, they have to print the line of `geometry`, end with status 1 and write nothing.
+that lies there with the first geometry: every whole eraseblock on its grid, without out-of-band bytes. If no geometry
+can be found, they have to print the line of `geometry`, end with status 1 and write nothing. If the file has several
+images that are apart, they have to refuse it likewise, with the spans of all (F10), and to read it if they are given
+the first line.
 
 By default there are 1,000 files (--count) of the seed 1 (--seed), and no files on which only `geometry` is run
 (--geometry). They lie in a new folder below FOLDER (/tmp by default), which is removed afterwards. Without --tool the
-program is built first, unless it is built already. It counts the right, wrong and refused answers. The last line is 'N
-passed, M failed', and the exit status is 0 if none failed; a file that failed can be made again by giving its number to
---first: the kind of a file depends on its number.
+program is built first, unless it is built already. It counts the right, wrong and refused answers, and the files whose
+images are apart. The last line is 'N passed, M failed', and the exit status is 0 if none failed; a file that failed can
+be made again by giving its number to --first: the kind of a file depends on its number.
 """
 import collections
 import os
@@ -23,8 +25,8 @@ import subprocess
 
 import dumps
 import rules
-from fuzz import Failure, Runner, built, finish, options, run_cases, taken
-from geometry import geometries, printed
+from fuzz import Failure, Runner, built, complaints, finish, options, run_cases, taken
+from geometry import answer, printed
 from rules import Image, Refused
 
 
@@ -36,23 +38,28 @@ class Case(Runner):
         self.rng = rng
         self.kind, self.file = dumps.file_of(rng, k)
         self.path = self.put("file", self.file.data)
-        self.volumes = os.path.join(folder, "volumes")
+        self.volumes, self.typed = os.path.join(folder, "volumes"), []
         # An earlier file that failed may have left these.
         taken(self.volumes)
         self.written()
 
     def whole(self, words):
-        """The words of a command as they are: no number is given."""
-        return words
+        """The words of a command as they are, if no number is given; otherwise with these."""
+        return [*words, *self.typed]
 
     def look(self):
-        """Compares each answer. Returns whether the geometry is right, wrong or refused."""
+        """Compares each answer. Returns whether the geometry is right, wrong or refused, and whether there are several
+        images that are apart."""
         judgement, text = self.look_geometry()
         if judgement == "refused":
             self.look_refused(text)
-        else:
-            self.look_found(geometries(self.file.data)[0])
-        return judgement
+            return judgement, False
+        found = answer(self.file.data)
+        if found.is_apart:
+            self.look_refused(found.refusal())
+            self.typed = found.geometries[0].line().split()
+        self.look_found(found.geometries[0])
+        return judgement, found.is_apart
 
     def look_geometry(self):
         """Compares the answer with the rule and with the truth. Returns whether it is right, wrong or refused, and what
@@ -60,11 +67,11 @@ class Case(Runner):
         text, status = printed(self.file.data)
         judgement = dumps.judged(self.file, text, status)
         ran = subprocess.run([self.tool, "geometry", self.path], capture_output=True)
-        answer = (ran.stdout.decode(), ran.returncode)
-        if answer != (text, status) or ran.stderr:
-            judged = dumps.judged(self.file, *answer)
-            raise Failure(f"{self.kind}: geometry answers {answer}, which is {judged}, and the rule {(text, status)}, "
-                f"which is {judgement}; {ran.stderr.decode()}")
+        said, error = (ran.stdout.decode(), ran.returncode), complaints(ran.stderr, ran.stdout)
+        if said != (text, status) or error:
+            judged = dumps.judged(self.file, *said)
+            raise Failure(f"{self.kind}: geometry answers {said}, which is {judged}, and the rule {(text, status)}, "
+                f"which is {judgement}; {error.decode()}")
         if judgement == "wrong" and not dumps.may_be_named(self.file, text):
             what = f"{text.splitlines()[0]}, {dumps.fault(self.file, text)}"
             raise Failure(f"{self.kind}: the rule itself is wrong: {what}")
@@ -109,10 +116,11 @@ def main():
 
     answers, failed = run_cases(words, {
         "": looks(words.count, Case.look),
-        "geometry": looks(words.geometry, lambda case: case.look_geometry()[0]),
+        "geometry": looks(words.geometry, lambda case: (case.look_geometry()[0], False)),
     })
-    counts = collections.Counter(answers)
-    print(", ".join(f"{counts[judgement]} {judgement}" for judgement in ("right", "wrong", "refused")))
+    counts, several = collections.Counter(judgement for judgement, _ in answers), sum(apart for _, apart in answers)
+    rights = ", ".join(f"{counts[judgement]} {judgement}" for judgement in ("right", "wrong", "refused"))
+    print(f"{rights}; {several} with images that are apart")
     finish(len(answers), failed)
 
 

@@ -7,13 +7,13 @@ usage: dumps.py [--seed N ..] [--count N] [--first N] [--ubinize] [--wrong] [--k
 An image is one of fuzz.py's Maker, or one as ubinize writes it or a kernel leaves it; with --ubinize it is one of
 ubinize itself, which needs mtd-utils. The kinds of files are those of KINDS below, in turn, or one of ALL (--kind). An
 answer is right if the sizes, the offsets and the out-of-band bytes are the true ones, the true page is among the pages,
-and the place lies on the grid of the image's eraseblocks and holds each of them that starts with a header. A file whose
-image has only one such eraseblock, or that holds no image, has to be refused. A wrong answer is *named* if
-docs/FORMAT.md says that it may be given, and otherwise *other*.
+and the place is every whole eraseblock of the file on the grid of the image's eraseblocks, and holds each of them that
+starts with a header. A file whose image has only one such eraseblock, or that holds no image, has to be refused. A
+wrong answer is *named* if docs/FORMAT.md says that it may be given, and otherwise *other*.
 
 By default there are 2,000 files (--count) of the seed 1 (--seed). It prints for each kind how many are right, wrong and
-refused, and each wrong answer with its number, with which --first makes it again (--wrong prints no table). It ends
-with status 1 if one is wrong that isn't named.
+refused, how many of them have several images that are apart, and each wrong answer with its number, with which --first
+makes it again (--wrong prints no table). It ends with status 1 if one is wrong that isn't named.
 """
 import argparse
 import collections
@@ -29,7 +29,7 @@ import tempfile
 
 import rules
 from fuzz import Maker, renumbered
-from geometry import NoSize, find, printed
+from geometry import NoSize, answer, printed
 from rules import LAYOUT, Geometry, Record, Refused, Vid
 
 # The sizes of an eraseblock and of a page, the offsets, and how often they are taken.
@@ -207,6 +207,7 @@ def whole(geometry, blocks, named=()):
 LINE = re.compile(
     r"--peb (\d+) --page (\d+) --vid (\d+) --data (\d+)"
     r"(?: --oob (\d+))?(?: --start (\d+) --length (\d+))?\n")
+SPAN = re.compile(r"--start (\d+) --length (\d+)\n")
 
 
 def is_true(file, truth, answer):
@@ -215,15 +216,17 @@ def is_true(file, truth, answer):
     places = truth.headers(file)
     return ((peb // page * (page + oob), vid, data) == (truth.size, g.vid, g.data)
         and (g.page, truth.oob) in [(line[1], line[4]) for line in answer]
-        and (start - truth.start) % truth.size == 0 and length % truth.size == 0
-        and start + length <= len(file)
-        and len(places) > 1 and start <= places[0] and places[-1] + truth.size <= start + length
+        and start == truth.start % truth.size and length == (len(file) - start) // truth.size * truth.size
+        and len(places) > 1 and places[-1] + truth.size <= start + length
         and (g.peb, truth.oob) in [(line[0], line[4]) for line in answer if line[1] == g.page])
 
 
 def numbers_of(file, text):
-    """The numbers of some lines of an answer; None if one isn't such a line."""
-    lines = [LINE.fullmatch(line) for line in text.splitlines(True)]
+    """The numbers of the lines of an answer, but for those of spans, which come last; None if a line isn't right."""
+    lines = text.splitlines(True)
+    while lines and SPAN.fullmatch(lines[-1]):
+        lines.pop()
+    lines = [LINE.fullmatch(line) for line in lines]
     if not lines or None in lines:
         return None
     rests = ((int(line[5] or 0), int(line[6] or 0), int(line[7] or len(file))) for line in lines)
@@ -1094,12 +1097,20 @@ def fault(file, text):
 def reason(file):
     """Why a file is refused, in a few words, and why its size isn't sure; None if it isn't refused."""
     try:
-        find(file)
+        answer(file)
     except NoSize as refused:
         return f"F2 {refused.why}"
     except Refused as refused:
         return str(refused).split()[0]
     return None
+
+
+def is_apart(file):
+    """Whether a file has several images that are apart."""
+    try:
+        return answer(file).is_apart
+    except Refused:
+        return False
 
 
 def row_of(name, file):
@@ -1129,7 +1140,9 @@ def main():
         text, status = printed(file.data)
         judgement = judged(file, text, status)
         is_other = judgement == "wrong" and not may_be_named(file, text)
-        counts[row_of(name, file)].update(["other" if is_other else judgement, reason(file.data) or "found"])
+        is_several = ["apart"] if is_apart(file.data) else []
+        counts[row_of(name, file)].update(
+            ["other" if is_other else judgement, reason(file.data) or "found", *is_several])
         if judgement == "wrong":
             wrong += is_other
             truths = [(*dataclasses.astuple(truth)[:1], truth.oob, truth.start, truth.count) for truth in file.truths]
@@ -1141,7 +1154,7 @@ def main():
 
 
 def print_table(counts):
-    print("| files | right | wrong, named | wrong, other | refused |\n|---|---|---|---|---|")
+    print("| files | right | wrong, named | wrong, other | apart | refused |\n|---|---|---|---|---|---|")
     total = collections.Counter()
     for name in sorted(counts, key=list(ALL).index):
         total.update(counts[name])
@@ -1152,7 +1165,7 @@ def print_table(counts):
 def print_row(name, count):
     why = ", ".join(f"{cause} {count[cause]}" for cause in sorted(count) if cause.startswith("F"))
     refused = f"{count['refused']}{': ' if why else ''}{why}"
-    print(f"| {name} | {count['right']} | {count['wrong']} | {count['other']} | {refused} |")
+    print(f"| {name} | {count['right']} | {count['wrong']} | {count['other']} | {count['apart']} | {refused} |")
 
 
 if __name__ == "__main__":

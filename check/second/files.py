@@ -3,8 +3,12 @@
 
 usage: files.py [--dir FOLDER] [--tool PROGRAM]
 
-A file that was read may not be written, except IMAGE by --out, and not by `map`; and the pages may not be written to
-the file of the output. Each case is tried with the file's name, with other paths to it, and with links of both kinds.
+A file that was read may not be written, except IMAGE by --out of `normalise`, `change` and `rename`: there a new file
+takes the place of the one that --out names, with its mode, when all is done, and other names of the old one keep it. If
+then the pages can't be written, IMAGE stays. The pages may not be written to the file of the output. Each case is tried
+with the file's name, with other paths to it, and with links of both kinds. An ordinary file that is standard output may
+not be an output either.
+
 Other outputs exist already, or are links, folders, devices and pipes, or can't be written; and some names have blanks,
 line ends or a leading hyphen.
 
@@ -43,6 +47,7 @@ ODD = (
     "-%s", "--%s", "%s ", " %s", "%s\n", "a\n%s", "%s\t", "\\%s", "%s*", "caf\xe9 %s", "%s.", "\"%s\"", "%s\r",
     "\u200b%s", "%s\u00a0",
 )
+REPLACING = ("normalise", "change", "rename")
 WORDS = {
     "compose": ["compose", "spec"],
     "build": ["build", "config"],
@@ -83,9 +88,14 @@ class Case:
         return {"--out": self.out} | ({} if self.pages is None else {"--pages": self.pages})
 
     @property
+    def image(self):
+        """The file that is read."""
+        return self.stdin if self.words[1] == "/dev/stdin" else self.words[1]
+
+    @property
     def early(self):
         """The option whose file may have been written even though the work isn't done, since the other one can't be
-        written; or None."""
+        written; or None. It isn't known here whether the output is IMAGE, which is written last."""
         if self.pages is None or self.line is None or not self.line.startswith("cannot write "):
             return None
         return "--out" if self.line == f"cannot write {self.pages}\n" else "--pages"
@@ -131,7 +141,9 @@ def files_read():
     for path in paths("image"):
         yield cannot_write(["map", "image"], path)
         yield cannot_write(["map", path], "image")
-        for command in ("normalise", "extract", "change", "rename"):
+        yield cannot_write(WORDS["extract"], path)
+        yield cannot_write(["extract", path, *WORDS["extract"][2:]], "image")
+        for command in REPLACING:
             yield Case(WORDS[command], path)
             yield Case([command, path, *WORDS[command][2:]], "image")
         for command, more in ((command, more) for command in ("change", "rename") for more in OTHERS):
@@ -386,39 +398,55 @@ class Looker:
         """What is wrong with the answer to a case; None if nothing is."""
         keys = {path: key_of(path) for path in self.before}
         places = {option: key_of(file_of(self.folder, word)) for option, word in case.outs.items()}
+        replaced = file_of(self.folder, case.out) if self.is_image(case, places["--out"]) else None
+        if replaced:
+            places["--out"] = replaced
         try:
             printed, status, piped = self.run(case)
         except subprocess.TimeoutExpired:
             return "it doesn't end"
-        is_done = case.line is None
-        lines, new = answer(case) if is_done or case.early else (None, {})
+        is_done, early = case.line is None, case.early
+        if replaced and early == "--out":
+            early = None
+        lines, new = answer(case) if is_done or early else (None, {})
         line = (lines if is_done else case.line.replace("FOLDER", self.folder)).encode()
         if status != (0 if is_done else 1):
             return f"its status is {status}, and it prints {printed[:200]!r}"
-        if printed not in [data + line for data in self.streamed(case, new, "/dev/stdout")]:
+        if printed not in [data + line for data in self.streamed(case, early, new, "/dev/stdout")]:
             return f"it prints {printed[:200]!r} and not {line[:200]!r}, or other bytes before that"
-        if piped not in self.streamed(case, new, "pipe"):
+        if piped not in self.streamed(case, early, new, "pipe"):
             return "the pipe gets something else"
-        return self.wrong_file(case, keys, places, new)
+        return self.wrong_entry(replaced) or self.wrong_file(case, early, keys, places, new)
 
-    def streamed(self, case, new, path):
+    def is_image(self, case, place):
+        """Whether the output is IMAGE, of a command that may replace it."""
+        return case.command in REPLACING and place == key_of(file_of(self.folder, case.image))
+
+    def streamed(self, case, early, new, path):
         """What a stream may get: what is written there; if that may be written or not, also nothing."""
         if case.line is None:
             return [b"".join(new[option] for option, word in case.outs.items() if word == path)]
-        return [b"", *([new[case.early]] if case.early and case.outs[case.early] == path else [])]
+        return [b"", *([new[early]] if early and case.outs[early] == path else [])]
 
-    def wrong_file(self, case, keys, places, new):
+    def wrong_entry(self, replaced):
+        """What is wrong with the entries of the folder: each has to be what it was, but the one that was replaced may be
+        another file."""
+        has = entries(self.folder)
+        for path, (mode, number, link) in self.had.items():
+            is_same = has.get(path) == (mode, number, link)
+            if not is_same and not (path == replaced and path in has and has[path][::2] == (mode, link)):
+                return f"{os.path.relpath(path, self.folder)!r} isn't what was there"
+        return None
+
+    def wrong_file(self, case, early, keys, places, new):
         """What is wrong with the files: each written one has to have its new bytes, and each other one its old ones, or
         not exist."""
-        after, has = held(self.folder), entries(self.folder)
-        for path, what in self.had.items():
-            if has.get(path) != what:
-                return f"{os.path.relpath(path, self.folder)!r} isn't what was there"
+        after = held(self.folder)
         for path in {*self.before, *after, *(place for place in places.values() if self.is_new(place))}:
-            written = [option for option, place in places.items() if place == keys.get(path, path)]
+            written = [option for option, place in places.items() if place in (keys.get(path, path), path)]
             right = [new[option] for option in written] if case.line is None else []
-            if case.early in written:
-                right.append(new[case.early])
+            if early in written:
+                right.append(new[early])
             if case.line is not None or not written:
                 right.append(self.before.get(path))
             if after.get(path) not in right:
@@ -431,7 +459,7 @@ class Looker:
         return isinstance(place, str) and place.startswith(self.folder)
 
     def is_spoiled(self):
-        return held(self.folder) != self.before
+        return held(self.folder) != self.before or entries(self.folder) != self.had
 
 
 def wrongs(tool, within):
@@ -442,6 +470,36 @@ def wrongs(tool, within):
             looker = Looker(tool, os.path.realpath(folder))
             while left and not looker.is_spoiled():
                 yield left[0], looker.wrong(left.pop(0))
+
+
+def printed_to(tool, within):
+    """Each command that writes a file, whose output is the ordinary file that it prints to, in words."""
+    for command, out in ((command, out) for command in WORDS for out in (*paths("old"), "/dev/stdout")):
+        with tempfile.TemporaryDirectory(dir=within) as folder:
+            fill(folder)
+            before, out = held(folder), out.replace("FOLDER", folder)
+            with open(os.path.join(folder, "old"), "r+b") as stdout:
+                words = [tool, *spelled(Case(WORDS[command], out), folder)]
+                ran = subprocess.run(words, stdout=stdout, stderr=subprocess.DEVNULL, cwd=folder, timeout=10)
+            line = f"cannot write {out}\n".encode()
+            before |= {path: line + data[len(line) :] for path, data in before.items() if data == FILES["old"]}
+            is_right = ran.returncode == 1 and held(folder) == before
+            yield f"{command} > old --out {out}", None if is_right else f"its status is {ran.returncode}, or a file is spoiled"
+
+
+def printed_onto(tool, within):
+    """Each command that may replace IMAGE, whose output is IMAGE, to which it prints behind the last byte."""
+    for command, out in ((command, out) for command in REPLACING for out in ("image", "image.soft", "/dev/stdout")):
+        with tempfile.TemporaryDirectory(dir=within) as folder:
+            fill(folder)
+            before, had = held(folder), entries(folder)
+            with open(os.path.join(folder, "image"), "ab") as stdout:
+                words = [tool, *spelled(Case(WORDS[command], out), folder)]
+                ran = subprocess.run(words, stdout=stdout, stderr=subprocess.DEVNULL, cwd=folder, timeout=10)
+            line = f"cannot write {out}\n".encode()
+            before |= {path: data + line for path, data in before.items() if data == IMAGE}
+            is_right = ran.returncode == 1 and held(folder) == before and entries(folder) == had
+            yield f"{command} >> image --out {out}", None if is_right else f"its status is {ran.returncode}, or a file is spoiled"
 
 
 def unpack_into(tool, folder, name, is_taken, is_other=False):
@@ -508,7 +566,7 @@ def main():
     words.add_argument("--tool", help="the program; the one that ./ubi_tool starts by default")
     words = words.parse_args()
     tool, passed, failed = os.path.abspath(built(words.tool)), 0, 0
-    for case, wrong in (*wrongs(tool, words.dir), *unpacking(tool, words.dir)):
+    for case, wrong in (*wrongs(tool, words.dir), *printed_to(tool, words.dir), *printed_onto(tool, words.dir), *unpacking(tool, words.dir)):
         if wrong:
             print(f"{case}: {wrong}", flush=True)
         passed, failed = passed + (not wrong), failed + bool(wrong)

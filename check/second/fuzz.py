@@ -74,6 +74,10 @@ NO_LISTS = (
 )
 
 
+# How the lines begin that say on standard error how a file is read, and what lies in it. No answer depends on them.
+NOTES = re.compile(rb"reads bytes |counts eraseblocks |leaves out |.* has a fastmap, ")
+
+
 class Failure(Exception):
     """What was expected of the program, and what it did."""
 
@@ -88,6 +92,14 @@ def built(tool=None):
     if tool is None:
         subprocess.run([LAUNCHER, "--help"], stderr=subprocess.DEVNULL)
     return tool or TOOL
+
+
+def complaints(error, printed):
+    """What is printed on standard error, but for the lines that say how a file is read, and for the reason why the file
+    can't be read or written that standard output names."""
+    named = re.search(rb"cannot (?:read|write) (.*)\n\Z", printed)
+    begins = (named[1] + b": ",) if named else ()
+    return b"".join(line for line in error.splitlines(True) if not NOTES.match(line) and not line.startswith(begins))
 
 
 def taken(folder):
@@ -633,16 +645,17 @@ class Runner:
         """The same for words that are complete already."""
         ran = subprocess.run([self.tool, *words], capture_output=True)
         answer, files = (ran.stdout.decode(), ran.returncode), (self.written(), taken_file(self.pages))
-        if (answer, files) != ((lines, status), (written, pages)) or ran.stderr:
+        error = complaints(ran.stderr, ran.stdout)
+        if (answer, files) != ((lines, status), (written, pages)) or error:
             wrong = [name for name, *both in zip(("output", "pages"), files, (written, pages)) if both[0] != both[1]]
             raise Failure(f"{words} answers {answer} and not {(lines, status)}, and writes "
-                f"{'other ' + ' and '.join(wrong) if wrong else 'what is right'}; {ran.stderr.decode()}")
+                f"{'other ' + ' and '.join(wrong) if wrong else 'what is right'}; {error.decode()}")
 
     def expect_wrong(self, words):
         """Runs the program with wrong words: it may print nothing except on standard error, and write nothing."""
         ran = subprocess.run([self.tool, *words], capture_output=True)
         answer = (ran.stdout, ran.returncode, self.written(), taken_file(self.pages))
-        if answer != (b"", 2, None, None) or not ran.stderr:
+        if answer != (b"", 2, None, None) or not complaints(ran.stderr, ran.stdout):
             raise Failure(f"{words} answers {answer[:2]}, though the words are wrong")
 
     def change(self, path, image, number, lnum, new, more=()):

@@ -1,6 +1,6 @@
 """A second reading of the section "How a geometry is found" of docs/FORMAT.md: the geometries that the headers of a
-file give, if nothing else is known about it, and the part of the file that is the image; or the cause for which none is
-found.
+file give, if nothing else is known about it, the part of the file that is the image, and the spans of all images if
+there are several; or the cause for which no geometry is found.
 
 It was written from that section and not from the program, so that the answers of the program can be compared with it.
 It says each rule once, in the document's words. A refusal is the exception `Refused`, which holds the line that the
@@ -10,7 +10,7 @@ import collections
 import dataclasses
 import math
 
-from rules import LAYOUT, RECORD, Geometry, Refused, is_blank, read_ec
+from rules import LAYOUT, RECORD, Geometry, Refused, is_blank, part_of, read_ec, read_vid, seen
 
 MAGIC, VID_MAGIC = b"UBI#", b"UBI!"
 # Headers lie at multiples of so many bytes, and have as many.
@@ -57,10 +57,15 @@ def headers(file):
 
 @dataclasses.dataclass(frozen=True)
 class Group:
-    """The headers of an image, by their places: two or more that name the same offsets."""
+    """The headers of a key, by their places: those that name its offsets, and its number or none."""
 
     offsets: tuple
+    number: int
     places: list
+
+    @property
+    def key(self):
+        return self.offsets, self.number
 
     @property
     def said(self):
@@ -76,7 +81,7 @@ class Group:
 
 
 def groups(found):
-    """The groups of headers that give a size, in the order in which their offsets and numbers are first named."""
+    """The groups that have a size and speak for themselves, in the order in which their keys are first named."""
     named = collections.defaultdict(list)
     for header in found:
         named[header.offsets, header.number].append(header.place)
@@ -86,7 +91,7 @@ def groups(found):
             places = sorted(places + named.get((offsets, 0), []))
         elif offsets in with_number:
             continue
-        group = Group(offsets, places)
+        group = Group(offsets, number, places)
         if len(places) > 1 and group.said:
             yield group
 
@@ -174,6 +179,19 @@ def has_room(q, offsets):
     return offsets[1] + 64 <= q
 
 
+def start_most(group, q):
+    """Whether more than half of the eraseblocks from the first header to the last start with one."""
+    return 2 * len(group.places) > (group.places[-1] - group.places[0]) // q + 1
+
+
+def start_each_second(group, q):
+    """Whether at least a quarter of those with even numbers do, and of those with odd numbers."""
+    count = (group.places[-1] - group.places[0]) // q + 1
+    there = {(place - group.places[0]) // q for place in group.places}
+    seconds = (range(count)[first::2] for first in (0, 1))
+    return all(4 * len(there.intersection(second)) >= len(second) for second in seconds)
+
+
 def is_odd_with_more(q, offsets):
     """Whether q could be two or four eraseblocks that are no multiple of 64: it is no multiple of 128, and a page with
     out-of-band bytes fits half or a quarter of it."""
@@ -236,11 +254,12 @@ def could_be(file, group, q, part):
 
 def doubt(file, group, q):
     """Why it isn't sure that these headers are those of eraseblocks of q bytes; None if it is."""
-    first, last = group.places[0], group.places[-1]
     if not has_room(q, group.offsets):
         return "room"
-    if 2 * len(group.places) <= (last - first) // q + 1:
+    if not start_most(group, q):
         return "half"
+    if not start_each_second(group, q):
+        return "second"
     if is_odd_with_more(q, group.offsets):
         return "odd"
     if not ends_blank(file, group, q):
@@ -266,8 +285,8 @@ def plain_image(file, found):
     numbers = {header.number for header in starts} - {0}
     if len(starts) != len(file) // q or len({header.offsets for header in starts}) > 1 or len(numbers) > 1:
         return None
-    group = Group(found[0].offsets, [header.place for header in starts])
     # Their group is that of the number that one of them names, or of no number if none does.
+    group = Group(found[0].offsets, max(numbers, default=0), [header.place for header in starts])
     of_image = [header for header in found if header.offsets == group.offsets and header.number in numbers | {0}]
     others = [header.place for header in of_image if header.place % q]
     if any(place % part == 0 for place in others for part in parts(q, group.offsets)):
@@ -275,14 +294,14 @@ def plain_image(file, found):
     return None if doubt(file, group, q) else (group, q)
 
 
-def image_of(file):
-    """The headers of the image in a file, and the size of its eraseblocks, which is sure."""
-    found = headers(file)
+def image_of(file, found):
+    """The headers of the image in a file, the size of its eraseblocks, which is sure, and whether the file is plainly
+    the image."""
     if not found:
         raise Refused("F1 NoHeader")
     plain = plain_image(file, found)
     if plain:
-        return plain
+        return *plain, True
     if len({(header.offsets, header.number) for header in found}) > TOP_KEYS:
         raise NoSize("keys")
     # If several speak for as many bytes, `max` returns the first.
@@ -295,22 +314,61 @@ def image_of(file):
     why = doubt(file, group, q)
     if why:
         raise NoSize(why)
-    return group, q
+    return group, q, False
 
 
 def bounds(file, group, q):
-    """Where the image begins and where it ends: it has the eraseblocks with its headers, and the blank ones beside
-    them."""
+    """Where the image begins and where it ends: it is every whole eraseblock of the file on the grid of its headers."""
+    begin = group.places[0] % q
+    return begin, begin + (len(file) - begin) // q * q
 
-    def is_blank_block(at):
-        return 0 <= at <= len(file) - q and is_blank(file[at : at + 64])
 
-    begin, end = group.places[0], group.places[-1] + q
-    while is_blank_block(begin - q):
-        begin -= q
-    while is_blank_block(end):
-        end += q
-    return begin, end
+# Other images in the file.
+
+
+def is_member(file, pages, start):
+    """Whether the eraseblock that starts there is a member of a LEB."""
+    g = pages.geometry
+    vid = start + pages.place(g.vid)
+    state, header = read_vid(g, file[vid : vid + 64])
+    is_aside = read_ec(g, file[start : start + 64])[0] == "blank" or state != "valid"
+    return not is_aside and (header.volume <= 127 or header.volume == LAYOUT)
+
+
+def is_kin(group, image, q):
+    """Whether a group names the offsets of the image, and all its headers stand on the image's grid."""
+    return group.offsets == image.offsets and all((place - image.places[0]) % q == 0 for place in group.places)
+
+
+def stands_apart(file, pages, begin, end, q, place):
+    """Whether no whole eraseblock that is a member of a LEB has a place; they lie from BEGIN to END."""
+    start = place - (place - begin) % q
+    return not begin <= place < end or not is_member(file, pages, start)
+
+
+def span(file, group, q):
+    """From the first header of a group to the end of the eraseblock of the last one, or to the end of the file."""
+    begin = group.places[0]
+    return begin, min(group.places[-1] + q, len(file)) - begin
+
+
+def images(file, found, image, q, pages):
+    """The spans of all images of a file that isn't plainly an image, if there are several, in the order of their keys;
+    and whether they are apart. PAGES is the first geometry that is found."""
+    begin, end = bounds(file, image, q)
+    spans, is_apart, several = [], False, False
+    for group in groups(found):
+        if group.key == image.key:
+            spans.append(span(file, image, q))
+            continue
+        kin = is_kin(group, image, q)
+        if kin or sum(stands_apart(file, pages, begin, end, q, place) for place in group.places) > 1:
+            spans.append(span(file, group, group.said))
+            is_apart, several = is_apart or not kin, True
+    return (spans, is_apart) if several else ([], False)
+
+
+# What is found.
 
 
 @dataclasses.dataclass(frozen=True)
@@ -337,28 +395,55 @@ class Found:
         return " ".join(parts) + "\n"
 
     def image(self, file):
-        """The image without out-of-band bytes."""
-        step = self.geometry.page + self.oob
-        pages = (file[at : at + self.geometry.page] for at in range(self.start, self.start + self.length, step))
-        return b"".join(pages) if self.oob else file[self.start : self.start + self.length]
+        """The image without out-of-band bytes, and with the eraseblocks before it."""
+        return seen(self.geometry, file, self.start, self.length, self.oob)
 
 
-def geometries(file):
-    """The geometries that the headers of a file give, in the order in which they are printed."""
-    group, q = image_of(file)
-    pages = pages_of(file, group, q)
-    begin, end = bounds(file, group, q)
-    return [Found(one.geometry, one.oob, begin, end - begin, (begin, end) == (0, len(file))) for one in pages]
+@dataclasses.dataclass(frozen=True)
+class Answer:
+    """What is found in a file: the geometries, in the order in which they are printed; the spans of all images, if
+    there are several; and whether these are apart."""
+
+    geometries: list
+    spans: list
+    is_apart: bool
+
+    def lines(self):
+        spans = (f"--start {start} --length {length}\n" for start, length in self.spans)
+        return [*(found.line() for found in self.geometries), *spans]
+
+    def refusal(self):
+        """The line with which a command without a part refuses the images; None if they aren't apart."""
+        spans = " ".join(f"start={start} length={length}" for start, length in self.spans)
+        return f"refused F10 Images {spans}\n" if self.is_apart else None
 
 
-def find(file):
-    """The lines of the geometries of a file."""
-    return [found.line() for found in geometries(file)]
+def answer(file, start=0, length=None):
+    """What is found in a part of a file. Its places are those in the file."""
+    part = part_of(file, start, length)
+    found = headers(part)
+    group, q, is_plain = image_of(part, found)
+    pages = pages_of(part, group, q)
+    begin, end = bounds(part, group, q)
+    spans, is_apart = ([], False) if is_plain else images(part, found, group, q, pages[0])
+    is_whole = length is None and (start + begin, start + end) == (0, len(file))
+    here = [Found(one.geometry, one.oob, start + begin, end - begin, is_whole) for one in pages]
+    return Answer(here, [(start + at, size) for at, size in spans], is_apart)
 
 
-def printed(file):
-    """What `geometry` prints for a file, and the exit status."""
+def geometries(file, start=0, length=None):
+    """The geometries that the headers of a part of a file give, in the order in which they are printed."""
+    return answer(file, start, length).geometries
+
+
+def find(file, start=0, length=None):
+    """The lines of `geometry` for a part of a file."""
+    return answer(file, start, length).lines()
+
+
+def printed(file, start=0, length=None):
+    """What `geometry` prints for a part of a file, and the exit status."""
     try:
-        return "".join(find(file)), 0
+        return "".join(find(file, start, length)), 0
     except Refused as refused:
         return f"refused {refused}\n", 1

@@ -45,7 +45,9 @@ import tempfile
 
 import rules
 import text_faults
-from fuzz import NO_LISTS, NO_NAMES, ROOT, Failure, Runner, built, finish, renumbered, sized, solved, weakness
+from fuzz import (
+    NO_LISTS, NO_NAMES, ROOT, Failure, Runner, built, complaints, finish, renumbered, sized, solved, weakness,
+)
 from geometry import find
 from text_rules import Described
 
@@ -564,7 +566,7 @@ class Looker:
             ran = subprocess.run([self.tool, *words], capture_output=True, timeout=2)
         except subprocess.TimeoutExpired:
             return None
-        return ran.stdout.decode(), ran.returncode, bool(ran.stderr)
+        return ran.stdout.decode(), ran.returncode, bool(complaints(ran.stderr, ran.stdout))
 
     def is_printed(self, words, given, expected):
         """Whether words print a text, and write no file, given a standard input: bytes in a pipe, a path or a

@@ -4,11 +4,12 @@
 usage: json_answers.py [--seed N] [--count N] [--pairs N] [--first N] [--dir FOLDER] [--tool PROGRAM]
 
 The images are those of fuzz.py: with all kinds of volumes and states, accepted and refused, in a file with anything
-around them, now and then cut, with bad eraseblocks, or no image at all. `geometry`, `list` and `check` read each in
-both formats, with the numbers of a geometry, with wrong ones and with none, parts of the file that exist or don't, with
-out-of-band bytes, and a file that doesn't exist. The exit status has to be the same. The object has to be one line,
-which Python's json reads; written with sorted keys and no space it has to be that line again, and no key may appear
-twice. The script makes the lines from the object, by the table of docs/FORMAT.md, and they have to be the printed ones.
+around them, now and then with another image after them, cut, with bad eraseblocks, or no image at all. `geometry`,
+`list` and `check` read each in both formats, with the numbers of a geometry, with wrong ones and with none, parts of
+the file that exist or don't, with out-of-band bytes, and a file that doesn't exist. The exit status has to be the same.
+The object has to be one line, which Python's json reads; written with sorted keys and no space it has to be that line
+again, and no key may appear twice. The script makes the lines from the object, by the table of docs/FORMAT.md, and they
+have to be the printed ones.
 
 `same` and `diff` read pairs of images of diff.py likewise, in both orders, and files that don't exist; the objects of
 both have to agree on whether the images mean the same.
@@ -21,7 +22,7 @@ import json
 import subprocess
 
 from diff import KINDS, Pair
-from fuzz import SIZES, Failure, Lister, Maker, Mutator, built, either, finish, options, run_cases
+from fuzz import SIZES, Failure, Lister, Maker, Mutator, built, either, finish, options, renumbered, run_cases
 
 # The words of the states, in the order of the lines.
 STATES = ("blank", "free", "table", "used", "stale", "orphan", "dropped", "corrupt", "garbage")
@@ -134,12 +135,15 @@ def list_lines(answer):
 
 def geometry_lines(answer, size, is_cut):
     """The lines of `geometry` for a file of so many bytes; IS_CUT: the words give the length of a part."""
-    lines = []
+    lines, several = [], {"length", "start"}
+    if set(answer) != {"geometries", "images"} or any(set(image) != several for image in answer["images"]):
+        raise Failure(f"{answer} is no answer of geometry")
     for one in answer["geometries"]:
         line = f"--peb {one['peb']} --page {one['page']} --vid {one['vid']} --data {one['data']}"
         line += f" --oob {one['oob']}" if one["oob"] else ""
         is_whole = (one["start"], one["length"]) == (0, size) and not is_cut
         lines.append(line + ("" if is_whole else f" --start {one['start']} --length {one['length']}") + "\n")
+    lines += (f"--start {one['start']} --length {one['length']}\n" for one in answer["images"])
     return "".join(lines)
 
 
@@ -212,6 +216,10 @@ class Case(Asker):
         pages = b"".join(image[at:at + page] + rng.randbytes(self.oob) for at in range(0, len(image), page))
         self.before = rng.randbytes(rng.choice((0, 0, 64, 1024, 700)))
         self.file = self.before + pages + rng.randbytes(rng.choice((0, 0, 1, 3000)))
+        if rng.random() < 0.2:
+            number = rng.randrange(1, 2**32)
+            again = b"".join(renumbered(block, number) for block in Maker(rng, SIZES).blocks)
+            self.file += bytes(-len(self.file) % 64) + again
         if rng.random() < 0.1:
             self.file = rng.choice((b"", bytes(4096), self.file[:rng.randrange(len(self.file) + 1)]))
         self.length, self.path = len(pages), f"{folder}/file"

@@ -116,6 +116,32 @@ def none_listed(p):
     return False
 
 
+# Views of a file.
+
+
+def part_of(file, start=0, length=None):
+    """The part of a file from a place on, to the end of the file or of so many bytes."""
+    if start + (length or 0) > len(file):
+        raise Refused(f"F7 Part bytes={len(file)}")
+    return file[start:] if length is None else file[start : start + length]
+
+
+def size_with(geometry, oob):
+    """The bytes of an eraseblock, with its out-of-band bytes."""
+    return geometry.peb // geometry.page * (geometry.page + oob)
+
+
+def seen(geometry, file, start=0, length=None, oob=0):
+    """What is read of a file: the pages of a part, without the out-of-band bytes after each; and before them the
+    eraseblocks of the file before the part, which read 0xFF, if the part begins with an eraseblock."""
+    part, step = part_of(file, start, length), geometry.page + oob
+    if oob and len(part) % step:
+        raise Refused(f"F8 Pages rest={len(part) % step}")
+    before, rest = divmod(start, size_with(geometry, oob))
+    pages = b"".join(part[at : at + geometry.page] for at in range(0, len(part), step)) if oob else part
+    return pages if rest else b"\xFF" * (before * geometry.peb) + pages
+
+
 def masked(geometry, image, is_bad):
     """What is read of an image: 0xFF for each byte of an eraseblock that is listed as bad, and the other bytes as they
     are."""

@@ -7,7 +7,7 @@ A program that takes a size or a place modulo a power of two, or that gives up a
 images as the rules do. So each command is run on images that are made here, up to the largest possible, and each byte
 that it writes is compared. The families, all of which are run by default:
   headers   headers at 0, 5, 9 and 65 GiB, and at each power of two from 2^31 to 2^43, shown one by one, with those
-            beside each, and if they are bad
+            beside each, and if they are bad, or if a part begins there
   places    an image of 256 GiB and more whose tables and LEBs lie at these places up to 2^38: each command that writes
             no image of its size
   beyond    an image that ends beyond 4 GiB: a change and a rename, whose outputs are compared byte for byte
@@ -18,8 +18,8 @@ that it writes is compared. The families, all of which are run by default:
   chips     chips with eraseblocks of 131072 and pages of 2048: images of 1, 20 and 100 MiB; and `compose` with outputs
             of 39 and 100 MB
   row       a config whose files end beyond 4 GiB, one by one and in a row
-  geometry  the geometry of files of 1 MiB to 9 GiB; and of those up to 5 GiB if the last eraseblock isn't part of the
-            image
+  geometry  the geometry of files of 1 MiB to 9 GiB; and of those up to 5 GiB if the last eraseblock has a header of
+            other offsets, and if bytes follow it that are no whole eraseblock
   huge      files of 8 TiB that are named as new bytes, as a text and in a config; and a text of 269 MB
   links     an image above 1 GiB that is the output, or should be the pages, by a link of either kind
 
@@ -39,7 +39,7 @@ import tempfile
 import threading
 
 import rules
-from fuzz import built, finish
+from fuzz import built, complaints, finish
 from geometry import printed
 from rules import LAYOUT, Geometry, Meaning, Record, Vid
 
@@ -186,7 +186,7 @@ class Looker:
             taker.join()
         if feeder:
             feeder.wait()
-        return (child.returncode, out, error), taker and taker.wrong
+        return (child.returncode, out, complaints(error, out)), taker and taker.wrong
 
 
 # Images of parts, and what they mean.
@@ -240,8 +240,8 @@ NONE_THERE, BLANK = ("corrupt", bytes(64)), ("blank", b"\xFF" * 64)
 
 
 def headers(looker):
-    """Headers that are far from the beginning, each of them different; and what each eraseblock reads as if it is
-    bad."""
+    """Headers that are far from the beginning, each of them different; and what each eraseblock reads as if it is bad,
+    and in a part that begins with it."""
     cases = (LARGEST, (0, *FAR, 2**44 - 2 * LARGEST.peb)), (CHIP, (0, *(at for at in FAR if at < 2**37)))
     for geometry, places in cases:
         parts = {}
@@ -257,6 +257,11 @@ def headers(looker):
             yield looker.look(geometry, ["show", "far.img", "--block", p, "--bad", p], shown(BLANK, BLANK))
             if at + geometry.peb < size:
                 yield looker.look(geometry, ["show", "far.img", "--block", p + 1], shown(NONE_THERE, NONE_THERE))
+            if p:
+                # The eraseblocks before a part are counted, and read 0xFF.
+                part = ["show", "far.img", "--start", at, "--block"]
+                yield looker.look(geometry, [*part, p], shown(ec, vid))
+                yield looker.look(geometry, [*part, p - 1], shown(BLANK, BLANK))
         yield looker.look(geometry, ["show", "far.img", "--block", size // geometry.peb], "refused B1 Block\n", 1)
 
 
@@ -559,8 +564,8 @@ def shares(file, size):
 
 
 def geometry(looker):
-    """Files with only the two tables and headers, up to 9 GiB; and the same with a header of other offsets in the last
-    eraseblock, which is no part of the image then."""
+    """Files with only the two tables and headers, up to 9 GiB; the same with a header of other offsets in the last
+    eraseblock, which is part of the image still; and with bytes behind it that are no whole eraseblock."""
     for g, size in ((CHIP, MIB), (CHIP, 20 * MIB), (CHIP, 100 * MIB), (LARGEST, 5 * GIB), (LARGEST, 9 * GIB)):
         last = size - g.peb
         headers = {at: rules.put_ec(g, at // g.peb, SEQ) for at in range(0, size, g.peb)}
@@ -572,7 +577,9 @@ def geometry(looker):
         if size == 9 * GIB:
             break
         file.but({last: rules.put_ec(dataclasses.replace(g, vid=64))}).put(looker.path("far.img"))
-        parts = [f"{line} --start 0 --length {last}\n" for line in lines]
+        yield looker.look(None, ["geometry", "far.img"], "".join(f"{line}\n" for line in lines))
+        Sparse(size + g.peb - 1, file.parts).put(looker.path("far.img"))
+        parts = [f"{line} --start 0 --length {size}\n" for line in lines]
         yield looker.look(None, ["geometry", "far.img"], "".join(parts))
 
 
@@ -598,23 +605,26 @@ def huge(looker):
 
 
 def links(looker):
-    """An image above 1 GiB that is the output, or should be the pages, by a link. It is read before it is written."""
+    """An image above 1 GiB that is the output, or should be the pages, by a link. A normal image takes its place, and
+    the other name of a hard link keeps it; a volume or pages do not."""
     g, records = LARGEST, {0: Record(3, 1, 1, 0, b"far", 0)}
     pieces, leb = spread(g, 1)
     free = {77 * g.peb: rules.put_block(g, rules.put_ec(g, 0, SEQ))}
     image = Sparse(80 * g.peb, table_parts(g, records, (0, 78)) | leb_parts(g, 79, of_leb(2, 9), pieces) | free)
     normal = [rules.normal_image(Meaning(g, SEQ, records, {0: {2: leb}}))]
-    read = list(read_pieces(g, 3, {2: leb}))
-    for words, line, right in (
-        (["normalise", "far.img"], "blocks 3\n", normal),
-        (["extract", "far.img", "--id", 0], f"bytes {3 * g.leb}\n", read),
+    extract = ["extract", "far.img", "--id", 0]
+    for make, words, line, status, new, old in (
+        (os.link, ["normalise", "far.img"], "blocks 3\n", 0, normal, image.pieces()),
+        (os.symlink, ["normalise", "far.img"], "blocks 3\n", 0, normal, normal),
+        (os.link, extract, "cannot write link\n", 1, image.pieces(), image.pieces()),
+        (os.symlink, extract, "cannot write link\n", 1, image.pieces(), image.pieces()),
     ):
-        for make in (os.link, os.symlink):
-            image.put(looker.path("far.img"))
-            make(looker.path("far.img"), looker.path("link"))
-            yield looker.look(g, [*words, "--out", "link"], line, files=[("far.img", right), ("link", right)])
-            os.remove(looker.path("link"))
-            os.remove(looker.path("far.img"))
+        image.put(looker.path("far.img"))
+        make(looker.path("far.img"), looker.path("link"))
+        files = [("far.img", old), ("link", new)]
+        yield looker.look(g, [*words, "--out", "link"], line, status, files=files)
+        os.remove(looker.path("link"))
+        os.remove(looker.path("far.img"))
     image.put(looker.path("far.img"))
     os.link(looker.path("far.img"), looker.path("link"))
     new = looker.put("new", noise(1, g.page))

@@ -24,7 +24,7 @@ begins_inside part page oob n none =
     let inside = ltb-false n (part.start + unwrap_or part.length 0) (if_none _ _ _ none) in
     omega (arith, inside)
 
-module _ (sought : Sought) (t : Detected) (bytes kept : List ℕ) (first : IsToldFirst (holds bytes) t)
+module _ (sought : Sought) (t : Detected) (bytes kept : List ℕ) (first : IsToldFirst sought.part (holds bytes) t)
     (are : kept ≡ take t.length (drop t.start bytes)) where
   abbrev part : FilePart
   part = sought.part
@@ -61,7 +61,7 @@ module _ (sought : Sought) (t : Detected) (bytes kept : List ℕ) (first : IsTol
       masked_none device.peb_size _ ∙ pages_none device.page (omega arith) (part_of part all) in
       let read : bytes ≡ take (device.pebs * device.peb_size + 1) (part_of part all) =
       is ∙ ap (λ xs. take (device.pebs * device.peb_size + 1) xs) whole in
-      let inside = told_inside bytes t first in
+      let inside = told_inside part bytes t first in
       let long = ap length read in
       let few = length-take (device.pebs * device.peb_size + 1) (part_of part all) in
       let within_read : t.start + t.length ≤ length (take (device.pebs * device.peb_size + 1) (part_of part all)) = omega (arith, inside, long) in

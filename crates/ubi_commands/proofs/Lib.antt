@@ -1,3 +1,4 @@
+pub mod AtOnce
 pub mod BuildReads
 pub mod BuiltInto
 pub mod CommandNames

@@ -1,7 +1,7 @@
 -- The names that the proofs of this crate speak of, and where they come from.
 pub use Rattle.std.proofs.Common.{Bool, Less, List, Some, [], ap, append-nil, append_assoc, ap₂, arith, cond, drop, false, get_or, inl, inr, length, lit<, lit≤, map, not, refl, string_bytes, subst, suc, sym, take, true, true≢false, vec_items, zero, zero-add, ℕ, ◌&&◌, ◌*◌, ◌++◌, ◌+◌, ◌-◌, ◌/◌, ◌<◌, ◌==◌, ◌^◌, ◌||◌, ◌↔◌, ◌∙◌, ◌∷◌, ◌≡◌, ◌≢◌, ◌≤◌, ◌⊎◌}
 pub use Rattle.std.proofs.KnownBytes.{Keeps-refl}
-pub use Rattle.std.proofs.Math.Nat.{mod-add-div', mul-le-mul_right}
+pub use Rattle.std.proofs.Math.Nat.{mod-add-div'}
 pub use Rattle.std.proofs.Math.Seq.{drop-append-add}
 pub use Rattle.std.proofs.lemmas.Bool.{eqb-true, false≢true, ltb-false, ne_eqb}
 pub use Rattle.std.proofs.lemmas.Bool.Decides.{nat_tests}
@@ -11,8 +11,7 @@ pub use Rattle.std.proofs.lemmas.Int.{ints}
 pub use Rattle.std.proofs.lemmas.List.{drop-drop, drop-take, length-append, length-drop, length-take, map-append, take-append-le, take-take, take_all, take_more}
 pub use Rattle.std.proofs.lemmas.List.Elements.{All-append, All-map, filter_map-append}
 pub use Rattle.std.proofs.lemmas.List.Folds.{list_all_more}
-pub use Rattle.std.proofs.lemmas.List.FromFn.{length-range_with_len}
-pub use Rattle.std.proofs.lemmas.List.Sums.{fold_more, prefix_len-le-length, sum_by-append}
+pub use Rattle.std.proofs.lemmas.List.Sums.{fold_more, sum_by-append}
 pub use Rattle.std.proofs.lemmas.Option.{get_or_from_slice_get, same_Some, slice_get_cases, slice_get_read, slice_get_within}
 pub use Rattle.std.proofs.lemmas.Result.{IfErr-at_err, IfErr-weaker, IfOk-at_ok, IfOk-weaker, err_from_is_err_and}
 pub use Rattle.std.proofs.lemmas.Slice.Eq.{bytes_eq-Decides}
@@ -22,12 +21,12 @@ pub use Rattle.std.specs.Borrow.{Bor}
 pub use Rattle.std.specs.FinMap.{entries, get, nat_cmp-IsAntisymmetric}
 unfoldable pub use Rattle.std.specs.Fmt.{digits}
 pub use Rattle.std.specs.Io.KnownBytes.{Appends}
-pub use Rattle.std.specs.List.{AllByRecursion, concat, cons_option, find, flat_map, list_all, list_any, range_with_len}
+pub use Rattle.std.specs.List.{AllByRecursion, concat, cons_option, find, flat_map, list_all, list_any}
 unfoldable pub use Rattle.std.specs.List.{IsDistinct}
 pub use Rattle.std.specs.Option.{ForSome, IsSomeAnd, option_map_or}
 pub use Rattle.std.specs.Ordering.{nat_cmp}
 unfoldable pub use Rattle.std.specs.Path.{path_with_file_name}
-pub use Rattle.std.specs.Prelude.{Contains, Err, IfErr, IfOk, IfSome, IsErr, IsOk, IsSome, IsTrue, MatchOption, MatchResult, None, Ok, OnErr, OnOk, Option, Result, codes, decimal, fold, if◌then◌else◌, is_ok, is_some, nat_lt, option_and_then, option_map, pos, slice_get, slice_index_or, sum_by, unwrap_or}
+pub use Rattle.std.specs.Prelude.{Contains, Err, IfErr, IfOk, IfSome, IsErr, IsFalse, IsOk, IsSome, IsTrue, MatchOption, MatchResult, None, Ok, OnErr, OnOk, Option, Result, codes, decimal, fold, if◌then◌else◌, is_ok, is_some, nat_lt, option_and_then, option_map, pos, slice_get, slice_index_or, sum_by, unwrap_or}
 pub use Rattle.std.specs.Result.{result_map_both}
 pub use Rattle.std.specs.Str.{bytes_eq}
 unfoldable pub use Rattle.std.specs.Str.{chars}
@@ -79,7 +78,6 @@ pub use Rattle.ubi_compare.specs.declared.difference.Difference.{Difference}
 pub use Rattle.ubi_compose.proofs.BuiltReads.{built_reads}
 pub use Rattle.ubi_compose.proofs.BuiltRoom.{built_accepted}
 pub use Rattle.ubi_compose.proofs.LesserPage.{normal_kept}
-pub use Rattle.ubi_compose.proofs.Lists.{all_append, all_from}
 pub use Rattle.ubi_compose.proofs.NormalForm.{count-composed, count-normal_bytes, normalising}
 pub use Rattle.ubi_compose.proofs.PartsAgain.{parts_build_again, read_fits, read_some}
 pub use Rattle.ubi_compose.proofs.StoredVolumes.{count, volume_at}
@@ -113,10 +111,12 @@ pub use Rattle.ubi_detect.proofs.LeastWay.{IsLesserTold, least_first}
 pub use Rattle.ubi_detect.proofs.OnGrid.{each_on_grid}
 pub use Rattle.ubi_detect.specs.Detected.{AreDetected, AreDetectedOf, IsDetectError, IsFound}
 pub use Rattle.ubi_detect.specs.Heads.{first_place, heads_of}
-pub use Rattle.ubi_detect.specs.Place.{blanks_behind, end_of_image, end_of_last, run, start_of_image, told_by, told_ways}
+pub use Rattle.ubi_detect.specs.Images.{AreImages, AreImagesBeside}
+pub use Rattle.ubi_detect.specs.Place.{end_of_image, end_of_last, start_of_image, told_by, told_ways}
 pub use Rattle.ubi_detect.specs.declared.detect.Detected.{Detected}
 pub use Rattle.ubi_detect.specs.declared.detect.Undetected.{Undetected}
 pub use Rattle.ubi_detect.specs.declared.groups.Group.{Group}
+pub use Rattle.ubi_detect.specs.declared.images.Images.{Images}
 pub use Rattle.ubi_detect.specs.declared.way.Way.{Way}
 pub use Rattle.ubi_files.proofs.FileRows.{row_sized, sum_cons}
 pub use Rattle.ubi_files.proofs.MaskedBytes.{masked_none}
@@ -126,8 +126,8 @@ pub use Rattle.ubi_files.proofs.Tells.{Tells-weaker}
 pub use Rattle.ubi_files.specs.AfterRun.{WhereNotDone, after_left, after_right, after_run}
 pub use Rattle.ubi_files.specs.Answer.{Answer, Gives, says}
 pub use Rattle.ubi_files.specs.BadBlocks.{is_block_list, masked}
-pub use Rattle.ubi_files.specs.Disk.{AllStay, Files, Holds, IsJudgedOf, IsKept, IsLeft, IsTextOf, OthersStay, OutsideStay, Receives, Stays, fresh}
-pub use Rattle.ubi_files.specs.Dump.{Fits, FitsWhole, as_read, greatest_dump, misfit_of, seen, viewed, whole_len}
+pub use Rattle.ubi_files.specs.Disk.{AllStay, Files, Holds, IsJudgedOf, IsKept, IsLeft, IsTextOf, OthersStay, OutsideStay, Receives, Stays, fresh, full_of}
+pub use Rattle.ubi_files.specs.Dump.{Fits, FitsWhole, as_read, blocks_before, greatest_dump, misfit_of, seen, viewed, whole_len}
 pub use Rattle.ubi_files.specs.Kept.{IsPartOf}
 pub use Rattle.ubi_files.specs.Late.{contents_of}
 pub use Rattle.ubi_files.specs.Lines.{file_line, refusal_line, refused_line}
@@ -150,11 +150,12 @@ pub use Rattle.ubi_json.specs.Differences.{are_none}
 pub use Rattle.ubi_json.specs.Line.{json_line}
 pub use Rattle.ubi_json.specs.List.{list_data, listed_data, listed_volume}
 pub use Rattle.ubi_json.specs.declared.list.ListedVolume.{ListedVolume}
+pub use Rattle.ubi_laid.proofs.Lists.{all_append, all_from}
 pub use Rattle.ubi_map.specs.Headers.{block_lines}
 pub use Rattle.ubi_map.specs.Letters.{header_letters, rows}
 pub use Rattle.ubi_map.specs.Map.{block_texts, refused_page_data, surveyed_data}
 pub use Rattle.ubi_map.specs.Page.{page_of}
-pub use Rattle.ubi_media.specs.Fields.{same_bytes}
+pub use Rattle.ubi_media.specs.Fields.{blank, same_bytes}
 pub use Rattle.ubi_media.specs.Geometry.{IsGeometry, Sizes, slots}
 unfoldable pub use Rattle.ubi_media.specs.Limits.{first_broken}
 pub use Rattle.ubi_media.specs.OtherPage.{with_page}
@@ -212,11 +213,11 @@ pub use Rattle.ubi_commands.specs.Compose.{Composes, ComposesInto, ComposesOf, f
 pub use Rattle.ubi_commands.specs.Extract.{Extracts, HasTextIn, HasVolumeText, IsExtractError, ReadsVolume, accepted, read, read_key, refused_from, unread_from, wrote}
 pub use Rattle.ubi_commands.specs.FolderLaws.{AreAllDescribed, BuildsTheImage, FolderConfigReads, HoldVolumes}
 pub use Rattle.ubi_commands.specs.Formats.{format_word, undetected_in}
-pub use Rattle.ubi_commands.specs.Geometry.{Detects, detected, detected_from, geometry_told, options_lines, undetected, undetected_from}
+pub use Rattle.ubi_commands.specs.Geometry.{Detects, detected, detected_from, geometry_told, options_lines, span_line, undetected, undetected_from}
 unfoldable pub use Rattle.ubi_commands.specs.Geometry.{options, sizes_options}
 pub use Rattle.ubi_commands.specs.InFormat.{IsUnreadOfAsked, IsUnreadOfBoth, OfAskedIn, OfBothIn, OfFileIn, OfRead, OfReadAsked, OfReadBoth, OfReadDumps, failed}
 pub use Rattle.ubi_commands.specs.Key.{number_in}
-pub use Rattle.ubi_commands.specs.Lines.{blocks_line, bytes_line, no_block_line, undetected_line}
+pub use Rattle.ubi_commands.specs.Lines.{blocks_line, bytes_line, no_block_line, span_words, undetected_line}
 unfoldable pub use Rattle.ubi_commands.specs.Lines.{layout_words}
 pub use Rattle.ubi_commands.specs.List.{Lists, list_lines, record_line, unlisted, volume_line}
 unfoldable pub use Rattle.ubi_commands.specs.List.{room_words, sizes_line}
@@ -224,7 +225,7 @@ pub use Rattle.ubi_commands.specs.Map.{IsPageOf, Maps, MapsFrom, PicturesInto, a
 pub use Rattle.ubi_commands.specs.Normalise.{HasMeaning, IsNormaliseError, Normalises, wrote_nothing}
 pub use Rattle.ubi_commands.specs.PageLaws.{AreOfFirst, LeastTold}
 pub use Rattle.ubi_commands.specs.Plan.{CutAccepts, IsCarryFault, cut_bytes, cut_text, plan_answer, plan_lines, step_line, steps_done}
-pub use Rattle.ubi_commands.specs.Program.{IsDump, IsToldFirst, OfAsked, OfBoth, OfText, TellsNothing, WritesInto, WritesPlan, alike, avoided, given, no_left, no_list, no_pages, no_right, no_text, of_dump, planned, text_limit, told, told_dump, unlike, untold, with_list, written}
+pub use Rattle.ubi_commands.specs.Program.{IsDump, IsToldFirst, OfAsked, OfBoth, OfText, TellsNothing, WritesInto, WritesPlan, alike, avoided, given, is_split, no_first_pages, no_geometry, no_last_image, no_left, no_list, no_pages, no_right, no_sizes, no_text, of_dump, off_grid, on_grid, planned, several, text_limit, told, told_dump, unlike, untold, with_list, written}
 pub use Rattle.ubi_commands.specs.Reads.{format_of, reads}
 pub use Rattle.ubi_commands.specs.Rename.{CutIsNamed, HasRename, IsRenameFault, Renames, RenamesFrom, nameless_from}
 pub use Rattle.ubi_commands.specs.Show.{Shows, no_block, no_block_from, no_size, shown, shown_from}
@@ -258,4 +259,5 @@ pub use Rattle.ubi_commands.specs.inner.Formatted.{IsLineIn, IsToldIn, its_own, 
 pub use Rattle.ubi_commands.specs.inner.Gathering.{AreSoFar, AreUnread, IsFoundFile, IsSectionPart, as_list}
 pub use Rattle.ubi_commands.specs.inner.Pictured.{IsPageBy, by_cause, by_meaning}
 pub use Rattle.ubi_commands.specs.inner.Planning.{AreCut, HasFile, IsCutAfter, refused_file}
+pub use Rattle.ubi_commands.specs.inner.Replaced.{FinishesAtOnce, Replaces, both_written, not_replaced, output_unwritten, pages_unwritten, replaced, undone}
 pub use Rattle.ubi_commands.specs.inner.Writes.{HasWork, writes}

@@ -1,5 +1,5 @@
 -- Where in a file the image that is found lies.
-use Rattle.ubi_commands.proofs.Prelude.{◌≡◌, ℕ, ◌+◌, ◌-◌, ◌*◌, ◌/◌, ◌≤◌, Bool, List, [], ◌∷◌, ap, arith, inl, inr, length, refl, mod-add-div', mul-le-mul_right, length-range_with_len, prefix_len-le-length, range_with_len, Contains, AreDetected, first_place, heads_of, blanks_behind, end_of_image, end_of_last, run, start_of_image, told_by, told_ways, holds, Detected, Group, Way, each_on_grid, IsToldFirst, IsFound}
+use Rattle.ubi_commands.proofs.Prelude.{◌≡◌, ℕ, ◌+◌, ◌-◌, ◌≤◌, List, [], ◌∷◌, ap, arith, inl, inr, length, refl, mod-add-div', Contains, AreDetected, first_place, heads_of, end_of_image, end_of_last, start_of_image, told_by, told_ways, holds, Detected, Group, Way, each_on_grid, IsToldFirst, IsFound, FilePart}
 use Rattle.std.specs.Prelude.{map}
 use Rattle.ubi_detect.specs.Heads.{places}
 
@@ -26,20 +26,6 @@ found_inside bytes g (inr (whole, sure)) =
     let high = on.1 in
     (omega (arith, low, high), whole.whole, whole.image.says.from)
 
-run_most : (t : ℕ → Bool) (n : ℕ) → run t n ≤ n
-run_most t n =
-    let e = prefix_len-le-length t (range_with_len 0 n) in
-    let f = length-range_with_len 0 n in
-    omega (arith, e, f)
-
--- and so do the blank eraseblocks behind it
-end_inside : (bytes : List ℕ) (g : Group) → end_of_last g ≤ length bytes → end_of_image bytes g ≤ length bytes
-end_inside bytes g inside =
-    let room = length bytes - end_of_last g in
-    let few : blanks_behind bytes g * g.size ≤ room / g.size * g.size = mul-le-mul_right g.size (run_most _ (room / g.size)) in
-    let parts = mod-add-div' room g.size in
-    omega (arith, few, parts, inside)
-
 -- the first of what is told of an image is told of its place
 head_placed : (start end : ℕ) (ways : List Way) (t : Detected) (others : List Detected) → t ∷ others ≡ map (told_by start end) ways
     → (t.start ≡ start) × (t.length ≡ end - start)
@@ -52,16 +38,15 @@ head_placed start end (w ∷ ws) t others is =
     head_eq e = cc
 
 -- what is told first of some bytes lies in them
-pub told_inside : (bytes : List ℕ) (t : Detected) → IsToldFirst (holds bytes) t → t.start + t.length ≤ length bytes
-told_inside bytes t (others, are) =
+pub told_inside : (part : FilePart) (bytes : List ℕ) (t : Detected) → IsToldFirst part (holds bytes) t → t.start + t.length ≤ length bytes
+told_inside part bytes t (others, images, are, of, whole) =
     let is : AreDetected bytes (t ∷ others) = are bytes refl in
     let g = is.group in
     let place = found_inside bytes g is.is in
     let order = place.0 in
-    let behind = end_inside bytes g place.1 in
     let last = place.1 in
-    let head = head_placed (start_of_image bytes g) (end_of_image bytes g) (told_ways bytes g) t others is.are in
+    let head = head_placed (start_of_image g) (end_of_image bytes g) (told_ways bytes g) t others is.are in
     let start = head.0 in
     let count = head.1 in
-    let low : start_of_image bytes g ≤ g.first = omega arith in
-    omega (arith, order, behind, last, start, count, low)
+    let split = mod-add-div' g.first g.size in
+    omega (arith, order, last, start, count, split)

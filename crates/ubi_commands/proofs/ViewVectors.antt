@@ -1,5 +1,5 @@
 -- What is seen of files, on literals.
-use Rattle.ubi_commands.proofs.Prelude.{◌≡◌, ◌∷◌, [], List, Some, refl, ℕ, Bor, Detected, as_read, misfit_of, told_dump, viewed, whole_len, misfit, pages_of, part_of, Dump, Sought, FilePart}
+use Rattle.ubi_commands.proofs.Prelude.{true, blocks_before, ◌≡◌, ◌∷◌, [], List, Some, refl, ℕ, Bor, Detected, as_read, misfit_of, told_dump, viewed, whole_len, misfit, pages_of, part_of, Dump, Sought, FilePart}
 use Rattle.std.proofs.Common.{None}
 use Rattle.std.proofs.Common.{Option, codes}
 use Rattle.ubi_files.specs.declared.view.Misfit.TheVariants as why
@@ -80,6 +80,7 @@ dump = record {
   part = at 1 (Some 12);
   oob = 1;
   bad = Some bad;
+  counts_before = true;
 }
 
 all_of_it : viewed dump bytes ≡ 1 ∷ 2 ∷ 4 ∷ 5 ∷ 255 ∷ 255 ∷ 255 ∷ 255 ∷ []
@@ -119,5 +120,14 @@ as_told : told_dump sought found ≡ record {
   part = at 576 (Some 8704);
   oob = 16;
   bad = Some bad;
+  counts_before = true;
 }
 as_told = refl
+
+-- ---- the eraseblocks of six bytes before a part that begins with the third one count, and none does before one that begins within it
+
+counted : blocks_before (record dump { part = at 12 None }) ≡ 2
+counted = refl
+
+not_counted : blocks_before (record dump { part = at 13 None }) ≡ 0
+not_counted = refl

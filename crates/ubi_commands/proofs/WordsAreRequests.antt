@@ -71,8 +71,16 @@ module _ (s : Shape) (rows : List Row) (given : AreGiven s rows) where
           part = part.0;
           oob = unwrap_or oob.0 0;
           bad = bad.0;
+          counts_before = true;
         },
-        (n.1, part.1, (oob.0, oob.1, refl), bad.1, λ t is. mean.list name rows refl reads t.now (sym bad.1 ∙ ap (option_map (λ (x : Bor Text). x.now)) is)),
+        (
+          n.1,
+          part.1,
+          (oob.0, oob.1, refl),
+          bad.1,
+          λ t is. mean.list name rows refl reads t.now (sym bad.1 ∙ ap (option_map (λ (x : Bor Text). x.now)) is),
+          refl,
+        ),
       )
 
   -- a number that is given
@@ -118,8 +126,9 @@ module _ (s : Shape) (rows : List Row) (given : AreGiven s rows) where
             part = part.0;
             oob = unwrap_or oob.0 0;
             bad = bad.0;
+            counts_before = true;
           } in
-          (way.Given dump, ((peb.1, page.1, vid.1, data_at.1, pebs.1), part.1, (oob.0, oob.1, refl), bad.1, list))
+          (way.Given dump, ((peb.1, page.1, vid.1, data_at.1, pebs.1), part.1, (oob.0, oob.1, refl), bad.1, list, refl))
       go false two h =
           let sought : Sought = record { part = part.0; pebs = pebs.0; bad = bad.0 } in
           (way.Sought sought, (h, (part.1, pebs.1, bad.1, list)))

@@ -2,7 +2,7 @@
 use Rattle.std.specs.Borrow.{Bor}
 use Rattle.std.specs.Bool.{then_some}
 use Rattle.std.specs.Option.{ForSome}
-use Rattle.std.specs.Prelude.{◌≡◌, ◌↔◌, ◌<◌, ◌^◌, ◌&&◌, List, None, Option, Some, Bool, codes, is_some, not, option_map, true, unwrap_or, ℕ}
+use Rattle.std.specs.Prelude.{IsTrue, ◌≡◌, ◌↔◌, ◌<◌, ◌^◌, ◌&&◌, List, None, Option, Some, Bool, codes, is_some, not, option_map, true, unwrap_or, ℕ}
 use Rattle.std.specs.Str.Parse.{IsNumeral, digits_value, without_leading_plus}
 use Rattle.clap.specs.Walk.{Row, first_of, one_of}
 use Rattle.ubi_files.specs.BadBlocks.{is_block_list}
@@ -79,6 +79,7 @@ AsksDump words dump = AsksNumbers words dump.numbers
     × HasNumberOr 0 words (codes "oob") dump.oob
     × MayHaveText words (codes "bad") dump.bad
     × ForSome dump.bad (λ list. is_block_list list.now ≡ true)
+    × IsTrue dump.counts_before
 
 -- the words give something under the name
 abbrev pub gives_word : List Row → List ℕ → Bool

@@ -16,7 +16,7 @@ use Rattle.ubi_commands.specs.Extract.{ExtractsOf, HasTextIn}
 use Rattle.ubi_commands.specs.Geometry.{DetectsOf}
 use Rattle.ubi_commands.specs.Map.{MapsOf, PicturesInto, PicturesOf}
 use Rattle.ubi_commands.specs.Normalise.{HasMeaning, NormalisesOf}
-use Rattle.ubi_commands.specs.Program.{OfAsked, OfText, PlanStays, WithList, WritesInto, WritesPlan, avoided}
+use Rattle.ubi_commands.specs.Program.{KeepsImage, KeepsPart, OfAsked, OfText, OnGrid, PlanStays, WithList, WritesInto, WritesPlan, avoided}
 use Rattle.ubi_files.specs.OverFile.{OfFile, OfImage}
 use Rattle.ubi_commands.specs.InFormat.{OfAskedIn, OfBothIn, OfFileIn}
 use Rattle.ubi_commands.specs.Reads.{format_of, reads}
@@ -174,7 +174,7 @@ said_of (request.Extract dump extract_it) =
       asks = λ words. AsksAsked words dump × AsksExtract words extract_it;
       answers = λ d e. OfAsked d e dump extract_it.paths.image.now
           (λ s k agrees. WritesInto out d e (ExtractsOf key s k agrees) (HasTextIn key s agrees));
-      leaves = λ d e. OthersStay d e out;
+      leaves = λ d e. OthersStay d e out × Stays d e extract_it.paths.image.now;
     }
 said_of (request.Unpack dump paths) = record {
   command = unpack;
@@ -197,8 +197,8 @@ said_of (request.Build numbers new) = record {
 said_of (request.Normalise dump paths) = record {
   command = normalise;
   asks = λ words. AsksAsked words dump × AsksPaths words paths;
-  answers = λ d e. OfAsked d e dump paths.image.now
-      (λ s k agrees. WritesInto paths.out.now d e (NormalisesOf s k agrees) (HasMeaning s agrees));
+  answers = λ d e o. OfAsked d e dump paths.image.now
+      (λ s k agrees. WritesInto paths.out.now d e (NormalisesOf s k agrees) (HasMeaning s agrees)) o × KeepsImage d e paths.image.now o;
   leaves = λ d e. OthersStay d e paths.out.now;
 }
 said_of (request.Compare how dump left right) = record {
@@ -215,12 +215,12 @@ said_of (request.Change dump change_it) =
     let kept = avoided dump plan in record {
       command = change;
       asks = λ words. AsksDump words dump × AsksChange words change_it;
-      answers = λ d e. WithList d e dump.bad image (OfFile d dump image
+      answers = λ d e o. WithList d e dump.bad image (OnGrid d e dump image (OfFile d dump image
           (λ s k agrees. OfImage d dump.numbers change_it.from.now
           (λ f. WritesPlan out plan.pages d e
           (ChangesFrom kept change_it.id change_it.lnum f.bytes plan.stop s k agrees)
-          (HasPlan kept change_it.id change_it.lnum f.bytes s k agrees))));
-      leaves = λ d e. PlanStays d e plan × Stays d e change_it.from.now;
+          (HasPlan kept change_it.id change_it.lnum f.bytes s k agrees))))) o × KeepsImage d e image o;
+      leaves = λ d e. PlanStays d e plan × Stays d e change_it.from.now × KeepsPart d e dump image;
     }
 said_of (request.Rename dump rename_it) =
     let plan = rename_it.plan in
@@ -229,11 +229,11 @@ said_of (request.Rename dump rename_it) =
     let kept = avoided dump plan in record {
       command = rename;
       asks = λ words. AsksDump words dump × AsksRename words rename_it;
-      answers = λ d e. WithList d e dump.bad image (OfFile d dump image
+      answers = λ d e o. WithList d e dump.bad image (OnGrid d e dump image (OfFile d dump image
           (λ s k agrees. WritesPlan out plan.pages d e
           (RenamesFrom kept rename_it.id rename_it.name.now plan.stop s k agrees)
-          (HasRename kept rename_it.id rename_it.name.now s k agrees)));
-      leaves = λ d e. PlanStays d e plan;
+          (HasRename kept rename_it.id rename_it.name.now s k agrees)))) o × KeepsImage d e image o;
+      leaves = λ d e. PlanStays d e plan × KeepsPart d e dump image;
     }
 
 -- the name of the command that makes a request

@@ -6,7 +6,10 @@ use Rattle.ubi_detect.specs.Detected.{AreDetected, AreDetectedOf, IsDetectError,
 use Rattle.ubi_scan.specs.Source.{Agreed, Source, WhereHeld}
 use Rattle.ubi_detect.specs.declared.detect.DetectError.TheVariants as error
 use Rattle.ubi_detect.specs.declared.detect.Detected.{Detected}
+use Rattle.ubi_detect.specs.Images.{AreImagesBeside}
 use Rattle.ubi_detect.specs.declared.detect.Undetected.{Undetected}
+use Rattle.ubi_detect.specs.declared.images.Images.{Images}
+use Rattle.ubi_detect.specs.declared.images.Span.{Span}
 use Rattle.ubi_files.specs.Answer.{Gives, says}
 use Rattle.ubi_json.specs.Geometry.{geometries_data}
 use Rattle.ubi_json.specs.Line.{json_line}
@@ -49,22 +52,31 @@ options_line part n told = options part n told ++ codes "\n"
 abbrev pub options_lines : FilePart → ℕ → List Detected → List ℕ
 options_lines part n found = flat_map (options_line part n) found
 
--- what is printed in a format for all that is found: those lines, or the line of its object
-abbrev pub geometry_told : Format → FilePart → ℕ → List Detected → List ℕ
-geometry_told format.Text part n found = options_lines part n found
-geometry_told format.Json part n found = json_line (geometries_data part found)
+-- the line of where an image lies that was found in a part of a file, as options
+abbrev pub span_line : FilePart → Span → List ℕ
+span_line part span = codes "--start " ++ decimal (part.start + span.start) ++ codes " --length " ++ decimal span.length ++ codes "\n"
+
+-- the lines of all that is found, and then of where all images lie, if there are several
+abbrev pub geometry_lines : FilePart → ℕ → List Detected → List Span → List ℕ
+geometry_lines part n found spans = options_lines part n found ++ flat_map (span_line part) spans
+
+-- what is printed in a format for them: those lines, or the line of their object
+abbrev pub geometry_told : Format → FilePart → ℕ → List Detected → List Span → List ℕ
+geometry_told format.Text part n found spans = geometry_lines part n found spans
+geometry_told format.Json part n found spans = json_line (geometries_data part found spans)
 
 -- what the command answers for the bytes of a part of a file: what is printed for them, or the cause for which nothing is found
 pub data Detects (format : Format) (part : FilePart) (bytes : List ℕ) : Outcome → Type 0 where
-  detected : {o : Outcome} (found : List Detected) → AreDetected bytes found
-      → Gives o (says (geometry_told format part (length bytes) found) 0) → Detects format part bytes o
+  detected : {o : Outcome} (found : List Detected) (images : Images) → AreDetected bytes found → AreImagesBeside bytes found images
+      → Gives o (says (geometry_told format part (length bytes) found images.spans.items) 0) → Detects format part bytes o
   undetected : {o : Outcome} (c : Undetected) → IsUndetected bytes c → Gives o (says (undetected_in format c) 1)
       → Detects format part bytes o
 
 -- what it answers for any source: what is printed for whatever it may hold; or a cause, which applies to whatever it may hold
 pub data DetectsFrom (format : Format) (part : FilePart) (k : Source) (agrees : Agreed) : Outcome → Type 0 where
-  detected_from : {o : Outcome} (found : List Detected) → AreDetectedOf agrees found → found ≢ []
-      → Gives o (says (geometry_told format part k.size found) 0) → DetectsFrom format part k agrees o
+  detected_from : {o : Outcome} (found : List Detected) (images : Images) → AreDetectedOf agrees found → found ≢ []
+      → WhereHeld agrees (λ bytes. AreImagesBeside bytes found images)
+      → Gives o (says (geometry_told format part k.size found images.spans.items) 0) → DetectsFrom format part k agrees o
   undetected_from : {o : Outcome} (c : Undetected) → IsDetectError k agrees (error.Undetected c)
       → Gives o (says (undetected_in format c) 1) → DetectsFrom format part k agrees o
 

@@ -1,9 +1,11 @@
 -- Printed lines.
 use Rattle.std.specs.Prelude.{ℕ, Bool, true, false, List, ◌++◌, codes, decimal}
+use Rattle.std.specs.List.{flat_map}
 use Rattle.ubi_media.specs.Geometry.{Sizes}
 use Rattle.ubi_media.specs.declared.refusal.Refusal.{Refusal}
 use Rattle.ubi_detect.specs.ErrorTexts.{undetected_text}
 use Rattle.ubi_detect.specs.declared.detect.Undetected.{Undetected}
+use Rattle.ubi_detect.specs.declared.images.Span.{Span}
 use Rattle.ubi_compare.specs.declared.difference.Side.{Side}
 use Rattle.ubi_files.specs.Lines.{refusal_line, refused_line}
 use Rattle.ubi_json.specs.Words.{side_word}
@@ -15,6 +17,14 @@ undetected_line c = refused_line (undetected_text c)
 -- the same for one of two files, after the side on which it stands
 abbrev pub undetected_side_line : List ℕ → Undetected → List ℕ
 undetected_side_line side c = side ++ undetected_line c
+
+-- where an image of a file lies
+abbrev pub span_words : Span → List ℕ
+span_words span = codes " start=" ++ decimal span.start ++ codes " length=" ++ decimal span.length
+
+-- the line of a file, or of one of two after the side on which it stands, that has several images apart from each other
+abbrev pub images_side_line : List ℕ → List Span → List ℕ
+images_side_line side spans = side ++ codes "refused F10 Images" ++ flat_map span_words spans ++ codes "\n"
 
 -- the numbers of a geometry except how many eraseblocks there are
 unfoldable pub layout_words : Sizes → List ℕ

@@ -7,6 +7,7 @@ pub mod FileAnswers
 pub mod Folder
 pub mod Gathering
 pub mod Planning
+pub mod Replaced
 pub mod Writes
 pub mod Formatted
 pub mod Pictured

@@ -263,6 +263,7 @@ pub fn dump_of<'a>(matches: &'a ArgMatches<'_>) -> Option<Dump<'a>>
         part: part_of(matches),
         oob: number_of(matches, "oob").unwrap_or(0),
         bad,
+        counts_before: true,
     })
 }
 

@@ -28,6 +28,7 @@ use crate::differences::put_differences;
 use crate::dump::{KnownDump, find_dump, open_known};
 use crate::format::{Format, side_told, told_in};
 use crate::lines::{put_comparison, unlike_line};
+use crate::remarks::{remark_passed_over, remark_start};
 use std::alloc::{AllocError, Global};
 use ubi_compare::{CompareFault, Difference, Side, diff_from, same_from};
 use ubi_files::{
@@ -240,7 +241,7 @@ struct KnownFile<'a, 'p> {
 /// # Errors
 ///
 /// The line of a right dump that can't be opened, or of the file of which a read failed; or that memory ran out.
-fn compare_beside<D: Disk, S: BlockSource>(
+fn compare_beside<D: Disk + Eprint, S: BlockSource>(
     disk: &D,
     alloc: Global,
     how: Comparison,
@@ -258,15 +259,22 @@ fn compare_beside<D: Disk, S: BlockSource>(
         path,
     } = right;
     let frame = frame_of(alloc, &dump)?;
+    remark_start(disk, path, &frame);
     match open_known(disk, alloc, &frame, kept, path)? {
         OpenImage::AtPlaces(mut file) => {
             let geometry = file.geometry;
             let work = how.answer(alloc, &geometry, source, &mut file.source);
+            if work.is_ok() {
+                remark_passed_over(disk, alloc, &geometry, &mut file.source, path);
+            }
             done_over_sides(alloc, work, left, path)
         }
         OpenImage::Whole(file) => {
             let mut beside = MemorySource::new(file.bytes.as_slice());
             let work = how.answer(alloc, &file.geometry, source, &mut beside);
+            if work.is_ok() {
+                remark_passed_over(disk, alloc, &file.geometry, &mut beside, path);
+            }
             done_over_sides(alloc, work, left, path)
         }
     }
@@ -277,7 +285,7 @@ fn compare_beside<D: Disk, S: BlockSource>(
 /// # Errors
 ///
 /// The line of a dump that can't be opened, or that memory ran out.
-fn compare_dumps<D: Disk>(
+fn compare_dumps<D: Disk + Eprint>(
     disk: &D,
     alloc: Global,
     how: Comparison,
@@ -295,13 +303,23 @@ fn compare_dumps<D: Disk>(
         path,
     } = left;
     let frame = frame_of(alloc, &dump)?;
+    remark_start(disk, path, &frame);
     match open_known(disk, alloc, &frame, kept, path)? {
         OpenImage::AtPlaces(mut file) => {
-            compare_beside(disk, alloc, how, &mut file.source, path, right)
+            let geometry = file.geometry;
+            let work = compare_beside(disk, alloc, how, &mut file.source, path, right);
+            if work.is_ok() {
+                remark_passed_over(disk, alloc, &geometry, &mut file.source, path);
+            }
+            work
         }
         OpenImage::Whole(file) => {
             let mut source = MemorySource::new(file.bytes.as_slice());
-            compare_beside(disk, alloc, how, &mut source, path, right)
+            let work = compare_beside(disk, alloc, how, &mut source, path, right);
+            if work.is_ok() {
+                remark_passed_over(disk, alloc, &file.geometry, &mut source, path);
+            }
+            work
         }
     }
 }
@@ -329,7 +347,7 @@ fn unlike(alloc: Global, left: &Dump<'_>, right: &Dump<'_>) -> Unread
 ///
 /// The line of a file in which no dump is found, of two dumps whose geometries differ, or of a dump that can't be opened; or that
 /// memory ran out.
-fn compare_both<D: Disk>(
+fn compare_both<D: Disk + Eprint>(
     disk: &D,
     alloc: Global,
     how: Comparison,
@@ -357,7 +375,7 @@ fn compare_both<D: Disk>(
 }
 
 /// What comparing two files answers, in its format. Each file is read as the words say, or as its own headers show.
-pub fn compare_files<D: Disk>(
+pub fn compare_files<D: Disk + Eprint>(
     disk: &D,
     alloc: Global,
     how: Comparison,

@@ -1,11 +1,11 @@
 //! How a dump is read: as the words say, or if they give no geometry, as its own headers show.
 
 ghost use Rattle.std.specs.Option.{ForSome, IsSomeAnd};
-ghost use Rattle.std.specs.Prelude.{◌≡◌, ◌≢◌, ◌+◌, ◌^◌, ◌≤◌, ◌⊎◌, [], IfErr, IfOk, IfSome, IsOkAnd, None, codes, drop, length, take, true};
+ghost use Rattle.std.specs.Prelude.{◌≡◌, ◌≢◌, ◌+◌, ◌^◌, ◌≤◌, ◌⊎◌, [], IfErr, IfOk, IfSome, IsFalse, IsOkAnd, IsTrue, None, OnErr, codes, drop, length, slice_index_or, take, true};
 ghost use Rattle.ubi_commands.specs.declared.asked.Asked.TheVariants as asked;
 ghost use Rattle.ubi_commands.specs.inner.Ended.{Works};
-ghost use Rattle.ubi_commands.specs.Lines.{undetected_side_line};
-ghost use Rattle.ubi_commands.specs.Program.{IsDump, IsToldFirst, IsUntoldDump, TellsNothing, told_dump};
+ghost use Rattle.ubi_commands.specs.Lines.{images_side_line, undetected_side_line};
+ghost use Rattle.ubi_commands.specs.Program.{IsDump, IsToldFirst, IsUntoldDump, TellsNothing, is_split, is_all_of_file, told_dump};
 ghost use Rattle.ubi_detect.specs.declared.detect.Detected.{Detected};
 ghost use Rattle.ubi_files.specs.Answer.{Gives, says};
 ghost use Rattle.ubi_files.specs.Dump.{greatest_dump, misfit_of, seen};
@@ -17,9 +17,10 @@ ghost use Rattle.ubi_files.specs.Told.{Tells};
 ghost use Rattle.ubi_scan.specs.Source.{Narrows, holds, memory};
 
 use crate::asked::{Asked, Paths, Sought};
-use crate::lines::undetected_side_line;
+use crate::lines::{images_side_line, undetected_side_line};
+use crate::remarks::remark_part;
 use std::alloc::{AllocError, Global};
-use ubi_detect::{DetectError, Detected, Undetected, detect_from};
+use ubi_detect::{DetectError, Detected, Found, Images, Undetected, detect_from};
 use ubi_files::{
     Disk, Dump, DumpSource, FAILED, FilePart, Frame, ImageFile, Numbers, OpenImage, Outcome, Seen,
     ToolError, Unread, frame_of, open_beside, open_dump, see_kept, unread_file,
@@ -63,6 +64,7 @@ impl<'a> Sought<'a> {
             part,
             oob: told.oob,
             bad: self.bad,
+            counts_before: true,
         })
     }
 }
@@ -77,24 +79,68 @@ fn undetected(alloc: Global, side: &str, cause: Undetected) -> Unread
     }
 }
 
-/// What the headers of a source show first.
+/// Whether the words give no part of a file.
+fn is_all_of_file(part: FilePart) -> bool
+    ensures { result ≡ is_all_of_file part }
+{
+    part.start == 0 && part.length.is_none()
+}
+
+/// Whether a file is split: its images are apart from each other, and the words give no part of it.
+fn is_split(part: FilePart, images: &Images) -> bool
+    ensures { result ≡ is_split part images.now }
+{
+    is_all_of_file(part) && images.are_apart
+}
+
+/// What is printed for a file that is split: the line of its images, after a side; or that memory ran out.
+fn several(alloc: Global, side: &str, images: &Images) -> Unread
+    ensures { Tells (λ o. Gives o (says (images_side_line side.now images.now.spans.items) 1)) result }
+{
+    match images_side_line(alloc, side, images.spans.as_slice()) {
+        Ok(line) => Unread::Told(Outcome::saying(line, FAILED)),
+        Err(AllocError) => Unread::Memory,
+    }
+}
+
+/// What is found first in a part of a file.
 ///
 /// # Errors
 ///
-/// The line of the file, if a read failed; that of the cause for which they show nothing, after a side; or that memory ran out.
+/// The line of the images of the file, after a side, if it is split; or that memory ran out.
+fn first_of(alloc: Global, found: &Found, part: FilePart, side: &str) -> Result<Detected, Unread>
+    requires { found.now.geometries.items ≢ [] }
+    ensures first { IfOk result (λ told. told ≡ slice_index_or found.now.geometries.items 0 told) }
+    ensures whole { IfOk result (λ _. IsFalse (is_split part found.now.images)) }
+    ensures split { OnErr result (IsTrue (is_split part found.now.images)) }
+    ensures line { IfErr result (Tells (λ o. Gives o (says (images_side_line side.now found.now.images.spans.items) 1))) }
+{
+    if is_split(part, &found.images) {
+        return Err(several(alloc, side, &found.images));
+    }
+    Ok(found.geometries[0])
+}
+
+/// What the headers of a source over a part of a file show first.
+///
+/// # Errors
+///
+/// The line of the file, if a read failed; that of the cause for which they show nothing, after a side, or of the images of the file, if
+/// it is split; or that memory ran out.
 fn first_told<S: BlockSource>(
     alloc: Global,
     source: &mut S,
+    part: FilePart,
     path: &str,
     side: &str,
 ) -> Result<Detected, Unread>
     ensures narrows { Narrows (S.agrees source.old) (S.agrees source.new) }
     ensures known { IfOk result (λ _. S.known source.new ≡ S.known source.old) }
-    ensures first { IfOk result (λ told. IsToldFirst (S.agrees source.new) told) }
-    ensures nothing { IfErr result (Tells (Works (S.known source.old) (S.known source.new) path.now (TellsNothing side.now (S.known source.old) (S.agrees source.new)))) }
+    ensures first { IfOk result (λ told. IsToldFirst part (S.agrees source.new) told) }
+    ensures nothing { IfErr result (Tells (Works (S.known source.old) (S.known source.new) path.now (TellsNothing part side.now (S.known source.old) (S.agrees source.new)))) }
 {
     match detect_from(alloc, source) {
-        Ok(found) => Ok(found[0]),
+        Ok(found) => first_of(alloc, &found, part, side),
         Err(DetectError::Undetected(cause)) => Err(undetected(alloc, side, cause)),
         Err(DetectError::Read(_)) => Err(unread_file(alloc, path, ToolError::Read)),
         Err(DetectError::Memory) => Err(Unread::Memory),
@@ -148,11 +194,11 @@ fn seek_at_places<'a, S: BlockSource>(
 ) -> Result<KnownDump<'a>, Unread>
     ensures narrows { Narrows (S.agrees source.old) (S.agrees source.new) }
     ensures known { IfOk result (λ _. S.known source.new ≡ S.known source.old) }
-    ensures told { IfOk result (λ known. (told : Detected) × IsToldFirst (S.agrees source.new) told × (known.dump ≡ told_dump sought.now told)) }
+    ensures told { IfOk result (λ known. (told : Detected) × IsToldFirst sought.now.part (S.agrees source.new) told × (known.dump ≡ told_dump sought.now told)) }
     ensures kept { IfOk result (λ known. known.kept ≡ None) }
-    ensures nothing { IfErr result (Tells (λ o. Works (S.known source.old) (S.known source.new) path.now (TellsNothing side.now (S.known source.old) (S.agrees source.new)) o ⊎ Gives o (says (file_line (codes "cannot read ") path.now) 1))) }
+    ensures nothing { IfErr result (Tells (λ o. Works (S.known source.old) (S.known source.new) path.now (TellsNothing sought.now.part side.now (S.known source.old) (S.agrees source.new)) o ⊎ Gives o (says (file_line (codes "cannot read ") path.now) 1))) }
 {
-    let told = first_told(alloc, source, path, side)?;
+    let told = first_told(alloc, source, sought.part, path, side)?;
     Ok(KnownDump::given(dump_told(alloc, sought, &told, path)?))
 }
 
@@ -168,11 +214,12 @@ fn seek_whole<'a>(
     path: &str,
     side: &str,
 ) -> Result<KnownDump<'a>, Unread>
-    ensures told { IfOk result (λ known. (told : Detected) × IsToldFirst (holds file.bytes.items) told × (known.dump ≡ told_dump sought.now told) × IsSomeAnd known.kept (λ bytes. bytes.items ≡ take told.length (drop told.start file.bytes.items))) }
-    ensures nothing { IfErr result (Tells (λ o. TellsNothing side.now (memory file.bytes.items) (holds file.bytes.items) o ⊎ Gives o (says (file_line (codes "cannot read ") path.now) 1))) }
+    ensures told { IfOk result (λ known. (told : Detected) × IsToldFirst sought.now.part (holds file.bytes.items) told × (known.dump ≡ told_dump sought.now told) × IsSomeAnd known.kept (λ bytes. bytes.items ≡ take told.length (drop told.start file.bytes.items))) }
+    ensures nothing { IfErr result (Tells (λ o. TellsNothing sought.now.part side.now (memory file.bytes.items) (holds file.bytes.items) o ⊎ Gives o (says (file_line (codes "cannot read ") path.now) 1))) }
 {
     let mut bytes = file.bytes;
-    let told = first_told(alloc, &mut MemorySource::new(bytes.as_slice()), path, side)?;
+    let mut source = MemorySource::new(bytes.as_slice());
+    let told = first_told(alloc, &mut source, sought.part, path, side)?;
     let dump = dump_told(alloc, sought, &told, path)?;
     keep_part(&mut bytes, told.start, told.length);
     Ok(KnownDump {
@@ -187,7 +234,7 @@ fn seek_whole<'a>(
 ///
 /// The line of a file that can't be read, or that doesn't have the part in which they are looked for; that of the cause for which
 /// they show nothing, after a side; or that memory ran out.
-fn seek_dump<'a, D: Disk>(
+fn seek_dump<'a, D: Disk + Eprint>(
     disk: &D,
     alloc: Global,
     sought: &Sought<'a>,
@@ -202,9 +249,17 @@ fn seek_dump<'a, D: Disk>(
     let frame = frame_of(alloc, &Dump::greatest(sought.part))?;
     match open_dump(disk, alloc, &frame, path)? {
         OpenImage::AtPlaces(mut file) => {
-            seek_at_places(alloc, sought, &mut file.source, path, side)
+            let len = file.source.len();
+            let found = seek_at_places(alloc, sought, &mut file.source, path, side);
+            remark_part(disk, path, sought.part, len, &found);
+            found
         }
-        OpenImage::Whole(file) => seek_whole(alloc, sought, file, path, side),
+        OpenImage::Whole(file) => {
+            let len = file.bytes.len() as u64;
+            let found = seek_whole(alloc, sought, file, path, side);
+            remark_part(disk, path, sought.part, len, &found);
+            found
+        }
     }
 }
 
@@ -214,7 +269,7 @@ fn seek_dump<'a, D: Disk>(
 ///
 /// If the words give no geometry: the line of a file that can't be read, or that doesn't have the part in which its headers are
 /// looked for; that of the cause for which they show nothing, after a side; or that memory ran out.
-pub fn find_dump<'a, D: Disk>(
+pub fn find_dump<'a, D: Disk + Eprint>(
     disk: &D,
     alloc: Global,
     asked: &Asked<'a>,

@@ -1,15 +1,16 @@
 //! The command `geometry`: the geometries that a dump's own headers give, and which part of the file is the image.
 
+ghost use Rattle.std.specs.List.{flat_map};
 ghost use Rattle.std.specs.Prelude.{◌≡◌, ◌+◌, ◌++◌, IfErr, IfOk, OnOk, codes, decimal};
 ghost use Rattle.ubi_scan.specs.Source.{Narrows, WhereHeld};
 ghost use Rattle.ubi_files.specs.AfterRun.{IsNoWrite, after_run};
-ghost use Rattle.ubi_commands.specs.Geometry.{Detects, DetectsFrom, geometry_told, is_whole_file, oob_option, options, options_line, options_lines, part_options, sizes_options};
+ghost use Rattle.ubi_commands.specs.Geometry.{Detects, DetectsFrom, geometry_lines, geometry_told, is_whole_file, oob_option, options, options_line, options_lines, part_options, sizes_options, span_line};
 ghost use Rattle.ubi_files.specs.Views.{whole_file};
 
 use crate::format::{Format, undetected_told};
 use itoa::Buffer;
 use std::alloc::{AllocError, Global};
-use ubi_detect::{DetectError, Detected, detect_from};
+use ubi_detect::{DetectError, Detected, Found, Span, detect_from};
 use ubi_files::{
     DONE, FAILED, FilePart, Outcome, ToolError, WHOLE_FILE, in_memory, put_number, put_word,
 };
@@ -106,24 +107,66 @@ fn options_lines(
     Ok(text)
 }
 
+/// Adds the line of where an image lies that was found in a part of a file.
+fn put_span_line(text: &mut Vec<u8>, part: FilePart, span: &Span) -> Result<(), AllocError>
+    ensures { OnOk result (text.new.items ≡ text.old.items ++ span_line part span.now) }
+{
+    let mut buffer = Buffer::new();
+    put_word(text, "--start ")?;
+    put_word(
+        text,
+        buffer.format(u128::from(part.start) + u128::from(span.start)),
+    )?;
+    put_number(text, " --length ", span.length)?;
+    put_word(text, "\n")
+}
+
+/// Adds the lines of where images lie, in order.
+fn put_span_lines(text: &mut Vec<u8>, part: FilePart, spans: &[Span]) -> Result<(), AllocError>
+    ensures { OnOk result (text.new.items ≡ text.old.items ++ flat_map (span_line part) spans.now) }
+{
+    for span in spans {
+        put_span_line(text, part, span)?;
+    }
+    Ok(())
+}
+
+/// The lines of all that is found in a part of `len` bytes, and then of where all images lie, if there are several.
+fn geometry_lines(
+    alloc: Global,
+    part: FilePart,
+    len: u64,
+    found: &[Detected],
+    spans: &[Span],
+) -> Result<Vec<u8>, AllocError>
+    ensures { IfOk result (λ text. text.items ≡ geometry_lines part len found.now spans.now) }
+{
+    let mut text = options_lines(alloc, part, len, found)?;
+    put_span_lines(&mut text, part, spans)?;
+    Ok(text)
+}
+
 /// What is printed in a format for all that is found in a part of `len` bytes.
 fn geometry_told(
     alloc: Global,
     format: Format,
     part: FilePart,
     len: u64,
-    found: &[Detected],
+    found: &Found,
 ) -> Result<Vec<u8>, AllocError>
-    ensures { IfOk result (λ text. text.items ≡ geometry_told format part len found.now) }
+    ensures { IfOk result (λ text. text.items ≡ geometry_told format part len found.now.geometries.items found.now.images.spans.items) }
 {
+    let geometries = found.geometries.as_slice();
+    let spans = found.images.spans.as_slice();
     match format {
-        Format::Text => options_lines(alloc, part, len, found),
-        Format::Json => ubi_json::geometry_line(alloc, part, found),
+        Format::Text => geometry_lines(alloc, part, len, geometries, spans),
+        Format::Json => ubi_json::geometry_line(alloc, part, geometries, spans),
     }
 }
 
 /// Finds the geometries that the headers of a part of a file give, and which part of the file is the image. It answers with a line for
-/// each, of options for the other commands; or with the cause for which none is found. The source is over that part.
+/// each, of options for the other commands, and with a line for each image if there are several; or with the cause for which none is
+/// found. The source is over that part.
 ///
 /// # Errors
 ///
@@ -143,7 +186,7 @@ pub fn run_geometry_from<S: BlockSource>(
     let len = source.len();
     match detect_from(alloc, source) {
         Ok(found) => {
-            let text = geometry_told(alloc, format, part, len, found.as_slice())?;
+            let text = geometry_told(alloc, format, part, len, &found)?;
             Ok(Outcome::saying(text, DONE))
         }
         Err(DetectError::Undetected(cause)) => {

@@ -1,13 +1,14 @@
 //! Printed lines.
 
+ghost use Rattle.std.specs.List.{flat_map};
 ghost use Rattle.std.specs.Prelude.{◌≡◌, ◌+◌, ◌++◌, ◌≤◌, IfOk, IsOk, OnOk, codes, decimal, length, unwrap_or, vec_capacity, vec_len};
-ghost use Rattle.ubi_commands.specs.Lines.{blocks_line, bytes_line, comparison_line, layout_words, no_block_line, side_line, undetected_line, undetected_side_line, unlike_line};
+ghost use Rattle.ubi_commands.specs.Lines.{blocks_line, bytes_line, comparison_line, images_side_line, layout_words, no_block_line, side_line, span_words, undetected_line, undetected_side_line, unlike_line};
 ghost use Rattle.ubi_files.specs.Numbers.{sizes_of};
 
 use itoa::Buffer;
 use std::alloc::{AllocError, Global};
 use ubi_compare::Side;
-use ubi_detect::Undetected;
+use ubi_detect::{Span, Undetected};
 use ubi_files::{Numbers, put_number, put_word, refusal_line, refused};
 use ubi_json::side_word;
 use ubi_media::Refusal;
@@ -29,6 +30,35 @@ pub fn undetected_side_line(
 {
     let mut text = Vec::from_slice(alloc, side.as_bytes())?;
     text.extend_from_slice(undetected_line(alloc, why)?.as_slice())?;
+    Ok(text)
+}
+
+/// Adds where an image of a file lies.
+fn put_span(text: &mut Vec<u8>, span: &Span) -> Result<(), AllocError>
+    ensures { OnOk result (text.new.items ≡ text.old.items ++ span_words span.now) }
+{
+    put_number(text, " start=", span.start)?;
+    put_number(text, " length=", span.length)
+}
+
+/// Adds where each image of a file lies.
+fn put_spans(text: &mut Vec<u8>, spans: &[Span]) -> Result<(), AllocError>
+    ensures { OnOk result (text.new.items ≡ text.old.items ++ flat_map span_words spans.now) }
+{
+    for span in spans {
+        put_span(text, span)?;
+    }
+    Ok(())
+}
+
+/// The line of a file that has several images apart from each other, after the side on which it stands.
+pub fn images_side_line(alloc: Global, side: &str, spans: &[Span]) -> Result<Vec<u8>, AllocError>
+    ensures { IfOk result (λ text. text.items ≡ images_side_line side.now spans.now) }
+{
+    let mut text = Vec::from_slice(alloc, side.as_bytes())?;
+    put_word(&mut text, "refused F10 Images")?;
+    put_spans(&mut text, spans)?;
+    put_word(&mut text, "\n")?;
     Ok(text)
 }
 

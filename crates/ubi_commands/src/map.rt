@@ -269,7 +269,7 @@ pub fn run_page_from<S: BlockSource>(
 
 /// Shows what lies where in an image file, and writes a page of it, if one is asked for. The file is read as the words say, or as
 /// its own headers show.
-pub fn map_file<D: Disk>(
+pub fn map_file<D: Disk + Eprint>(
     disk: &mut D,
     alloc: Global,
     asked: &Asked<'_>,

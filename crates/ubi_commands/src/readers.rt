@@ -19,6 +19,7 @@ use crate::format::{Format, told_in};
 use crate::geometry::run_geometry_from;
 use crate::list::run_list_from;
 use crate::map::{run_map_from, run_page_from};
+use crate::remarks::{is_done, remark_passed_over, remark_start};
 use crate::show::run_show_from;
 use std::alloc::{AllocError, Global};
 use ubi_files::{Disk, FilePart, OpenImage, Outcome, ToolError, Unread, frame_of, unread_file};
@@ -81,6 +82,21 @@ impl Reading {
             Reading::Page => run_page_from(alloc, geometry, source),
         }
     }
+
+    /// Says what its answer over a source leaves out, if it lists volumes.
+    fn remark<R: Eprint, S: BlockSource>(
+        &self,
+        rt: &R,
+        alloc: Global,
+        geometry: &Geometry,
+        source: &mut S,
+        path: &str,
+        work: &Result<Outcome, ToolError>,
+    ) {
+        if matches!(self, Reading::List(_)) && is_done(work) {
+            remark_passed_over(rt, alloc, geometry, source, path);
+        }
+    }
 }
 
 /// The outcome of work over a file.
@@ -107,7 +123,7 @@ fn done_over(alloc: Global, work: Result<Outcome, ToolError>, path: &str) -> Res
 /// # Errors
 ///
 /// The line of a dump that can't be opened, or that memory ran out.
-fn answer_dump<D: Disk>(
+fn answer_dump<D: Disk + Eprint>(
     disk: &D,
     alloc: Global,
     known: KnownDump<'_>,
@@ -120,15 +136,18 @@ fn answer_dump<D: Disk>(
 {
     let KnownDump { dump, kept } = known;
     let frame = frame_of(alloc, &dump)?;
+    remark_start(disk, image, &frame);
     match open_known(disk, alloc, &frame, kept, image)? {
         OpenImage::AtPlaces(mut file) => {
             let geometry = file.geometry;
             let work = command.answer(alloc, &geometry, &mut file.source);
+            command.remark(disk, alloc, &geometry, &mut file.source, image, &work);
             done_over(alloc, work, image)
         }
         OpenImage::Whole(file) => {
             let mut source = MemorySource::new(file.bytes.as_slice());
             let work = command.answer(alloc, &file.geometry, &mut source);
+            command.remark(disk, alloc, &file.geometry, &mut source, image, &work);
             done_over(alloc, work, image)
         }
     }
@@ -139,7 +158,7 @@ fn answer_dump<D: Disk>(
 /// # Errors
 ///
 /// The line of a file in which no dump is found, or whose dump can't be opened; or that memory ran out.
-fn answer_file<D: Disk>(
+fn answer_file<D: Disk + Eprint>(
     disk: &D,
     alloc: Global,
     asked: &Asked<'_>,
@@ -154,7 +173,7 @@ fn answer_file<D: Disk>(
 }
 
 /// What a command answers over a dump for which it is known how it is read, in its format.
-pub fn read_dump<D: Disk>(
+pub fn read_dump<D: Disk + Eprint>(
     disk: &D,
     alloc: Global,
     known: KnownDump<'_>,
@@ -169,7 +188,7 @@ pub fn read_dump<D: Disk>(
 }
 
 /// What a command answers over an image file, in its format. The file is read as the words say, or as its own headers show.
-pub fn read_file<D: Disk>(
+pub fn read_file<D: Disk + Eprint>(
     disk: &D,
     alloc: Global,
     asked: &Asked<'_>,

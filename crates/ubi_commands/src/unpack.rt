@@ -25,6 +25,7 @@ use crate::dump::{KnownDump, find_dump, open_known};
 use crate::folder_config::{folder_config, write_new};
 use crate::list::{put_amount, put_shown};
 use crate::output_file::unwritten_line;
+use crate::remarks::{is_done, remark_passed_over, remark_start};
 use itoa::Buffer;
 use std::alloc::{AllocError, Global};
 use ubi_files::{
@@ -373,7 +374,7 @@ fn told_or(work: Result<Outcome, ToolError>, unread: Outcome) -> Result<Outcome,
 }
 
 /// Unpacks what the volumes of a dump read to files of a folder. It is known how the dump is read.
-fn unpack_dump<D: Disk>(
+fn unpack_dump<D: Disk + Eprint>(
     disk: &mut D,
     alloc: Global,
     known: KnownDump<'_>,
@@ -390,15 +391,22 @@ fn unpack_dump<D: Disk>(
         Ok(frame) => frame,
         Err(error) => return error.answer(),
     };
+    remark_start(disk, paths.image, &frame);
     match open_known(disk, alloc, &frame, kept, paths.image) {
         Ok(OpenImage::AtPlaces(mut file)) => {
             let geometry = file.geometry;
             let work = run_unpack_from(disk, alloc, &geometry, &mut file.source, paths.out);
+            if is_done(&work) {
+                remark_passed_over(disk, alloc, &geometry, &mut file.source, paths.image);
+            }
             told_or(work, unread)
         }
         Ok(OpenImage::Whole(file)) => {
             let mut source = MemorySource::new(file.bytes.as_slice());
             let work = run_unpack_from(disk, alloc, &file.geometry, &mut source, paths.out);
+            if is_done(&work) {
+                remark_passed_over(disk, alloc, &file.geometry, &mut source, paths.image);
+            }
             told_or(work, unread)
         }
         Err(error) => error.answer(),
@@ -406,7 +414,7 @@ fn unpack_dump<D: Disk>(
 }
 
 /// Unpacks what the volumes of an image file read to files of a folder. The file is read as the words say, or as its own headers show.
-pub fn unpack_file<D: Disk>(
+pub fn unpack_file<D: Disk + Eprint>(
     disk: &mut D,
     alloc: Global,
     asked: &Asked<'_>,

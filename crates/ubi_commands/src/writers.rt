@@ -8,15 +8,16 @@ ghost use Rattle.ubi_scan.specs.Source.{Narrows};
 ghost use Rattle.ubi_files.specs.AfterRun.{WhereNotDone, after_run};
 ghost use Rattle.ubi_files.specs.Answer.{Gives, says};
 ghost use Rattle.ubi_files.specs.Lines.{file_line};
-ghost use Rattle.ubi_files.specs.Disk.{AllStay, Files, OthersStay, fresh};
+ghost use Rattle.ubi_files.specs.Disk.{AllStay, Files, OthersStay, Stays, fresh};
 ghost use Rattle.ubi_files.specs.Late.{contents_of};
 ghost use Rattle.ubi_files.specs.Dump.{seen};
 ghost use Rattle.ubi_files.specs.Kept.{IsPartOf};
 ghost use Rattle.ubi_files.specs.Opened.{IsOpened, IsUnreadOf};
 ghost use Rattle.ubi_commands.specs.inner.Ended.{IsEnded, Works};
-ghost use Rattle.ubi_commands.specs.Program.{OfAsked, WritesInto};
+ghost use Rattle.ubi_commands.specs.Program.{KeepsImage, OfAsked, WritesInto};
 ghost use Rattle.ubi_files.specs.OverFile.{OfFile};
-ghost use Rattle.ubi_commands.specs.inner.Writes.{HasWork, writes};
+ghost use Rattle.ubi_commands.specs.inner.Replaced.{Replaces};
+ghost use Rattle.ubi_commands.specs.inner.Writes.{HasWork, may_replace, writes};
 ghost use Rattle.ubi_files.specs.declared.dump.Dump.{Dump};
 
 use crate::asked::{Asked, Paths};
@@ -24,7 +25,9 @@ use crate::change::{NewBytes, run_change_from};
 use crate::dump::{KnownDump, find_dump, open_known_beside};
 use crate::extract::run_extract_from;
 use crate::normalise::run_normalise;
+use crate::opening::{Opening, opening_of};
 use crate::output_file::{keep_file, unwritten_line};
+use crate::remarks::{is_done, remark_anchor, remark_passed_over, remark_start};
 use crate::rename::run_rename_from;
 use crate::volume_key::VolumeKey;
 use std::alloc::{AllocError, Global};
@@ -32,8 +35,8 @@ use std::io::Write;
 use std::marker::Brand;
 use ubi_change::Avoided;
 use ubi_files::{
-    DONE, Disk, DumpSource, LateFile, OpenImage, Outcome, ProgressWriter, Seen, Target, ToolError,
-    frame_of, unread_line,
+    DONE, Disk, DumpSource, HeldFile, LateFile, OpenImage, Outcome, ProgressWriter, Seen, Target,
+    ToolError, frame_of, unread_line,
 };
 use ubi_media::Geometry;
 use ubi_scan::{BlockSource, MemorySource, PlacedFile};
@@ -52,12 +55,22 @@ pub enum Writing<'a> {
 }
 
 impl Writing<'_> {
+    /// Whether it has a use for an output that is the image.
+    fn may_replace(&self) -> bool
+        ensures { result ≡ may_replace self.now }
+    {
+        match self {
+            Writing::Extract(_) => false,
+            Writing::Normalise | Writing::Change(..) | Writing::Rename(..) => true,
+        }
+    }
+
     /// Does its work over a source, to a writer, and adds the pages that a plan programs to `pages`.
     ///
     /// # Errors
     ///
     /// `Read` if a read failed, and `Write` if a write failed. `Memory` if memory ran out.
-    fn answer<S: BlockSource, W: Write>(
+    pub fn answer<S: BlockSource, W: Write>(
         &self,
         alloc: Global,
         geometry: &Geometry,
@@ -82,6 +95,29 @@ impl Writing<'_> {
             Writing::Rename(id, word, avoided, stop) => run_rename_from(
                 alloc, geometry, source, avoided, *id, word, *stop, writer, pages,
             ),
+        }
+    }
+
+    /// Says what its answer over a source leaves out; and if it plans, whether the source has a fastmap.
+    pub fn remark<R: Eprint, S: BlockSource>(
+        &self,
+        rt: &R,
+        alloc: Global,
+        geometry: &Geometry,
+        source: &mut S,
+        path: &str,
+        work: &Result<Outcome, AllocError>,
+    ) {
+        if !is_done(work) {
+            return;
+        }
+        match self {
+            Writing::Normalise | Writing::Extract(_) => {
+                remark_passed_over(rt, alloc, geometry, source, path);
+            }
+            Writing::Change(..) | Writing::Rename(..) => {
+                remark_anchor(rt, alloc, geometry, source, path);
+            }
         }
     }
 }
@@ -144,11 +180,11 @@ fn ended<D: Disk, K: Target>(
 
 /// What is answered if a file fails. It is made before the output is opened, so that nothing is written if memory runs out.
 #[derive(Drop)]
-struct Faults {
+pub struct Faults {
     /// The answer if the image can't be read.
-    unread: Outcome,
+    pub unread: Outcome,
     /// The answer if the output can't be written.
-    unwritten: Outcome,
+    pub unwritten: Outcome,
 }
 
 /// The file that the work of a command reads, and the one that it writes.
@@ -256,19 +292,125 @@ pub fn write_opened<D: Disk + Eprint>(
         OpenImage::AtPlaces(mut file) => {
             let geometry = file.geometry;
             let source = &mut file.source;
-            work_into(disk, alloc, &geometry, source, way, command, pages)
+            let work = work_into(disk, alloc, &geometry, source, way, command, pages);
+            command.remark(disk, alloc, &geometry, source, way.paths.image, &work);
+            work
         }
         OpenImage::Whole(file) => {
+            let geometry = file.geometry;
             let mut source = MemorySource::new(file.bytes.as_slice());
-            work_into(
-                disk,
-                alloc,
-                &file.geometry,
-                &mut source,
-                way,
-                command,
-                pages,
-            )
+            let work = work_into(disk, alloc, &geometry, &mut source, way, command, pages);
+            command.remark(disk, alloc, &geometry, &mut source, way.paths.image, &work);
+            work
+        }
+    }
+}
+
+/// What is answered for work that came to an outcome, once the file at a path was given the bytes that are kept for it, if all is done.
+pub fn replaced<D: Disk>(
+    disk: &mut D,
+    alloc: Global,
+    outcome: Outcome,
+    bytes: &[u8],
+    out: &str,
+    unwritten: Outcome,
+) -> Outcome
+    ensures answer { Replaces out.now (D.files disk.old) (D.files disk.new) bytes.now outcome unwritten result }
+    ensures others { OthersStay (D.files disk.old) (D.files disk.new) out.now }
+{
+    if outcome.status != DONE {
+        return outcome;
+    }
+    match disk.replace(alloc, out, bytes) {
+        Ok(()) => outcome,
+        Err(_) => unwritten,
+    }
+}
+
+/// Does the work of a command over a source, and gives the file at a path all of its bytes at once.
+fn work_at_once<D: Disk, S: BlockSource, K: Target>(
+    disk: &mut D,
+    alloc: Global,
+    geometry: &Geometry,
+    source: &mut S,
+    paths: &Paths<'_>,
+    command: &Writing<'_>,
+    faults: Faults,
+    pages: &mut Vec<u8>,
+) -> Result<Outcome, AllocError>
+    requires files { D.files disk.old ≡ K.files }
+    requires empty { pages.old.items ≡ [] }
+    requires unread { Gives faults.unread (says (file_line (codes "cannot read ") paths.now.image.now) 1) }
+    requires unwritten { Gives faults.unwritten (says (file_line (codes "cannot write ") paths.now.out.now) 1) }
+    ensures narrows { Narrows (S.agrees source.old) (S.agrees source.new) }
+    ensures answer { IfOk result (Works (S.known source.old) (S.known source.new) paths.now.image.now (WritesInto paths.now.out.now (D.files disk.old) (D.files disk.new) (writes command.now geometry.now (S.known source.old) (S.agrees source.new) pages.new.items) (HasWork command.now geometry.now (S.known source.old) (S.agrees source.new)))) }
+    ensures others { OthersStay (D.files disk.old) (D.files disk.new) paths.now.out.now }
+    ensures kept { IfOk result (λ o. o.status ≢ 0 → D.files disk.new ≡ D.files disk.old) }
+    ensures memory { OnErr result (AllStay (D.files disk.old) (D.files disk.new)) }
+{
+    let Faults { unread, unwritten } = faults;
+    let mut held: HeldFile<K> = HeldFile::new(alloc);
+    match command.answer(alloc, geometry, source, &mut held, pages) {
+        Ok(outcome) => Ok(replaced(disk, alloc, outcome, held.bytes(), paths.out, unwritten)),
+        Err(ToolError::Read) => Ok(unread),
+        // It takes all bytes, unless it can't grow.
+        Err(ToolError::Write | ToolError::Memory) => Err(AllocError),
+    }
+}
+
+/// Does the work of a command over a source, and gives the file at a path all of its bytes at once.
+fn replace_into<D: Disk, S: BlockSource>(
+    disk: &mut D,
+    alloc: Global,
+    geometry: &Geometry,
+    source: &mut S,
+    paths: &Paths<'_>,
+    command: &Writing<'_>,
+    pages: &mut Vec<u8>,
+) -> Result<Outcome, AllocError>
+    requires { pages.old.items ≡ [] }
+    ensures narrows { Narrows (S.agrees source.old) (S.agrees source.new) }
+    ensures answer { IfOk result (Works (S.known source.old) (S.known source.new) paths.now.image.now (WritesInto paths.now.out.now (D.files disk.old) (D.files disk.new) (writes command.now geometry.now (S.known source.old) (S.agrees source.new) pages.new.items) (HasWork command.now geometry.now (S.known source.old) (S.agrees source.new)))) }
+    ensures others { OthersStay (D.files disk.old) (D.files disk.new) paths.now.out.now }
+    ensures kept { IfOk result (λ o. o.status ≢ 0 → D.files disk.new ≡ D.files disk.old) }
+    ensures memory { OnErr result (AllStay (D.files disk.old) (D.files disk.new)) }
+{
+    let faults = Faults {
+        unread: unread_line(alloc, paths.image)?,
+        unwritten: unwritten_line(alloc, paths.out)?,
+    };
+    work_at_once::<D, S, Brand>(disk, alloc, geometry, source, paths, command, faults, pages)
+}
+
+/// Does the work of a command over an image that was opened, whose file it gives other bytes, all at once.
+fn replace_opened<D: Disk + Eprint>(
+    disk: &mut D,
+    alloc: Global,
+    opened: OpenImage<DumpSource<'_, D::Placed>>,
+    paths: &Paths<'_>,
+    command: &Writing<'_>,
+    pages: &mut Vec<u8>,
+) -> Result<Outcome, AllocError>
+    requires { pages.old.items ≡ [] }
+    ensures answer { (d : Files) (dump : Dump) → IsOpened (λ s. IsUnreadOf (seen dump d) paths.now.image.now (⟦<Seen<'static, D::Placed> as PlacedFile>⟧.bytes s.file) s.failures) d paths.now.image.now dump opened.entry → IfOk result (OfFile d dump paths.now.image.now (λ s k agrees. WritesInto paths.now.out.now (D.files disk.old) (D.files disk.new) (writes command.now s k agrees pages.new.items) (HasWork command.now s k agrees))) }
+    ensures others { OthersStay (D.files disk.old) (D.files disk.new) paths.now.out.now }
+    ensures kept { IfOk result (λ o. o.status ≢ 0 → D.files disk.new ≡ D.files disk.old) }
+    ensures memory { OnErr result (AllStay (D.files disk.old) (D.files disk.new)) }
+{
+    match opened {
+        OpenImage::AtPlaces(mut file) => {
+            let geometry = file.geometry;
+            let source = &mut file.source;
+            let work = replace_into(disk, alloc, &geometry, source, paths, command, pages);
+            command.remark(disk, alloc, &geometry, source, paths.image, &work);
+            work
+        }
+        OpenImage::Whole(file) => {
+            let geometry = file.geometry;
+            let mut source = MemorySource::new(file.bytes.as_slice());
+            let work = replace_into(disk, alloc, &geometry, &mut source, paths, command, pages);
+            command.remark(disk, alloc, &geometry, &mut source, paths.image, &work);
+            work
         }
     }
 }
@@ -285,6 +427,8 @@ fn write_dump<D: Disk + Eprint>(
     requires kept { ForSome known.kept (λ bytes. IsPartOf (D.files disk.old) known.dump paths.now.image.now bytes.items) }
     ensures answer { IfOk result (λ o. (pages : List ℕ) × OfFile (D.files disk.old) known.entry.dump paths.now.image.now (λ s k agrees. WritesInto paths.now.out.now (D.files disk.old) (D.files disk.new) (writes command.now s k agrees pages) (HasWork command.now s k agrees)) o) }
     ensures others { OthersStay (D.files disk.old) (D.files disk.new) paths.now.out.now }
+    ensures image { IfOk result (KeepsImage (D.files disk.old) (D.files disk.new) paths.now.image.now) }
+    ensures read { may_replace command.now ≡ false → Stays (D.files disk.old) (D.files disk.new) paths.now.image.now }
     ensures memory { OnErr result (AllStay (D.files disk.old) (D.files disk.new)) }
 {
     let KnownDump { dump, kept } = known;
@@ -292,15 +436,30 @@ fn write_dump<D: Disk + Eprint>(
         Ok(frame) => frame,
         Err(unread) => return unread.answer(),
     };
-    let way = Way {
-        paths: *paths,
-        may_open: true,
-        is_watched,
+    remark_start(disk, paths.image, &frame);
+    let opened = match open_known_beside(disk, alloc, &frame, kept, paths) {
+        Ok(opened) => opened,
+        Err(unread) => return unread.answer(),
     };
     let mut pages = Vec::new(alloc);
-    match open_known_beside(disk, alloc, &frame, kept, paths) {
-        Ok(opened) => write_opened(disk, alloc, opened, &way, command, &mut pages),
-        Err(unread) => unread.answer(),
+    match opening_of(disk, &frame.dump, paths, command.may_replace()) {
+        Opening::AtOnce => replace_opened(disk, alloc, opened, paths, command, &mut pages),
+        Opening::Late => {
+            let way = Way {
+                paths: *paths,
+                may_open: true,
+                is_watched,
+            };
+            write_opened(disk, alloc, opened, &way, command, &mut pages)
+        }
+        Opening::Never => {
+            let way = Way {
+                paths: *paths,
+                may_open: false,
+                is_watched,
+            };
+            write_opened(disk, alloc, opened, &way, command, &mut pages)
+        }
     }
 }
 
@@ -315,6 +474,8 @@ pub fn write_file<D: Disk + Eprint>(
 ) -> Result<Outcome, AllocError>
     ensures answer { IfOk result (λ o. (pages : List ℕ) × OfAsked (D.files disk.old) (D.files disk.new) asked.now paths.now.image.now (λ s k agrees. WritesInto paths.now.out.now (D.files disk.old) (D.files disk.new) (writes command.now s k agrees pages) (HasWork command.now s k agrees)) o) }
     ensures others { OthersStay (D.files disk.old) (D.files disk.new) paths.now.out.now }
+    ensures image { IfOk result (KeepsImage (D.files disk.old) (D.files disk.new) paths.now.image.now) }
+    ensures read { may_replace command.now ≡ false → Stays (D.files disk.old) (D.files disk.new) paths.now.image.now }
     ensures memory { OnErr result (AllStay (D.files disk.old) (D.files disk.new)) }
 {
     match find_dump(disk, alloc, asked, paths.image, "") {

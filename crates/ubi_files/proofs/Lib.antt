@@ -1,3 +1,4 @@
+pub mod BehindBytes
 pub mod Defaults
 pub mod FileRows
 pub mod Marked

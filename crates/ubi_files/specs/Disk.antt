@@ -20,6 +20,10 @@ untold = record { tells = false; holds = λ path. None }
 abbrev pub fresh : Files → Option (List ℕ)
 fresh d = if d.tells then Some [] else None
 
+-- what it has received once these bytes were written to it
+abbrev pub full_of : Files → List ℕ → Option (List ℕ)
+full_of d bytes = if d.tells then Some bytes else None
+
 -- if it is known what the file at a path holds, that is what it received
 abbrev pub Holds : Files → List ℕ → Option (List ℕ) → Type 0
 Holds d path received = IfSome (d.holds path) (λ bytes. received ≡ Some bytes)

@@ -1,6 +1,7 @@
--- A dump as it is read: the pages of a part of a file, with 0xFF in place of bad eraseblocks.
-use Rattle.std.specs.Prelude.{◌≡◌, ℕ, ◌*◌, ◌+◌, Bool, IfSome, List, [], None, Option, Some, length, min, option_map}
+-- A dump as it is read: the pages of a part of a file, with 0xFF in place of bad eraseblocks and of those before the part.
+use Rattle.std.specs.Prelude.{◌≡◌, ℕ, ◌*◌, ◌+◌, ◌++◌, ◌/◌, ◌%◌, ◌==◌, ◌&&◌, Bool, IfSome, List, [], None, Option, Some, drop, false, if◌then◌else◌, length, min, option_map, replicate, true}
 use Rattle.std.specs.Option.{option_map_or}
+use Rattle.ubi_media.specs.Fields.{blank}
 use Rattle.ubi_files.specs.BadBlocks.{bad_marks, masked}
 use Rattle.ubi_files.specs.Disk.{Files}
 use Rattle.ubi_files.specs.Numbers.{greatest_numbers, sizes_of}
@@ -9,14 +10,38 @@ use Rattle.ubi_files.specs.declared.dump.Dump.{Dump}
 use Rattle.ubi_files.specs.declared.view.FilePart.{FilePart}
 use Rattle.ubi_files.specs.declared.view.Misfit.{Misfit}
 
--- whether the words list each eraseblock of the device as bad; there are no marks if they give no list
-abbrev pub marks_of : Dump → List Bool
-marks_of dump = option_map_or (λ list. bad_marks (sizes_of dump.numbers).pebs list.now) dump.bad []
+-- how many bytes of the file an eraseblock has, with its out-of-band bytes
+abbrev pub raw_size : Dump → ℕ
+raw_size dump = let s = sizes_of dump.numbers in s.peb_size / s.page * (s.page + dump.oob)
 
--- the bytes of a file, as they are read
+-- whether the part begins with an eraseblock of the file
+abbrev pub begins_with_block : Dump → Bool
+begins_with_block dump = dump.part.start % raw_size dump == 0
+
+-- how many eraseblocks of the file lie before the part, if they count and the part begins with one; if it doesn't, none counts
+abbrev pub blocks_before : Dump → ℕ
+blocks_before dump =
+    if dump.counts_before && begins_with_block dump then dump.part.start / raw_size dump else 0
+
+-- what is read of these
+abbrev pub before : Dump → List ℕ
+before dump = blank (blocks_before dump * (sizes_of dump.numbers).peb_size)
+
+-- marks of eraseblocks, of which the first n are marked too
+abbrev pub with_first : ℕ → List Bool → List Bool
+with_first n marks = replicate n true ++ drop n marks
+
+-- whether each eraseblock of the device lies before the part, or the words list it as bad; there are no more marks than that needs
+abbrev pub marks_of : Dump → List Bool
+marks_of dump =
+    let pebs = (sizes_of dump.numbers).pebs in
+    with_first (min pebs (blocks_before dump)) (option_map_or (λ list. bad_marks pebs list.now) dump.bad [])
+
+-- the bytes of a file, as they are read: the eraseblocks before the part are there too, so that all are counted from its beginning
 abbrev pub viewed : Dump → List ℕ → List ℕ
 viewed dump bytes =
-    let s = sizes_of dump.numbers in masked s.peb_size (marks_of dump) (pages_of s.page dump.oob (part_of dump.part bytes))
+    let s = sizes_of dump.numbers in
+    masked s.peb_size (marks_of dump) (before dump ++ pages_of s.page dump.oob (part_of dump.part bytes))
 
 -- the files, each as a dump is read
 abbrev pub seen : Dump → Files → Files
@@ -46,11 +71,12 @@ as_read dump = record dump { part = record dump.part { length = option_map (λ n
 abbrev pub FitsWhole : Files → Dump → List ℕ → Type 0
 FitsWhole d dump path = IfSome (d.holds path) (λ all. misfit_of (as_read dump) (whole_len dump (length all)) ≡ None)
 
--- for a file of unknown geometry, a part of the greatest dump that there is
+-- for a file of unknown geometry, a part of the greatest dump that there is; no eraseblock before it counts
 abbrev pub greatest_dump : FilePart → Dump
 greatest_dump part = record {
   numbers = greatest_numbers;
   part = part;
   oob = 0;
   bad = None;
+  counts_before = false;
 }

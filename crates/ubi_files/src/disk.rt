@@ -1,10 +1,11 @@
 //! Files by their paths, as the commands see them.
 
-ghost use Rattle.std.specs.Prelude.{◌≡◌, ◌≢◌, ℕ, Bool, IfErr, IfOk, IfSome, List, None, OnErr, false, true};
-ghost use Rattle.ubi_files.specs.Disk.{Files, IsKept, OthersStay, fresh};
+ghost use Rattle.std.specs.Prelude.{◌≡◌, ◌≢◌, ℕ, Bool, IfErr, IfOk, IfSome, List, None, OnErr, OnOk, false, true};
+ghost use Rattle.ubi_files.specs.Disk.{Files, Holds, IsKept, OthersStay, full_of, fresh};
 
 use crate::file_row::SizedFile;
 use crate::outcome::ToolError;
+use std::alloc::Global;
 use std::io;
 use std::io::{Read, Write};
 use ubi_scan::PlacedFile;
@@ -114,6 +115,17 @@ pub trait Disk {
         ensures fresh { IfOk result (λ f. Self.Output.contents f.writer ≡ fresh (files self.old)) }
         ensures others { OthersStay (files self.old) (files self.new) path.now }
         ensures unopened { OnErr result (files self.new ≡ files self.old) };
+
+    /// Gives the ordinary file at a path other bytes, all at once: it holds all of them, or what it held.
+    ///
+    /// # Errors
+    ///
+    /// There is no ordinary file at the path, none can be made beside it, a write failed, or memory ran out. The path holds what it
+    /// held.
+    fn replace(&mut self, alloc: Global, path: &str, bytes: &[u8]) -> io::Result<()>
+        ensures received { OnOk result (Holds (files self.new) path.now (full_of (files self.old) bytes.now)) }
+        ensures others { OthersStay (files self.old) (files self.new) path.now }
+        ensures kept { OnErr result (files self.new ≡ files self.old) };
 
     /// Makes the folder at a path, or finds that there is one without files.
     ///

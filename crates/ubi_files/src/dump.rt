@@ -17,6 +17,8 @@ pub struct Dump<'a> {
     pub oob: u32,
     /// The list of its bad eraseblocks, which read 0xFF; if it is left out, none is bad.
     pub bad: Option<&'a str>,
+    /// Whether the eraseblocks of the file before the part count too, if it begins with one. They read 0xFF.
+    pub counts_before: bool,
 }
 
 impl<'a> Dump<'a> {
@@ -29,6 +31,7 @@ impl<'a> Dump<'a> {
             part,
             oob: 0,
             bad: None,
+            counts_before: false,
         }
     }
 }

@@ -1,5 +1,6 @@
 //! Folders of the system.
 
+use crate::host_file::tell_path;
 use std::fs::Files;
 use std::io::Read;
 use std::{fs, io};
@@ -34,15 +35,28 @@ fn is_empty_folder<R: Files>(rt: &R, path: &str) -> bool {
     false
 }
 
-/// Makes the folder at a path, or finds that there is one without files.
+/// Says on standard error why the folder at a path can't be made: it holds files, or what the system says.
+fn tell_unmade<R: Files + Eprint>(rt: &R, path: &str, error: &io::Error) {
+    match fs::symlink_metadata(rt, path) {
+        Ok(metadata) if metadata.is_dir() => {
+            let _ = rt.eprintln(format_args!("{path}: it holds files"));
+        }
+        _ => tell_path(rt, path, error),
+    }
+}
+
+/// Makes the folder at a path, or finds that there is one without files. If neither is so, standard error says why.
 ///
 /// # Errors
 ///
 /// There is something else at the path, or it can't be made.
-pub fn make_folder<R: Files>(rt: &R, path: &str) -> io::Result<()> {
+pub fn make_folder<R: Files + Eprint>(rt: &R, path: &str) -> io::Result<()> {
     match fs::create_dir(rt, path) {
         Ok(()) => Ok(()),
         Err(_) if is_empty_folder(rt, path) => Ok(()),
-        Err(error) => Err(error),
+        Err(error) => {
+            tell_unmade(rt, path, &error);
+            Err(error)
+        }
     }
 }

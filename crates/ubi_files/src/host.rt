@@ -5,17 +5,19 @@ ghost use Rattle.std.specs.Prelude.{◌≡◌, None};
 use crate::disk::{Disk, OutputFile, WholeFile};
 use crate::file_row::SizedFile;
 use crate::folder::make_folder;
-use crate::image_source::{is_flash, may_be_one, placed_at, placed_beside};
+use crate::host_file::{HostFile, tell_path};
+use crate::image_source::{is_flash, may_be_one, placed_at, placed_beside, refuse_printed};
 use crate::outcome::ToolError;
 use crate::read::{expected_len, open_whole};
+use crate::replaced::replace;
+use std::alloc::Global;
 use std::fmt::Display;
 use std::fs::{File, Files};
 use std::io;
-use std::io::Write;
 use std::os::unix::fs::FileExt;
-use ubi_scan::SystemFile;
 
-/// The files of the system. Other programs may write to them, so nothing is known of what they hold.
+/// The files of the system. Other programs may write to them, so nothing is known of what they hold. Where one can't be opened, read or
+/// written, standard error says why.
 #[derive(Clone, Copy)]
 pub struct Host<'a, R> {
     rt: &'a R,
@@ -30,36 +32,38 @@ impl<'a, R> Host<'a, R> {
     }
 }
 
-/// A file of the system that is written anew.
-#[derive(Drop)]
-pub struct HostFile<F> {
-    file: F,
+/// Opens the file at a path anew.
+///
+/// # Errors
+///
+/// It can't be opened, or standard output is that file.
+fn create<R: Files>(rt: &R, path: &str) -> io::Result<R::File> {
+    refuse_printed(rt, path)?;
+    File::create(rt, path)
 }
 
-impl<F: Write> Write for HostFile<F> {
-    ghost contents = { λ _. None };
-
-    fn write(&mut self, buf: &[u8]) -> io::Result<usize> {
-        self.file.write(buf)
+/// The result of work on a path; standard error says why it failed, if it did.
+fn told<R: Eprint, T>(rt: &R, path: &str, work: io::Result<T>) -> io::Result<T>
+    ensures { result ≡ work }
+{
+    if let Err(error) = &work {
+        tell_path(rt, path, error);
     }
-
-    fn flush(&mut self) -> io::Result<()> {
-        self.file.flush()
-    }
+    work
 }
 
-impl<R: Files> Disk for Host<'_, R>
+impl<'a, R: Files + Eprint> Disk for Host<'a, R>
 where
     R::File: FileExt,
 {
     ghost use Rattle.std.specs.Prelude.{None, false, refl};
     ghost use Rattle.ubi_files.specs.Disk.{IsKept, untold};
 
-    type Placed = SystemFile<R::File>;
+    type Placed = HostFile<'a, R::File, R>;
 
-    type Reader = R::File;
+    type Reader = HostFile<'a, R::File, R>;
 
-    type Output = HostFile<R::File>;
+    type Output = HostFile<'a, R::File, R>;
 
     ghost files = { λ _. untold };
 
@@ -67,11 +71,11 @@ where
 
     ghost opens = { λ _ _. false };
 
-    fn placed_at(&self, path: &str) -> Option<SizedFile<SystemFile<R::File>>> {
+    fn placed_at(&self, path: &str) -> Option<SizedFile<HostFile<'a, R::File, R>>> {
         placed_at(self.rt, path)
     }
 
-    fn placed_beside(&self, path: &str, out: &str) -> Option<SizedFile<SystemFile<R::File>>> {
+    fn placed_beside(&self, path: &str, out: &str) -> Option<SizedFile<HostFile<'a, R::File, R>>> {
         placed_beside(self.rt, path, out)
     }
 
@@ -83,27 +87,38 @@ where
         is_flash(self.rt, path)
     }
 
-    fn whole(&self, path: &str) -> Result<WholeFile<R::File>, ToolError> {
-        let reader = open_whole(self.rt, path)?;
-        let expected = expected_len(&reader);
+    fn whole(&self, path: &str) -> Result<WholeFile<HostFile<'a, R::File, R>>, ToolError> {
+        let file = open_whole(self.rt, path)?;
+        let expected = expected_len(&file);
+        let reader = HostFile::new(file, self.rt);
         Ok(WholeFile { reader, expected })
     }
 
-    fn create<'p>(&mut self, path: &'p str) -> io::Result<OutputFile<'p, HostFile<R::File>>> {
-        let file = File::create(self.rt, path)?;
-        Ok(OutputFile::new(path, HostFile { file }))
+    fn create<'p>(
+        &mut self,
+        path: &'p str,
+    ) -> io::Result<OutputFile<'p, HostFile<'a, R::File, R>>> {
+        let file = told(self.rt, path, create(self.rt, path))?;
+        Ok(OutputFile::new(path, HostFile::new(file, self.rt)))
     }
 
-    fn create_new<'p>(&mut self, path: &'p str) -> io::Result<OutputFile<'p, HostFile<R::File>>> {
-        let file = File::create_new(self.rt, path)?;
-        Ok(OutputFile::new(path, HostFile { file }))
+    fn create_new<'p>(
+        &mut self,
+        path: &'p str,
+    ) -> io::Result<OutputFile<'p, HostFile<'a, R::File, R>>> {
+        let file = told(self.rt, path, File::create_new(self.rt, path))?;
+        Ok(OutputFile::new(path, HostFile::new(file, self.rt)))
+    }
+
+    fn replace(&mut self, alloc: Global, path: &str, bytes: &[u8]) -> io::Result<()> {
+        told(self.rt, path, replace(self.rt, alloc, path, bytes))
     }
 
     fn make_folder(&self, path: &str) -> io::Result<()> {
         make_folder(self.rt, path)
     }
 
-    fn keep(&mut self, _file: OutputFile<'_, HostFile<R::File>>)
+    fn keep(&mut self, _file: OutputFile<'_, HostFile<'a, R::File, R>>)
         ensures { IsKept untold untold _file.entry.path.now None }
     {}
 }

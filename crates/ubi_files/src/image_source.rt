@@ -3,11 +3,15 @@
 ghost use Rattle.std.specs.Prelude.{◌≡◌, ◌≢◌, IfSome, true};
 
 use crate::file_row::SizedFile;
-use std::fs;
+use crate::host_file::HostFile;
 use std::fs::{FileType, Files, Metadata};
 use std::io::ErrorKind;
 use std::os::unix::fs::{FileExt, FileTypeExt, MetadataExt};
-use ubi_scan::{SystemFile, file_len};
+use std::{fs, io};
+use ubi_scan::file_len;
+
+/// The path of what is printed to.
+const STANDARD_OUTPUT: &str = "/dev/stdout";
 
 /// Whether two paths name one file, by what the system says of them: the device and the number of the file there, or
 /// which block device it is itself.
@@ -51,6 +55,27 @@ pub fn may_be_one<R: Files>(rt: &R, path: &str, other: &str) -> bool
     }
 }
 
+/// Makes sure that standard output isn't the ordinary file at a path: what is written there would lie over what is printed, or be lost
+/// with it.
+///
+/// # Errors
+///
+/// It is that file.
+pub fn refuse_printed<R: Files>(rt: &R, path: &str) -> io::Result<()> {
+    if is_printed_to(rt, path) {
+        return Err(io::Error::other("it is the file of standard output"));
+    }
+    Ok(())
+}
+
+/// Whether standard output is the ordinary file at a path.
+fn is_printed_to<R: Files>(rt: &R, path: &str) -> bool {
+    match (fs::metadata(rt, STANDARD_OUTPUT), fs::metadata(rt, path)) {
+        (Ok(printed), Ok(file)) => file.is_file() && are_one(&printed, &file),
+        _ => false,
+    }
+}
+
 /// Whether there is a character device at a path, as flash memory is one.
 pub fn is_flash<R: Files>(rt: &R, path: &str) -> bool {
     match fs::metadata(rt, path) {
@@ -66,21 +91,24 @@ fn may_have_places(kind: FileType) -> bool {
 
 /// Opens a file that is read at places, and finds its size. `None` if that fails, or if it is a device without a size,
 /// such as `/dev/zero`: it has no end.
-fn open_sized<R: Files>(
-    rt: &R,
+fn open_sized<'a, R: Files + Eprint>(
+    rt: &'a R,
     path: &str,
     kind: FileType,
-) -> Option<SizedFile<SystemFile<R::File>>>
+) -> Option<SizedFile<HostFile<'a, R::File, R>>>
 where
     R::File: FileExt,
 {
     let mut file = fs::open(rt, path).ok()?;
     let len = file_len(&mut file).ok()?;
-    (kind.is_file() || len > 0).then_some(SizedFile::new(SystemFile::new(file), len))
+    (kind.is_file() || len > 0).then_some(SizedFile::new(HostFile::new(file, rt), len))
 }
 
 /// A file to be read at places; or `None` if it can't be read so.
-pub fn placed_at<R: Files>(rt: &R, path: &str) -> Option<SizedFile<SystemFile<R::File>>>
+pub fn placed_at<'a, R: Files + Eprint>(
+    rt: &'a R,
+    path: &str,
+) -> Option<SizedFile<HostFile<'a, R::File, R>>>
 where
     R::File: FileExt,
 {
@@ -94,11 +122,11 @@ where
 
 /// A file to be read at places while the output is written; or `None` if it can't be read so, or may be the output, by the
 /// same path or by a link: what isn't read when that is opened would be lost.
-pub fn placed_beside<R: Files>(
-    rt: &R,
+pub fn placed_beside<'a, R: Files + Eprint>(
+    rt: &'a R,
     path: &str,
     out: &str,
-) -> Option<SizedFile<SystemFile<R::File>>>
+) -> Option<SizedFile<HostFile<'a, R::File, R>>>
 where
     R::File: FileExt,
     ensures { IfSome result (λ _. path.now ≢ out.now) }

@@ -1,16 +1,19 @@
 //! Files by their paths: how a dump is opened and read, how an output is written, and what is printed if either fails.
 //!
 //! A [`Disk`] reaches files by their paths; [`Host`] is the system's own. A [`Dump`] says how the bytes of a file are read:
-//! the pages of a part of it, with 0xFF in place of bad eraseblocks. [`open_dump`] opens it once its [`Frame`] is known; it
+//! the pages of a part of it, with 0xFF in place of bad eraseblocks and of those before the part. [`open_dump`] opens it once its [`Frame`] is known; it
 //! is read at places if it can be. A [`LateFile`] is an output file that is opened at the first write.
 #![tactic(auto)]
 
 mod bad_blocks;
+mod behind;
 mod disk;
 mod dump;
 mod file_row;
 mod folder;
+mod held_file;
 mod host;
+mod host_file;
 mod image_file;
 mod image_source;
 mod late_file;
@@ -23,14 +26,18 @@ mod pages;
 mod part;
 mod progress;
 mod read;
+mod replaced;
 mod view;
 mod whole_dump;
 
 pub use bad_blocks::is_block_list;
+pub use behind::Behind;
 pub use disk::{Disk, OutputFile, WholeFile};
 pub use dump::Dump;
 pub use file_row::{FileRow, SizedFile};
-pub use host::{Host, HostFile};
+pub use held_file::HeldFile;
+pub use host::Host;
+pub use host_file::HostFile;
 pub use image_file::{ImageFile, Unread, allowed_geometry, load, unread_file, unread_line};
 pub use late_file::{LateFile, Target};
 pub use lines::{

@@ -1,15 +1,17 @@
 //! Image files that are opened: to be read at places if they can be, and read whole if not.
 
-ghost use Rattle.std.specs.Prelude.{◌≡◌, ◌≢◌, ℕ, [], IfErr, IfOk, IfSome, IsOkAnd, List, MatchResult, None, Some, length, option_map, true};
+ghost use Rattle.std.specs.Prelude.{◌≡◌, ◌≢◌, ◌*◌, ◌≤◌, ℕ, [], IfErr, IfOk, IfSome, IsOkAnd, List, MatchResult, None, Some, length, option_map, true};
 ghost use Rattle.ubi_media.specs.Limits.{first_broken};
+ghost use Rattle.ubi_files.specs.BadBlocks.{bad_marks};
 ghost use Rattle.ubi_files.specs.Disk.{Files};
-ghost use Rattle.ubi_files.specs.Dump.{marks_of, misfit_of, seen, viewed};
+ghost use Rattle.ubi_files.specs.Dump.{blocks_before, marks_of, misfit_of, raw_size, seen, viewed, with_first};
 ghost use Rattle.ubi_files.specs.Numbers.{sizes_of};
 ghost use Rattle.ubi_files.specs.Opened.{IsAtPlaces, IsOpened, IsUnreadOf, WhereAtPlaces};
 ghost use Rattle.ubi_files.specs.OverFile.{IsUnread, IsUnseen};
 ghost use Rattle.ubi_files.specs.Told.{Tells};
 
 use crate::bad_blocks::bad_marks;
+use crate::behind::Behind;
 use crate::disk::Disk;
 use crate::dump::Dump;
 use crate::file_row::SizedFile;
@@ -30,21 +32,88 @@ pub struct Frame<'a> {
     pub dump: Dump<'a>,
     /// The geometry of its device.
     pub geometry: Geometry,
-    /// Whether each eraseblock of the device is bad; none is if there are no marks.
+    /// How many eraseblocks of the file lie before the part, if it begins with one.
+    pub before: u64,
+    /// Whether each eraseblock of the device is bad, or lies before the part; none does from where the marks end.
     pub marks: Vec<bool>,
     ghost limits: { first_broken (sizes_of dump.numbers) ≡ None },
     ghost sizes: { geometry ≡ sizes_of dump.numbers },
+    ghost led: { before ≡ blocks_before dump },
+    ghost few: { before * geometry.peb_size ≤ dump.part.start },
     ghost marked: { marks.items ≡ marks_of dump },
 }
 
-/// The marks of the bad eraseblocks of a dump with `pebs` of them.
-fn marks_of(alloc: Global, pebs: u32, bad: Option<&str>) -> Result<Vec<bool>, AllocError>
-    ensures { (dump : Dump) → dump.bad ≡ bad.entry → (sizes_of dump.numbers).pebs ≡ pebs → IfOk result (λ marks. marks.items ≡ marks_of dump) }
+/// How many bytes of the file an eraseblock has, if `oob` out-of-band bytes follow each page.
+fn raw_size(geometry: &Geometry, oob: u32) -> u64
+    ensures raw { (dump : Dump) → sizes_of dump.numbers ≡ geometry.now → dump.oob ≡ oob → result ≡ raw_size dump }
+    ensures least { geometry.now.peb_size ≤ result }
+    ensures some { 1 ≤ result }
 {
-    match bad {
-        Some(list) => bad_marks(alloc, pebs, list.as_bytes()),
-        None => Ok(Vec::new(alloc)),
+    let page = u64::from(geometry.page());
+    u64::from(geometry.peb_size()) / page * (page + u64::from(oob))
+}
+
+/// How many eraseblocks of the file lie before the part of a dump, if they count and the part begins with one.
+fn blocks_before(geometry: &Geometry, dump: &Dump<'_>) -> u64
+    ensures before { sizes_of dump.now.numbers ≡ geometry.now → result ≡ blocks_before dump.now }
+    ensures few { result * geometry.now.peb_size ≤ dump.now.part.start }
+{
+    let Dump {
+        part,
+        oob,
+        counts_before,
+        ..
+    } = *dump;
+    let raw = raw_size(geometry, oob);
+    if counts_before && part.start % raw == 0 {
+        part.start / raw
+    } else {
+        0
     }
+}
+
+impl Frame<'_> {
+    /// How many bytes of the file an eraseblock has, with its out-of-band bytes.
+    pub fn raw_size(&self) -> u64
+        ensures size { result ≡ raw_size self.now.dump }
+        ensures some { 1 ≤ result }
+    {
+        raw_size(&self.geometry, self.dump.oob)
+    }
+}
+
+/// The marks of the bad eraseblocks of a device with `pebs` of them, with the first `before` marked too.
+fn marks_of(
+    alloc: Global,
+    pebs: u32,
+    before: u64,
+    bad: Option<&str>,
+) -> Result<Vec<bool>, AllocError>
+    ensures { (dump : Dump) → dump.bad ≡ bad.entry → (sizes_of dump.numbers).pebs ≡ pebs → blocks_before dump ≡ before → IfOk result (λ marks. marks.items ≡ marks_of dump) }
+{
+    let first = u64::from(pebs).min(before) as usize;
+    match bad {
+        Some(list) => marks_behind(alloc, pebs, first, list),
+        None => Vec::from_elem(alloc, true, first),
+    }
+}
+
+/// The marks of a list of bad eraseblocks, with the first ones marked too.
+fn marks_behind(alloc: Global, pebs: u32, first: usize, list: &str) -> Result<Vec<bool>, AllocError>
+    requires { first ≤ pebs }
+    ensures { IfOk result (λ marks. marks.items ≡ with_first first (bad_marks pebs list.now)) }
+{
+    let mut marks = bad_marks(alloc, pebs, list.as_bytes())?;
+    mark_first(marks.as_mut_slice(), first);
+    Ok(marks)
+}
+
+/// Marks the first eraseblocks.
+fn mark_first(marks: &mut [bool], first: usize)
+    requires { first ≤ length marks.old }
+    ensures { marks.new ≡ with_first first marks.old }
+{
+    marks[..first].fill(true);
 }
 
 /// What is known of a dump before it is opened.
@@ -57,10 +126,12 @@ pub fn frame_of<'a>(alloc: Global, dump: &Dump<'a>) -> Result<Frame<'a>, Unread>
     ensures broken { (path : List ℕ) → IfErr result (Tells (IsUnread dump.now.numbers path)) }
 {
     let geometry = allowed_geometry(alloc, dump.numbers)?;
-    let marks = marks_of(alloc, geometry.pebs(), dump.bad)?;
+    let before = blocks_before(&geometry, dump);
+    let marks = marks_of(alloc, geometry.pebs(), before, dump.bad)?;
     Ok(Frame {
         dump: *dump,
         geometry,
+        before,
         marks,
     })
 }
@@ -83,8 +154,9 @@ pub enum OpenImage<S> {
     Whole(ImageFile),
 }
 
-/// A file that is read at places, as it is seen: the pages of a part of it, with 0xFF in place of bad eraseblocks.
-pub type Seen<'f, F> = Masked<'f, Pages<Part<F>>>;
+/// A file that is read at places, as it is seen: the pages of a part of it, with 0xFF in place of bad eraseblocks and of those before the
+/// part.
+pub type Seen<'f, F> = Masked<'f, Behind<Pages<Part<F>>>>;
 
 /// A source over the file of a dump, as it is seen.
 pub type DumpSource<'f, F> = FileSource<Seen<'f, F>>;
@@ -112,8 +184,9 @@ fn placed<'f, F: PlacedFile + Drop>(
     let part_len = part.length.unwrap_or(len - part.start);
     let part = Part::of(file, part.start, part_len);
     let pages = Pages::of(part, geometry.page(), oob);
-    let len = pages.len();
-    let seen = Masked::new(pages, geometry.peb_size(), frame.marks.as_slice());
+    let behind = Behind::of(pages, frame.before * u64::from(geometry.peb_size()));
+    let len = behind.len();
+    let seen = Masked::new(behind, geometry.peb_size(), frame.marks.as_slice());
     Ok(PlacedImage {
         geometry,
         source: FileSource::of(seen, len),

@@ -59,7 +59,8 @@ pub struct Pages<F: PlacedFile> {
 fn pages_len(len: u64, page: u32, oob: u32) -> u64
     requires some { 0 < page }
     requires whole { oob ≢ 0 → len % (page + oob) ≡ 0 }
-    ensures { (bytes : List ℕ) → length bytes ≡ len → length (pages_of page oob bytes) ≡ result }
+    ensures pages { (bytes : List ℕ) → length bytes ≡ len → length (pages_of page oob bytes) ≡ result }
+    ensures few { result ≤ len }
 {
     if oob == 0 {
         return len;
@@ -76,6 +77,7 @@ impl<F: PlacedFile> Pages<F> {
         ensures file { result.file.file ≡ file }
         ensures page { result.file.page ≡ page }
         ensures oob { result.file.oob ≡ oob }
+        ensures few { result.len ≤ file.len }
     {
         let len = pages_len(file.len(), page, oob);
         SizedFile::new(Pages { file, page, oob }, len)

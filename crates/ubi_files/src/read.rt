@@ -4,6 +4,7 @@ ghost use Rattle.std.specs.Prelude.{◌≡◌, ◌≢◌, ◌≤◌, IfOk, IfErr
 ghost use Rattle.std.specs.Io.KnownBytes.{Consumes};
 ghost use Rattle.ubi_files.specs.Read.{TakesAtMost};
 
+use crate::host_file::tell_path;
 use crate::outcome::ToolError;
 use std::alloc::Global;
 use std::fs;
@@ -102,20 +103,25 @@ pub fn expected_len<F: OpenFile>(file: &F) -> u64 {
     }
 }
 
-/// Opens a file that is to be read from its beginning to its end.
+/// Opens a file that is to be read from its beginning to its end. If it can't be, standard error says why.
 ///
 /// # Errors
 ///
 /// `Read` if it can't be opened, or if it has no end.
-pub fn open_whole<R: Files>(rt: &R, path: &str) -> Result<R::File, ToolError>
+pub fn open_whole<R: Files + Eprint>(rt: &R, path: &str) -> Result<R::File, ToolError>
     ensures { IfErr result (λ e. e ≡ ToolError.Read) }
 {
-    let Ok(mut file) = fs::open(rt, path) else {
-        return Err(ToolError::Read);
-    };
-    if has_end(&mut file) {
-        Ok(file)
-    } else {
-        Err(ToolError::Read)
+    match fs::open(rt, path) {
+        Ok(mut file) => {
+            if has_end(&mut file) {
+                return Ok(file);
+            }
+            let _ = rt.eprintln(format_args!("{path}: it has no end"));
+            Err(ToolError::Read)
+        }
+        Err(error) => {
+            tell_path(rt, path, &error);
+            Err(ToolError::Read)
+        }
     }
 }

@@ -1,6 +1,7 @@
 //! Dumps that are read whole, since they can't be read at places.
 
-ghost use Rattle.std.specs.Prelude.{◌≡◌, ◌*◌, ◌+◌, ◌-◌, ◌/◌, ◌^◌, ◌≤◌, IfErr, IfOk, IfSome, None, Some, codes, drop, length, min, option_map, take, unwrap_or, ℕ, List};
+ghost use Rattle.std.specs.Prelude.{◌≡◌, ◌*◌, ◌+◌, ◌++◌, ◌-◌, ◌/◌, ◌^◌, ◌≤◌, IfErr, IfOk, IfSome, None, Some, codes, drop, length, min, option_map, take, unwrap_or, ℕ, List};
+ghost use Rattle.ubi_media.specs.Fields.{blank};
 ghost use Rattle.ubi_media.specs.Limits.{first_broken};
 ghost use Rattle.ubi_files.specs.Answer.{Gives, says};
 ghost use Rattle.ubi_files.specs.BadBlocks.{masked};
@@ -77,19 +78,52 @@ fn raw_len(geometry: &Geometry, oob: u32) -> u64
     (device / page + 1).saturating_mul(page + u64::from(oob))
 }
 
-/// Turns the bytes of a part into what is seen of it, as far as that is judged.
-fn see(bytes: &mut Vec<u8>, frame: &Frame<'_>)
-    ensures { bytes.new.items ≡ masked frame.now.geometry.peb_size frame.now.marks.items (take (frame.now.geometry.pebs * frame.now.geometry.peb_size + 1) (pages_of frame.now.geometry.page frame.now.dump.oob bytes.old.items)) }
+/// Bytes behind `before` bytes 0xFF.
+///
+/// # Errors
+///
+/// Memory ran out.
+fn put_behind(alloc: Global, bytes: Vec<u8>, before: usize) -> Result<Vec<u8>, AllocError>
+    ensures { IfOk result (λ all. all.items ≡ blank before ++ bytes.items) }
+{
+    if before == 0 {
+        return Ok(bytes);
+    }
+    let mut all = Vec::from_elem(alloc, 0xFFu8, before)?;
+    all.extend_from_slice(bytes.as_slice())?;
+    Ok(all)
+}
+
+/// How many bytes 0xFF are put before the pages of a part: those of the eraseblocks before it, and no more than one more than the device
+/// has.
+fn bytes_before(frame: &Frame<'_>) -> usize
+    ensures { result ≡ min (frame.now.before * frame.now.geometry.peb_size) (frame.now.geometry.pebs * frame.now.geometry.peb_size + 1) }
+{
+    let size = u64::from(frame.geometry.peb_size());
+    let device = u64::from(frame.geometry.pebs()) * size;
+    frame.before.saturating_mul(size).min(device + 1) as usize
+}
+
+/// What is seen of the bytes of a part, as far as it is judged.
+///
+/// # Errors
+///
+/// Memory ran out.
+fn see(alloc: Global, bytes: Vec<u8>, frame: &Frame<'_>) -> Result<Vec<u8>, AllocError>
+    ensures { IfOk result (λ seen. let s = frame.now.geometry in let device = s.pebs * s.peb_size in seen.items ≡ masked s.peb_size frame.now.marks.items (take (device + 1) (blank (min (frame.now.before * s.peb_size) (device + 1)) ++ pages_of s.page frame.now.dump.oob bytes.items))) }
 {
     let geometry = frame.geometry;
     let device = geometry.pebs() as usize * geometry.peb_size() as usize;
-    keep_pages(bytes, geometry.page(), frame.dump.oob);
-    bytes.truncate(device + 1);
+    let mut bytes = bytes;
+    keep_pages(&mut bytes, geometry.page(), frame.dump.oob);
+    let mut seen = put_behind(alloc, bytes, bytes_before(frame))?;
+    seen.truncate(device + 1);
     mask(
-        bytes.as_mut_slice(),
+        seen.as_mut_slice(),
         geometry.peb_size(),
         frame.marks.as_slice(),
     );
+    Ok(seen)
 }
 
 /// The lesser of a number and another, which is `most` as far as it can be counted.
@@ -129,11 +163,11 @@ fn image_of(alloc: Global, frame: &Frame<'_>, read: PartRead) -> Result<ImageFil
     let geometry = frame.geometry;
     let dump = &frame.dump;
     let part = part_read(frame);
-    let PartRead { mut bytes, len } = read;
+    let PartRead { bytes, len } = read;
     if let Some(misfit) = misfit_of(part, geometry.page(), dump.oob, len) {
         return Err(unseen(alloc, misfit));
     }
-    see(&mut bytes, frame);
+    let bytes = see(alloc, bytes, frame)?;
     Ok(ImageFile { geometry, bytes })
 }
 

@@ -1,5 +1,5 @@
 -- The JSON of geometries has no float, and nests little.
-use Rattle.ubi_json.proofs.Prelude.{◌≡◌, ◌+◌, ◌^◌, ◌≤◌, Bool, List, [], ◌∷◌, arith, cond, false, map, nat_lt, refl, true, ℕ, decimal, depth, items_depth, number, string, unsigned, items_of, has_float, items_have_float, Detected, FilePart, detected_data, geometries_data, place_data}
+use Rattle.ubi_json.proofs.Prelude.{◌≡◌, ◌+◌, ◌^◌, ◌≤◌, Bool, List, [], ◌∷◌, arith, cond, false, map, nat_lt, refl, true, ℕ, decimal, depth, items_depth, number, string, unsigned, items_of, has_float, items_have_float, Detected, FilePart, detected_data, geometries_data, place_data, span_data, Span}
 
 either_whole : (b : Bool) (n : ℕ) → has_float (cond b (number (unsigned n)) (string (decimal n))) ≡ false
 either_whole true n = refl
@@ -25,8 +25,20 @@ items_flat part (told ∷ rest) =
     let later = items_flat part rest in
     rw (place_flat (part.start + told.start)) (omega (arith, later))
 
-pub geometries_whole : (part : FilePart) (found : List Detected) → has_float (geometries_data part found) ≡ false
-geometries_whole part found = rw (items_whole part found) refl
+spans_whole : (part : FilePart) (spans : List Span) → items_have_float (items_of (map (span_data part) spans)) ≡ false
+spans_whole part [] = refl
+spans_whole part (span ∷ rest) = rw (place_whole (part.start + span.start)) (spans_whole part rest)
 
-pub geometries_flat : (part : FilePart) (found : List Detected) → depth (geometries_data part found) ≤ 127
-geometries_flat part found = let flat = items_flat part found in omega (arith, flat)
+spans_flat : (part : FilePart) (spans : List Span) → items_depth (items_of (map (span_data part) spans)) ≤ 1
+spans_flat part [] = omega arith
+spans_flat part (span ∷ rest) =
+    let later = spans_flat part rest in
+    rw (place_flat (part.start + span.start)) (omega (arith, later))
+
+pub geometries_whole : (part : FilePart) (found : List Detected) (spans : List Span) → has_float (geometries_data part found spans) ≡ false
+geometries_whole part found spans = rw (items_whole part found, spans_whole part spans) refl
+
+pub geometries_flat : (part : FilePart) (found : List Detected) (spans : List Span) → depth (geometries_data part found spans) ≤ 127
+geometries_flat part found spans =
+    let flat = items_flat part found in
+    let low = spans_flat part spans in omega (arith, flat, low)

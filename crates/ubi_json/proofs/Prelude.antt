@@ -19,6 +19,7 @@ pub use Rattle.ubi_compare.specs.declared.difference.Side.{Side}
 pub use Rattle.ubi_detect.specs.ErrorTexts.{undetected_text}
 pub use Rattle.ubi_detect.specs.declared.detect.Detected.{Detected}
 pub use Rattle.ubi_detect.specs.declared.detect.Undetected.{Undetected}
+pub use Rattle.ubi_detect.specs.declared.images.Span.{Span}
 pub use Rattle.ubi_files.specs.declared.view.FilePart.{FilePart}
 pub use Rattle.ubi_media.specs.ErrorTexts.{refusal_text}
 pub use Rattle.ubi_media.specs.Geometry.{Sizes}
@@ -27,7 +28,7 @@ pub use Rattle.ubi_media.specs.declared.refusal.Refusal.{Refusal}
 pub use Rattle.ubi_volume.specs.declared.block.Amount.{Amount}
 pub use Rattle.ubi_json.specs.Check.{states_data}
 pub use Rattle.ubi_json.specs.Differences.{difference_data, differences_data}
-pub use Rattle.ubi_json.specs.Geometry.{detected_data, geometries_data, place_data}
+pub use Rattle.ubi_json.specs.Geometry.{detected_data, geometries_data, place_data, span_data}
 pub use Rattle.ubi_json.specs.Laws.{refused_at}
 pub use Rattle.ubi_json.specs.List.{listed_data, record_members, volume_data, with_amount}
 pub use Rattle.ubi_json.specs.Told.{refusal_told, told_text, undetected_told, with_numbers}

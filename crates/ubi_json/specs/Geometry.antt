@@ -3,6 +3,7 @@ use Rattle.std.specs.Prelude.{ℕ, ◌+◌, ◌^◌, List, codes, decimal, if◌
 use Rattle.serde_json.specs.Data.{Data, array, member, no_members, number, object, string, unsigned}
 use Rattle.serde_json.specs.View.{items_of}
 use Rattle.ubi_detect.specs.declared.detect.Detected.{Detected}
+use Rattle.ubi_detect.specs.declared.images.Span.{Span}
 use Rattle.ubi_files.specs.declared.view.FilePart.{FilePart}
 use Rattle.ubi_json.specs.Line.{numbered}
 
@@ -22,6 +23,14 @@ detected_data part told =
     (numbered (codes "peb") told.geometry.peb_size
     (member (codes "start") (place_data (part.start + told.start)) (numbered (codes "vid") told.geometry.vid_offset no_members)))))))
 
--- all that is found, in order
-abbrev pub geometries_data : FilePart → List Detected → Data
-geometries_data part found = object (member (codes "geometries") (array (items_of (map (detected_data part) found))) no_members)
+-- where an image lies that was found in a part of a file
+abbrev pub span_data : FilePart → Span → Data
+span_data part span =
+    object (numbered (codes "length") span.length (member (codes "start") (place_data (part.start + span.start)) no_members))
+
+-- all that is found, in order, and where all images lie, if there are several
+abbrev pub geometries_data : FilePart → List Detected → List Span → Data
+geometries_data part found spans =
+    object
+    (member (codes "geometries") (array (items_of (map (detected_data part) found)))
+    (member (codes "images") (array (items_of (map (span_data part) spans))) no_members))

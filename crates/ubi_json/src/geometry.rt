@@ -2,14 +2,14 @@
 
 ghost use Rattle.std.specs.Prelude.{◌≡◌, ◌+◌, IfOk, map};
 ghost use Rattle.serde_json.specs.View.{view};
-ghost use Rattle.ubi_json.specs.Geometry.{detected_data, geometries_data, place_data};
+ghost use Rattle.ubi_json.specs.Geometry.{detected_data, geometries_data, place_data, span_data};
 ghost use Rattle.ubi_json.specs.Line.{IsLineOf};
 
 use crate::line::line_of;
 use itoa::Buffer;
 use serde_json::{Value, json};
 use std::alloc::{AllocError, Global};
-use ubi_detect::Detected;
+use ubi_detect::{Detected, Span};
 use ubi_files::FilePart;
 
 /// The place that lies `behind` bytes after a start.
@@ -56,15 +56,40 @@ fn detected_values(
     Ok(values)
 }
 
-/// The object of all that is found.
-fn geometries_value(alloc: Global, part: FilePart, found: &[Detected]) -> Result<Value, AllocError>
-    ensures { IfOk result (λ v. view v ≡ geometries_data part found.now) }
+/// Where an image lies that was found in a part of a file.
+fn span_value(alloc: Global, part: FilePart, span: &Span) -> Result<Value, AllocError>
+    ensures { IfOk result (λ v. view v ≡ span_data part span.now) }
 {
-    let told = detected_values(alloc, part, found)?;
-    json!(in alloc; {"geometries": told})
+    let start = place_value(alloc, part.start, span.start)?;
+    json!(in alloc; {"length": span.length, "start": start})
 }
 
-/// The line of all geometries that are found in a part of a file, in order.
+/// Where all images lie that were found in a part of a file, in order.
+fn span_values(alloc: Global, part: FilePart, spans: &[Span]) -> Result<Vec<Value>, AllocError>
+    ensures { IfOk result (λ values. map view values.items ≡ map (span_data part) spans.now) }
+{
+    let mut values = Vec::new(alloc);
+    for span in spans {
+        values.push(span_value(alloc, part, span)?)?;
+    }
+    Ok(values)
+}
+
+/// The object of all that is found.
+fn geometries_value(
+    alloc: Global,
+    part: FilePart,
+    found: &[Detected],
+    spans: &[Span],
+) -> Result<Value, AllocError>
+    ensures { IfOk result (λ v. view v ≡ geometries_data part found.now spans.now) }
+{
+    let geometries = detected_values(alloc, part, found)?;
+    let images = span_values(alloc, part, spans)?;
+    json!(in alloc; {"geometries": geometries, "images": images})
+}
+
+/// The line of all geometries that are found in a part of a file, in order, and of where all images lie, if there are several.
 ///
 /// # Errors
 ///
@@ -73,9 +98,10 @@ pub fn geometry_line(
     alloc: Global,
     part: FilePart,
     found: &[Detected],
+    spans: &[Span],
 ) -> Result<Vec<u8>, AllocError>
-    ensures { IfOk result (λ line. IsLineOf (geometries_data part found.now) line.items) }
+    ensures { IfOk result (λ line. IsLineOf (geometries_data part found.now spans.now) line.items) }
 {
-    let value = geometries_value(alloc, part, found)?;
+    let value = geometries_value(alloc, part, found, spans)?;
     line_of(alloc, &value)
 }

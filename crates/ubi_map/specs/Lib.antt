@@ -3,3 +3,4 @@ pub mod Letters
 pub mod Map
 pub mod Page
 pub mod Laws
+pub mod PassedOver

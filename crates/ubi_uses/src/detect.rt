@@ -13,5 +13,5 @@ pub fn start_of<S: BlockSource>(alloc: Global, source: &mut S) -> Result<u64, De
     ensures { IfOk result (λ start. (first : Detected) × (more : List Detected) × AreDetectedOf (S.agrees source.new) (first ∷ more) × (start ≡ first.start)) }
 {
     let found = detect_from(alloc, source)?;
-    Ok(found[0].start)
+    Ok(found.geometries[0].start)
 }

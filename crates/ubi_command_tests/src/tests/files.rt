@@ -337,8 +337,8 @@ static EXTRACTED: Session = Session {
         // The output is the image.
         (
             "extract extract_onto.img --id 0 --out ./extract_onto.img",
-            "bytes 7680\n",
-            0,
+            "cannot write ./extract_onto.img\n",
+            1,
         ),
         (
             "extract extract_marked.img --id 0 --out unextracted.bin",
@@ -364,7 +364,7 @@ static EXTRACTED: Session = Session {
     after: &[
         ("extracted.bin", Contents::RootText),
         ("extracted_none.bin", EMPTY),
-        ("extract_onto.img", Contents::RootText),
+        ("extract_onto.img", Contents::Root),
     ],
     absent: "unextracted.bin",
 };

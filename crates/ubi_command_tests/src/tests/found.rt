@@ -1,15 +1,19 @@
 //! Dumps of which no number is typed: how they are read is found in their own headers.
 
-use super::answers::{assert_own, is_answer, run_over, run_own};
+use super::answers::{are_one, assert_own, is_answer, run_over, run_own};
 use super::contents::Contents;
 use super::fake::Broken;
 use super::geometry::TOLD;
+use super::shown::ROOT_LISTED;
 use super::views::Lay;
 use std::alloc::Global;
 use std::io::ErrorKind;
 use std::process::Abort;
+use std::str;
 use std::test::Fail;
 use ubi_probe::chips::PAGES;
+use ubi_probe::header_bytes::OTHER_EC;
+use ubi_probe::pebs::{A, FIRST, SECOND};
 
 /// Where an image of small eraseblocks lies: nothing shows that it has out-of-band bytes.
 const SMALL_LAYS: [Lay; 5] = [
@@ -21,7 +25,7 @@ const SMALL_LAYS: [Lay; 5] = [
 ];
 
 /// Lines over a dump whose geometry is found, for which as many words are left out as can be.
-const LINES: [&str; 15] = [
+const LINES: [&str; 14] = [
     "list a.img",
     "check a.img",
     "check a.img --bad 0,4-9",
@@ -35,9 +39,11 @@ const LINES: [&str; 15] = [
     "unpack a.img --out made",
     "normalise a.img --out b.img",
     "normalise a.img --out b.img --bad 3",
-    "normalise a.img --out a.img",
     "same a.img a.img",
 ];
+
+/// A line whose output is the image, which has to be a file that is read at places.
+const ONTO: &str = "normalise a.img --out a.img --pebs 1024";
 
 /// Where a chip's image lies, with out-of-band bytes after each page or without.
 const CHIP_LAYS: [Lay; 5] = [
@@ -57,53 +63,148 @@ const CHIP_LINES: [&str; 5] = [
     "same a.img a.img",
 ];
 
-/// Asserts that a line without a geometry answers and writes of a file, read at places and whole, what it does of the image in it with
-/// the words of its geometry.
+/// Asserts that a line without a geometry answers and writes of a file, read at places and whole, what it does of another with some words.
 fn assert_found(
     rt: &impl Abort,
     alloc: Global,
-    (file, image): (&[u8], &[u8]),
+    (file, other): (&[u8], &[u8]),
     line: &str,
     words: &str,
 ) -> Result<(), Fail> {
-    let named = format!(in alloc; "{line} {words} --pebs 32")?;
-    let (want, output) = run_over(alloc, (image, &[]), Broken::Nothing, named.as_str())?;
-    let line = format!(in alloc; "{line} --pebs 32")?;
+    let named = format!(in alloc; "{line} {words} --pebs 1024")?;
+    let (want, output) = run_over(alloc, (other, &[]), Broken::Nothing, named.as_str())?;
+    let line = format!(in alloc; "{line} --pebs 1024")?;
     let answer = (want.text.as_slice(), want.status, output.as_slice());
     assert_own(rt, alloc, (file, &[]), line.as_str(), answer)
+}
+
+/// Asserts the same of the line whose output is the image.
+fn assert_onto(rt: &impl Abort, alloc: Global, file: &[u8], words: &str) -> Result<(), Fail> {
+    let named = format!(in alloc; "{ONTO} {words}")?;
+    let want = run_own(alloc, (file, &[]), Broken::Nothing, named.as_str())?;
+    let answer = run_own(alloc, (file, &[]), Broken::Nothing, ONTO)?;
+    assert!(*rt; are_one(&answer, &want), "with {words}");
+    Ok(())
 }
 
 /// An image, the size of its pages, where it lies, and lines over it.
 type Found = (Contents, usize, &'static [Lay], &'static [&'static str]);
 
-/// The words of the geometry of each.
-static FOUND: [(Found, &str); 2] = [
+/// Images of small eraseblocks, and of a chip.
+static FOUND: [Found; 2] = [
+    (Contents::Spares, 64, &SMALL_LAYS, &LINES),
     (
-        (Contents::Spares, 64, &SMALL_LAYS, &LINES),
-        "--peb 512 --page 64",
-    ),
-    (
-        (
-            Contents::Chip(PAGES, 524_288),
-            2048,
-            &CHIP_LAYS,
-            &CHIP_LINES,
-        ),
-        "--peb 131072 --page 2048",
+        Contents::Chip(PAGES, 524_288),
+        2048,
+        &CHIP_LAYS,
+        &CHIP_LINES,
     ),
 ];
 
+/// Lines whose answer says what the image means, and so doesn't change if other bytes lie around it.
+const MEANT: [&str; 5] = [
+    "list a.img",
+    "extract a.img --id 0 --out b.img",
+    "unpack a.img --out made",
+    "normalise a.img --out b.img",
+    "same a.img a.img",
+];
+
+/// The first line that `geometry` prints for a file.
+fn first_line(alloc: Global, file: &[u8]) -> Result<String, Fail> {
+    let (told, _) = run_over(alloc, (file, &[]), Broken::Nothing, "geometry a.img")?;
+    let text = str::from_utf8(told.text.as_slice())?;
+    let line = text.lines().next().ok_or("no line")?;
+    Ok(String::from_str(alloc, line)?)
+}
+
+/// With no number typed, a line answers what it answers with the first line of `geometry` typed.
 #[test]
 fn finds_an_image_wherever_it_lies(rt: HostRuntime) -> Result<(), Fail> {
     let alloc = rt.alloc();
-    for ((contents, page, lays, lines), words) in &FOUND {
+    for (contents, page, lays, lines) in &FOUND {
         let image = contents.bytes(alloc)?;
         for lay in *lays {
             let file = lay.file(alloc, image.as_slice(), *page)?;
+            let file = file.as_slice();
+            let told = first_line(alloc, file)?;
+            assert_onto(&rt, alloc, file, told.as_str())?;
             for line in *lines {
-                assert_found(&rt, alloc, (file.as_slice(), image.as_slice()), line, words)?;
+                assert_found(&rt, alloc, (file, file), line, told.as_str())?;
             }
         }
+    }
+    Ok(())
+}
+
+/// An image means what it means alone, wherever it lies.
+#[test]
+fn means_the_same_wherever_it_lies(rt: HostRuntime) -> Result<(), Fail> {
+    let alloc = rt.alloc();
+    let image = Contents::Spares.bytes(alloc)?;
+    let words = "--peb 512 --page 64";
+    for lay in SMALL_LAYS {
+        let file = lay.file(alloc, image.as_slice(), 64)?;
+        for line in MEANT {
+            let files = (file.as_slice(), image.as_slice());
+            assert_found(&rt, alloc, files, line, words)?;
+        }
+    }
+    Ok(())
+}
+
+/// Three eraseblocks of another image than `root`.
+const OTHER: Contents = Contents::Pebs(
+    &[FIRST, SECOND, A],
+    &[(0, &OTHER_EC), (512, &OTHER_EC), (1024, &OTHER_EC)],
+);
+
+/// How many bytes lie between `root` and the other image: none, so that both lie on one grid; and less than an eraseblock. And what is
+/// answered where the words don't say which one is read.
+static GAPS: [(usize, &str); 2] = [
+    (0, "refused S4 ImageSeq block=5\n"),
+    (
+        192,
+        "refused F10 Images start=0 length=2560 start=2752 length=1536\n",
+    ),
+];
+
+/// What `list` prints for the other image.
+const OTHER_LISTED: &str = "geometry peb=512 page=64 vid=64 data=128 leb=384 slots=2 pebs=32\n\
+    volume 0 dynamic reserved=20 alignment=1 usable=384 flags=00 lebs=1 name=root\nvolumes 1\n";
+
+/// Of two images in a file `geometry` tells both, and each other command refuses the file, or reads the one that the words name.
+#[test]
+fn tells_images_apart(rt: HostRuntime) -> Result<(), Fail> {
+    let alloc = rt.alloc();
+    let (image, other) = (Contents::Root.bytes(alloc)?, OTHER.bytes(alloc)?);
+    for (gap, line) in GAPS {
+        let mut file = Lay(0, 0, gap).file(alloc, image.as_slice(), 64)?;
+        let second = file.len();
+        file.extend_from_slice(other.as_slice())?;
+        let files = (file.as_slice(), image.as_slice());
+        let (told, _) = run_over(alloc, files, Broken::Nothing, "geometry a.img")?;
+        let spans = format!(in alloc; "--start 0 --length 2560\n--start {second} --length 1536\n")?;
+        assert!(rt; told.text.as_slice().ends_with(spans.as_str().as_bytes()));
+        for (command, side) in UNTOLD_LINES {
+            // It reads one eraseblock alone.
+            if gap == 0 && command.starts_with("show") {
+                continue;
+            }
+            let want = format!(in alloc; "{side}{line}")?;
+            assert_own(
+                &rt,
+                alloc,
+                files,
+                command,
+                (want.as_str().as_bytes(), 1, &[]),
+            )?;
+        }
+        let first = "list a.img --length 2560 --pebs 32";
+        assert_own(&rt, alloc, files, first, (ROOT_LISTED.as_bytes(), 0, &[]))?;
+        let behind = format!(in alloc; "list a.img --start {second} --pebs 32")?;
+        let listed = (OTHER_LISTED.as_bytes(), 0, [].as_slice());
+        assert_own(&rt, alloc, files, behind.as_str(), listed)?;
     }
     Ok(())
 }

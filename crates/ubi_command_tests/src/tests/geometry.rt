@@ -15,10 +15,6 @@ use ubi_probe::pebs::{A, Data, ERASED, Ec, FIRST, Peb, SECOND, Vid};
 pub const SMALL: &str =
     "--peb 512 --page 64 --vid 64 --data 128\n--peb 512 --page 128 --vid 64 --data 128\n";
 
-/// What is found in files of small eraseblocks that begin with an image of two.
-const FIRST_1024: &str = "--peb 512 --page 64 --vid 64 --data 128 --start 0 --length 1024\n\
-    --peb 512 --page 128 --vid 64 --data 128 --start 0 --length 1024\n";
-
 /// An eraseblock with no header of which anything can be read.
 const CORRUPT: Peb = Peb(Ec::Corrupt, Vid::Leb(0, 0, 0), Data::Fill(b'A', 384));
 
@@ -75,20 +71,24 @@ const THREE_OF_1024: &[(&[u8], usize)] = &[
 ];
 
 /// Files, and what is found in them.
-pub static TOLD: [(Contents, (&str, u8)); 17] = [
+pub static TOLD: [(Contents, (&str, u8)); 18] = [
     (Contents::Root, (SMALL, 0)),
     (SHARED, ("--peb 1024 --page 256 --vid 64 --data 256\n", 0)),
-    // A blank eraseblock before the first header belongs to the image, and one after the last.
+    // An eraseblock before the first header belongs to the image, and one after the last, whatever it holds.
     (Contents::Pebs(&[ERASED, FIRST, SECOND, A], &[]), (SMALL, 0)),
     (Contents::Pebs(&[FIRST, SECOND, A, ERASED], &[]), (SMALL, 0)),
-    // One of another image doesn't, nor one of other offsets.
+    (
+        Contents::Pebs(&[CORRUPT, FIRST, SECOND, A], &[]),
+        (SMALL, 0),
+    ),
+    // So does one whose header is of another image or names other offsets.
     (
         Contents::Pebs(&[FIRST, SECOND, A], &[(1024, &OTHER_EC)]),
-        (FIRST_1024, 0),
+        (SMALL, 0),
     ),
     (
         Contents::Pebs(&[FIRST, SECOND, A], &[(1024, &NO_PAGE_EC)]),
-        (FIRST_1024, 0),
+        (SMALL, 0),
     ),
     // No header at a multiple of 64.
     (EMPTY, ("refused F1 NoHeader\n", 1)),
@@ -151,8 +151,8 @@ static SMALL_LAID: [(Lay, &str, &str); 12] = [
     (Lay(0, 0, 0), "--start 0", ""),
     // The words say how long the part is.
     (Lay(0, 0, 0), "--length 2560", " --start 0 --length 2560"),
-    // A boot loader in front, junk after it, and both.
-    (Lay(1024, 0, 0), "", " --start 1024 --length 2560"),
+    // A boot loader of two eraseblocks in front, junk of less than one after it, and both.
+    (Lay(1024, 0, 0), "", ""),
     (Lay(0, 0, 300), "", " --start 0 --length 2560"),
     (Lay(64, 0, 1), "", " --start 64 --length 2560"),
     // Of a part, from where it begins on.
@@ -161,11 +161,7 @@ static SMALL_LAID: [(Lay, &str, &str); 12] = [
         "--start 1024",
         " --start 1024 --length 2560",
     ),
-    (
-        Lay(1024, 0, 0),
-        "--start 512",
-        " --start 1024 --length 2560",
-    ),
+    (Lay(1024, 0, 0), "--start 512", " --start 512 --length 3072"),
     (
         Lay(1024, 0, 0),
         "--start 960 --length 2624",

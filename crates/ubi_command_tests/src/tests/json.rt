@@ -11,7 +11,7 @@ use std::io::ErrorKind;
 use std::process::Abort;
 use std::test::Fail;
 use ubi_compare::{Difference, Side};
-use ubi_detect::{Detected, Undetected};
+use ubi_detect::{Detected, Span, Undetected};
 use ubi_files::FilePart;
 use ubi_json::{
     differences_line, error_line, geometry_line, refusal_line, shown_text, side_line,
@@ -430,24 +430,25 @@ fn tells_why_nothing_is_compared(rt: HostRuntime) -> Result<(), Fail> {
 }
 
 /// Where an image lies in a file, the words of a part, and where its object says that it begins.
-static LAID: [(Lay, &str, u32); 3] = [
-    (Lay(0, 0, 0), "", 0),
-    (Lay(64, 0, 1), "", 64),
-    (Lay(1024, 0, 0), "--start 512", 1024),
+static LAID: [(Lay, &str, (u32, u32)); 3] = [
+    (Lay(0, 0, 0), "", (0, 2560)),
+    (Lay(64, 0, 1), "", (64, 2560)),
+    (Lay(1024, 0, 0), "--start 512", (512, 3072)),
 ];
 
 #[test]
 fn tells_geometries(rt: HostRuntime) -> Result<(), Fail> {
     let alloc = rt.alloc();
     let image = Contents::Root.bytes(alloc)?;
-    for (lay, part, start) in &LAID {
+    for (lay, part, (start, length)) in &LAID {
         let file = lay.file(alloc, image.as_slice(), 64)?;
         let files: (&[u8], &[u8]) = (file.as_slice(), &[]);
         let line = format!(in alloc; "geometry a.img --format json {part}")?;
         let text = format!(in alloc;
             "{{\"geometries\":[\
-            {{\"data\":128,\"length\":2560,\"oob\":0,\"page\":64,\"peb\":512,\"start\":{start},\"vid\":64}},\
-            {{\"data\":128,\"length\":2560,\"oob\":0,\"page\":128,\"peb\":512,\"start\":{start},\"vid\":64}}]}}\n"
+            {{\"data\":128,\"length\":{length},\"oob\":0,\"page\":64,\"peb\":512,\"start\":{start},\"vid\":64}},\
+            {{\"data\":128,\"length\":{length},\"oob\":0,\"page\":128,\"peb\":512,\"start\":{start},\"vid\":64}}],\
+            \"images\":[]}}\n"
         )?;
         assert_both(&rt, alloc, files, line.as_str(), (text.as_str(), 0), &[])?;
     }
@@ -462,10 +463,20 @@ fn tells_geometries(rt: HostRuntime) -> Result<(), Fail> {
         start: u64::MAX,
         length: None,
     };
-    let line = geometry_line(alloc, part, &[told])?;
+    let spans = [
+        Span {
+            start: 0,
+            length: 7,
+        },
+        Span {
+            start: 1,
+            length: 1 << 33,
+        },
+    ];
+    let line = geometry_line(alloc, part, &[told], &spans)?;
     assert!(rt;
         line.as_slice()
-            == b"{\"geometries\":[{\"data\":128,\"length\":2,\"oob\":64,\"page\":64,\"peb\":512,\"start\":\"18446744073709551616\",\"vid\":64}]}\n".as_slice()
+            == b"{\"geometries\":[{\"data\":128,\"length\":2,\"oob\":64,\"page\":64,\"peb\":512,\"start\":\"18446744073709551616\",\"vid\":64}],\"images\":[{\"length\":7,\"start\":18446744073709551615},{\"length\":8589934592,\"start\":\"18446744073709551616\"}]}\n".as_slice()
     );
     Ok(())
 }

@@ -159,29 +159,30 @@ fn tells_of_a_file_that_is_cut_short(rt: HostRuntime) -> Result<(), Fail> {
     Ok(())
 }
 
-/// Outputs that are the image itself, by its path, by another one and by links.
-static ONTO: [&str; 4] = [
-    "normalise onto_itself.img --out onto_itself.img",
-    "normalise onto_itself.img --out ./onto_itself.img",
-    "normalise onto_itself.img --out linked.img",
-    "normalise onto_itself.img --out pointing.img",
+/// Outputs that are the image itself, by its path, by another one and by links; and the path that then holds the normal image. The other
+/// name of a file that has two keeps what it held.
+static ONTO: [(&str, &str, &str); 4] = [
+    ("onto_itself.img", "onto_itself.img", "linked.img"),
+    ("./onto_itself.img", "onto_itself.img", "linked.img"),
+    ("linked.img", "linked.img", "onto_itself.img"),
+    ("pointing.img", "onto_itself.img", "linked.img"),
 ];
 
 #[test]
 fn normalises_a_file_onto_itself(rt: HostRuntime) -> Result<(), Fail> {
-    fs::write(&rt, "onto_itself.img", b"".as_slice())?;
-    fs::hard_link(&rt, "onto_itself.img", "linked.img")?;
-    symlink(&rt, "onto_itself.img", "pointing.img")?;
     let image = Contents::Root.bytes(rt.alloc())?;
     let want = Contents::NormalRoot.bytes(rt.alloc())?;
-    for line in ONTO {
+    for (out, new, old) in ONTO {
         fs::write(&rt, "onto_itself.img", image.as_slice())?;
-        assert_line(&rt, rt.alloc(), line, ("blocks 5\n", 0))?;
-        let is = fs::read(&rt, "onto_itself.img")? == want;
-        assert!(rt; is, "of {line}");
-    }
-    for path in ["onto_itself.img", "linked.img", "pointing.img"] {
-        fs::remove_file(&rt, path)?;
+        fs::hard_link(&rt, "onto_itself.img", "linked.img")?;
+        symlink(&rt, "onto_itself.img", "pointing.img")?;
+        let line = format!(in rt.alloc(); "normalise onto_itself.img --out {out}")?;
+        assert_line(&rt, rt.alloc(), line.as_str(), ("blocks 5\n", 0))?;
+        let is = fs::read(&rt, new)? == want && fs::read(&rt, old)? == image;
+        assert!(rt; is, "to {out}");
+        for path in ["onto_itself.img", "linked.img", "pointing.img"] {
+            fs::remove_file(&rt, path)?;
+        }
     }
     Ok(())
 }

@@ -25,10 +25,28 @@ fn opens_nothing(outcome: &Outcome, is_unwritten: bool) -> bool {
         || (is_unread && is_unwritten)
 }
 
+/// Whether the output is the image, by its path, and there are no pages.
+fn is_replaced(line: &str) -> bool {
+    line.split_whitespace().nth(1) == value(line, "--out") && value(line, "--pages").is_none()
+}
+
+/// Whether the one path that was opened is that of a new file beside the output, which takes its place; or none was, where the work isn't
+/// done.
+fn is_beside(out: &str, is_done: bool, opened: &str) -> bool {
+    let mut paths = opened.lines();
+    match paths.next() {
+        None => !is_done,
+        Some(path) => path.strip_prefix(out) == Some(".new0") && paths.next().is_none(),
+    }
+}
+
 /// Whether the paths that were opened, a line each, are the first ones of those after `--out` and `--pages`, and all of
 /// them where the work is done.
 fn are_outputs(line: &str, is_done: bool, opened: &str) -> bool {
     let (out, pages) = (value(line, "--out"), value(line, "--pages"));
+    if is_replaced(line) {
+        return is_beside(out.unwrap_or(""), is_done, opened);
+    }
     let mut paths = opened.lines();
     let (first, second) = (paths.next(), paths.next());
     let is_first = first == out || (!is_done && first.is_none());

@@ -50,7 +50,7 @@ pub const CHANGED_IN_BLANK: &str =
 /// What `geometry`, `check` and `list` print for `root` as JSON.
 pub const SMALL_OBJECT: &str =
     "{\"geometries\":[{\"data\":128,\"length\":2560,\"oob\":0,\"page\":64,\"peb\":512,\"start\":0,\"vid\":64},\
-    {\"data\":128,\"length\":2560,\"oob\":0,\"page\":128,\"peb\":512,\"start\":0,\"vid\":64}]}\n";
+    {\"data\":128,\"length\":2560,\"oob\":0,\"page\":128,\"peb\":512,\"start\":0,\"vid\":64}],\"images\":[]}\n";
 
 pub const ROOT_COUNTS: &str =
     "{\"accepted\":true,\"blocks\":5,\"image_seq\":305419896,\"mean_counter\":0,\

@@ -148,6 +148,15 @@ impl<'a> Disk for Telling<'a> {
         }
     }
 
+    fn replace(&mut self, alloc: Global, path: &str, bytes: &[u8]) -> io::Result<()> {
+        if path == OUT {
+            self.out = Some(Vec::from_slice(alloc, bytes)?);
+            Ok(())
+        } else {
+            Err(io::Error::from(ErrorKind::PermissionDenied))
+        }
+    }
+
     fn make_folder(&self, path: &str) -> io::Result<()> {
         if path == FOLDER {
             Ok(())

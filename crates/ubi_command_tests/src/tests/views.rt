@@ -52,6 +52,30 @@ impl Lay {
         }
         Ok(words)
     }
+
+    /// How many bytes of the file an eraseblock of `pages` pages of a size has, with what follows each page.
+    fn raw(&self, pages: usize, page: usize) -> usize {
+        let Lay(_, oob, _) = *self;
+        page.saturating_add(oob).saturating_mul(pages).max(1)
+    }
+
+    /// How many eraseblocks of `pages` pages of a size lie before the image, if these are all that does.
+    fn blocks(&self, pages: usize, page: usize) -> Option<usize> {
+        let Lay(before, _, _) = *self;
+        let raw = self.raw(pages, page);
+        if before % raw == 0 {
+            Some(before / raw)
+        } else {
+            None
+        }
+    }
+}
+
+/// An image behind so many blank eraseblocks of a size.
+fn behind_blank(alloc: Global, image: &[u8], blocks: usize, peb: usize) -> Result<Vec<u8>, Fail> {
+    let mut bytes = Vec::from_elem(alloc, 0xFFu8, blocks.saturating_mul(peb).min(1 << 24))?;
+    bytes.extend_from_slice(image)?;
+    Ok(bytes)
 }
 
 /// Each option alone, and together.
@@ -68,7 +92,7 @@ static LAYS: [Lay; 9] = [
 ];
 
 /// Lines over a dump, with and without bad eraseblocks.
-static LINES: [&str; 15] = [
+static LINES: [&str; 12] = [
     "list a.img",
     "check a.img",
     "check a.img --bad 0,4-9",
@@ -80,10 +104,13 @@ static LINES: [&str; 15] = [
     "unpack a.img --out made",
     "normalise a.img --out b.img",
     "normalise a.img --out b.img --bad 3",
-    "normalise a.img --out a.img",
     "same a.img a.img",
+];
+
+/// Lines that plan.
+static PLANS: [&str; 2] = [
     "change a.img --id 0 --lnum 1 --from new.bin --out b.img --pages b",
-    "rename a.img --id 0 --name data --out b.img --bad 5",
+    "rename a.img --id 0 --name data --out b.img --blank keep",
 ];
 
 /// Lines over a chip's dump, in pages of 2 KiB with 64 out-of-band bytes.
@@ -94,7 +121,8 @@ static CHIP_LINES: [&str; 4] = [
     "normalise a.img --out b.img --peb 131072 --page 2048 --pebs 64",
 ];
 
-/// Asserts that a line answers and writes of a file in which an image lies so what it does of the image. Gives the exit status.
+/// Asserts that a line answers and writes of a file in which an image lies so what it does of the image behind as many blank eraseblocks,
+/// if whole ones lie before it. Gives the exit status.
 fn assert_viewed(
     rt: &impl Abort,
     alloc: Global,
@@ -103,7 +131,9 @@ fn assert_viewed(
     lay: &Lay,
 ) -> Result<u8, Fail> {
     let new = [0x61; 64];
-    let (want, output) = run_over(alloc, (image, &new), Broken::Nothing, line)?;
+    let (pages, peb) = if page == 64 { (8, 512) } else { (64, 131_072) };
+    let counted = behind_blank(alloc, image, lay.blocks(pages, page).unwrap_or(0), peb)?;
+    let (want, output) = run_over(alloc, (counted.as_slice(), &new), Broken::Nothing, line)?;
     let file = lay.file(alloc, image, page)?;
     let viewed = format!(in alloc; "{line}{}", lay.words(alloc, image.len(), page)?)?;
     let viewed = with_sizes(alloc, viewed.as_str(), SMALL_SIZES)?;
@@ -129,13 +159,51 @@ fn sees_an_image_wherever_it_lies(rt: HostRuntime) -> Result<(), Fail> {
     Ok(())
 }
 
+/// A plan names the eraseblocks of the file, and touches none of those before the part; of a part that doesn't begin with an eraseblock of
+/// the file there is no plan.
+#[test]
+fn plans_eraseblocks_of_the_file(rt: HostRuntime) -> Result<(), Fail> {
+    let alloc = rt.alloc();
+    let image = Contents::Spares.bytes(alloc)?;
+    let image = image.as_slice();
+    let new = [0x61; 64];
+    for lay in &LAYS {
+        let file = lay.file(alloc, image, 64)?;
+        let (raw, Lay(before, _, _)) = (lay.raw(8, 64), *lay);
+        for line in PLANS {
+            let words = lay.words(alloc, image.len(), 64)?;
+            let viewed = format!(in alloc; "{line}{words}")?;
+            let viewed = with_sizes(alloc, viewed.as_str(), SMALL_SIZES)?;
+            let Some(blocks) = lay.blocks(8, 64) else {
+                let rest = before % raw;
+                let refused = format!(in alloc; "refused F11 Start peb={raw} rest={rest}\n")?;
+                let answer = (refused.as_str().as_bytes(), 1, [].as_slice());
+                assert_own(&rt, alloc, (file.as_slice(), &new), viewed.as_str(), answer)?;
+                continue;
+            };
+            let counted = behind_blank(alloc, image, blocks, 512)?;
+            let avoiding = if blocks == 0 {
+                String::from_str(alloc, line)?
+            } else {
+                format!(in alloc; "{line} --bad 0-{}", blocks - 1)?
+            };
+            let files = (counted.as_slice(), new.as_slice());
+            let (want, output) = run_over(alloc, files, Broken::Nothing, avoiding.as_str())?;
+            assert!(rt; want.status == 0, "of {line}");
+            let answer = (want.text.as_slice(), 0, output.as_slice());
+            assert_own(&rt, alloc, (file.as_slice(), &new), viewed.as_str(), answer)?;
+        }
+    }
+    Ok(())
+}
+
 /// Words over a file of 3,584 bytes, seven eraseblocks of eight pages, and the line that is refused. One without bytes is refused by
 /// its size once it is seen.
 static EDGES: [(&str, &str); 22] = [
     ("--start 3585", "refused F7 Part bytes=3584\n"),
-    ("--start 3584", "refused S1 Length\n"),
+    ("--start 3583", "refused S1 Length\n"),
     ("--start 3584 --length 1", "refused F7 Part bytes=3584\n"),
-    ("--start 3584 --length 0", "refused S1 Length\n"),
+    ("--start 3583 --length 0", "refused S1 Length\n"),
     ("--length 0", "refused S1 Length\n"),
     ("--length 3585", "refused F7 Part bytes=3584\n"),
     ("--start 1 --length 3584", "refused F7 Part bytes=3584\n"),
@@ -182,8 +250,13 @@ static EDGES: [(&str, &str); 22] = [
 static EDGE_LINES: [&str; 3] = [
     "check a.img",
     "normalise a.img --out b.img",
-    "rename a.img --id 0 --name data --out b.img",
+    "extract a.img --id 0 --out b.img",
 ];
+
+/// What `check` prints for seven eraseblocks before a part of no byte.
+const NO_BYTE: &str =
+    "blocks 7\nblank 7\nfree 0\ntable 0\nused 0\nstale 0\norphan 0\ndropped 0\ncorrupt 0\ngarbage 0\n\
+                       top sqnum 0\nimage seq 0\nmean counter 0\naccepted\n";
 
 #[test]
 fn refuses_what_a_file_has_not(rt: HostRuntime) -> Result<(), Fail> {
@@ -197,6 +270,21 @@ fn refuses_what_a_file_has_not(rt: HostRuntime) -> Result<(), Fail> {
         }
     }
     let files: (&[u8], &[u8]) = (image.as_slice(), &[]);
+    // No byte, behind seven eraseblocks, which count.
+    let line = "check a.img --start 3584";
+    assert_both(&rt, alloc, files, line, (NO_BYTE, 0), &[])?;
+    // The image is not replaced by a part of it.
+    for part in ["--start 512", "--length 3072"] {
+        let line = format!(in alloc; "normalise a.img --out a.img {part}")?;
+        assert_both(
+            &rt,
+            alloc,
+            files,
+            line.as_str(),
+            ("cannot write a.img\n", 1),
+            &[],
+        )?;
+    }
     let answer = ("refused F7 Part bytes=3584\n", 1);
     for line in [
         "geometry a.img --start 3585",

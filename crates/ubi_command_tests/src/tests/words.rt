@@ -329,7 +329,9 @@ static ANSWERED: [(&str, &str, u8); 37] = [
 #[test]
 fn refuses_geometries_and_takes_defaults(rt: HostRuntime) -> Result<(), Fail> {
     for (line, text, status) in &ANSWERED {
-        assert_answers(&rt, rt.alloc(), line, (text, *status), "")?;
+        // Of a file that can't be read standard error has the system's reason.
+        let error = if *status == 1 { "a: other error\n" } else { "" };
+        assert_answers(&rt, rt.alloc(), line, (text, *status), error)?;
     }
     Ok(())
 }

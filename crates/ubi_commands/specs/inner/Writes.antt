@@ -1,5 +1,5 @@
 -- What the commands that read one image, and write a file, answer.
-use Rattle.std.specs.Prelude.{ℕ, List, Option}
+use Rattle.std.specs.Prelude.{ℕ, Bool, List, Option, false, true}
 use Rattle.ubi_media.specs.Geometry.{Sizes}
 use Rattle.ubi_scan.specs.Source.{Agreed, Source}
 use Rattle.ubi_commands.specs.Change.{ChangesFrom, HasPlan}
@@ -16,6 +16,11 @@ writes writing.Normalise s k agrees pages = NormalisesOf s k agrees
 writes (writing.Extract key) s k agrees pages = ExtractsOf key s k agrees
 writes (writing.Change new kept stop) s k agrees pages = ChangesFrom kept.now new.id new.lnum new.bytes.now stop s k agrees pages
 writes (writing.Rename id word kept stop) s k agrees pages = RenamesFrom kept.now id word.now stop s k agrees pages
+
+-- whether a command may give its image other bytes: it has a use for that
+abbrev pub may_replace : Writing → Bool
+may_replace (writing.Extract key) = false
+may_replace _ = true
 
 -- there is something to write
 abbrev pub HasWork : Writing → Sizes → Source → Agreed → Type 0

@@ -5,7 +5,7 @@ mod vast;
 use super::scan::dumps::{Row, What, bytes_of, header, put, table_vid};
 use std::alloc::Global;
 use std::test::Fail;
-use ubi_detect::{DetectError, Detected, Undetected, detect_from};
+use ubi_detect::{DetectError, Detected, Images, Undetected, detect_from};
 use ubi_media::{EcOffsets, Geometry};
 use ubi_probe::ProbeSource;
 use ubi_scan::MemorySource;
@@ -61,6 +61,15 @@ struct Case {
     told: Told,
 }
 
+/// A file in which several images lie.
+struct Several {
+    case: Case,
+    /// Where each begins, and how many bytes it has.
+    spans: &'static [(u64, u64)],
+    /// Whether one of them isn't on the grid of the image that is found, or names other offsets.
+    are_apart: bool,
+}
+
 /// Whether a geometry is that of an image with pages of a size, for a device of any number of eraseblocks.
 fn is_image(found: &Detected, want: &Image, page: u32) -> bool {
     let geometry = &found.geometry;
@@ -72,18 +81,32 @@ fn is_image(found: &Detected, want: &Image, page: u32) -> bool {
         && (found.start, found.length) == want.part
 }
 
-/// Whether just this is found in a file: a geometry of an image for each page, in order.
-fn is_told(alloc: Global, case: &Case) -> Result<bool, Fail> {
+/// Whether the images of a file lie here.
+fn are_images(images: &Images, spans: &[(u64, u64)], are_apart: bool) -> bool {
+    let mut are = images.spans.len() == spans.len() && images.are_apart == are_apart;
+    for (span, want) in images.spans.iter().zip(spans) {
+        are = are && (span.start, span.length) == *want;
+    }
+    are
+}
+
+/// Whether just this is found in a file: a geometry of an image for each page, in order, and these images.
+fn is_told(
+    alloc: Global,
+    case: &Case,
+    spans: &[(u64, u64)],
+    are_apart: bool,
+) -> Result<bool, Fail> {
     let Case { len, rows, told } = case;
     let bytes = bytes_of(alloc, *len, rows)?;
     let mut source = MemorySource::new(bytes.as_slice());
     match (detect_from(alloc, &mut source), told, told.image()) {
         (Ok(found), _, Some(image)) => {
-            let mut is = found.len() == image.pages.len();
-            for (detected, page) in found.iter().zip(image.pages) {
+            let mut is = found.geometries.len() == image.pages.len();
+            for (detected, page) in found.geometries.iter().zip(image.pages) {
                 is = is && is_image(detected, &image, *page);
             }
-            Ok(is)
+            Ok(is && are_images(&found.images, spans, are_apart))
         }
         (Err(error), Told::Nothing(cause), _) => Ok(error == DetectError::Undetected(*cause)),
         _ => Ok(false),
@@ -91,7 +114,7 @@ fn is_told(alloc: Global, case: &Case) -> Result<bool, Fail> {
 }
 
 /// Files that are an image of eraseblocks of 1,024 bytes, or hold one. The last record of the table stands at 816.
-static SMALL: [Case; 12] = [
+static SMALL: [Case; 10] = [
     // Each eraseblock has a header, and the first two hold the volume table.
     Case {
         len: 4096,
@@ -122,7 +145,7 @@ static SMALL: [Case; 12] = [
         ],
         told: Told::Small(0, 7 * 1024),
     },
-    // A bad eraseblock is all zeros. It isn't blank: after the last header it is no part of the image.
+    // A bad eraseblock is all zeros. After the last header it is a part of the image all the same.
     Case {
         len: 6 * 1024,
         rows: &[
@@ -133,7 +156,7 @@ static SMALL: [Case; 12] = [
             (1024 + 64, 1, 1, What::Table(1)),
             (1024 - 16, 1024, 2, What::Fill(0xFF, 16)),
         ],
-        told: Told::Small(0, 5 * 1024),
+        told: Told::Small(0, 6 * 1024),
     },
     // Headers of 255 other numbers lie before it, so that there are 256.
     Case {
@@ -143,9 +166,9 @@ static SMALL: [Case; 12] = [
             (16_384, 1024, 4, What::Header(64, 128)),
             (16_384, 1024, 2, What::Copies(64, 128, 860)),
         ],
-        told: Told::Small(16_384, 4096),
+        told: Told::Small(0, 16_384 + 4096),
     },
-    // A boot loader lies before it.
+    // A boot loader lies before it, of one eraseblock and a half.
     Case {
         len: 1536 + 4096,
         rows: &[
@@ -153,9 +176,9 @@ static SMALL: [Case; 12] = [
             (1536, 1024, 4, What::Header(64, 128)),
             (1536, 1024, 2, What::Copies(64, 128, 860)),
         ],
-        told: Told::Small(1536, 4096),
+        told: Told::Small(512, 1024 + 4096),
     },
-    // Other bytes lie after it, as many as no eraseblock has.
+    // Other bytes lie after it, two eraseblocks and some more.
     Case {
         len: 4096 + 3000,
         rows: &[
@@ -163,7 +186,7 @@ static SMALL: [Case; 12] = [
             (0, 1024, 2, What::Copies(64, 128, 860)),
             (4096, 1, 1, What::Fill(5, 3000)),
         ],
-        told: Told::Small(0, 4096),
+        told: Told::Small(0, 4096 + 2048),
     },
     // No table, but three headers, and in the first eraseblock data up to beyond its half.
     Case {
@@ -194,62 +217,117 @@ static SMALL: [Case; 12] = [
         ],
         told: Told::Small(0, 4096),
     },
-    // Of two images that are equally large the first one is found.
-    Case {
-        len: 4096,
-        rows: &[
-            (0, 1024, 2, What::Numbered(64, 128, 8)),
-            (2048, 1024, 2, What::Header(64, 128)),
-            (0, 1024, 2, What::Copies(64, 128, 860)),
-            (2048, 1024, 2, What::Copies(64, 128, 860)),
-        ],
-        told: Told::Small(0, 2048),
+];
+
+/// Files in which several images lie.
+static SEVERAL: [Several; 5] = [
+    // Of two that are equally large, on one grid, the first one is found.
+    Several {
+        case: Case {
+            len: 4096,
+            rows: &[
+                (0, 1024, 2, What::Numbered(64, 128, 8)),
+                (2048, 1024, 2, What::Header(64, 128)),
+                (0, 1024, 2, What::Copies(64, 128, 860)),
+                (2048, 1024, 2, What::Copies(64, 128, 860)),
+            ],
+            told: Told::Small(0, 4096),
+        },
+        spans: &[(0, 2048), (2048, 2048)],
+        are_apart: false,
     },
     // Of others the larger one.
-    Case {
-        len: 5 * 1024,
-        rows: &[
-            (0, 1024, 2, What::Numbered(64, 128, 8)),
-            (2048, 1024, 3, What::Header(64, 128)),
-            (0, 1024, 2, What::Copies(64, 128, 860)),
-            (2048, 1024, 2, What::Copies(64, 128, 860)),
-        ],
-        told: Told::Small(2048, 3072),
+    Several {
+        case: Case {
+            len: 5 * 1024,
+            rows: &[
+                (0, 1024, 2, What::Numbered(64, 128, 8)),
+                (2048, 1024, 3, What::Header(64, 128)),
+                (0, 1024, 2, What::Copies(64, 128, 860)),
+                (2048, 1024, 2, What::Copies(64, 128, 860)),
+            ],
+            told: Told::Small(0, 5 * 1024),
+        },
+        spans: &[(0, 2048), (2048, 3072)],
+        are_apart: false,
+    },
+    // The second one is half an eraseblock off the grid of the first.
+    Several {
+        case: Case {
+            len: 3 * 1024 + 512 + 2048,
+            rows: &[
+                (0, 1024, 3, What::Numbered(64, 128, 8)),
+                (3 * 1024 + 512, 1024, 2, What::Header(64, 128)),
+                (0, 1024, 2, What::Copies(64, 128, 860)),
+                (3 * 1024 + 512, 1024, 2, What::Copies(64, 128, 860)),
+            ],
+            told: Told::Small(0, 5 * 1024),
+        },
+        spans: &[(0, 3072), (3 * 1024 + 512, 2048)],
+        are_apart: true,
+    },
+    // It names other offsets.
+    Several {
+        case: Case {
+            len: 5 * 1024,
+            rows: &[
+                (0, 1024, 3, What::Header(64, 128)),
+                (3 * 1024, 1024, 2, What::Header(128, 256)),
+                (0, 1024, 2, What::Copies(64, 128, 860)),
+                (3 * 1024, 1024, 2, What::Copies(128, 256, 732)),
+            ],
+            told: Told::Small(0, 5 * 1024),
+        },
+        spans: &[(0, 3072), (3 * 1024, 2048)],
+        are_apart: true,
+    },
+    // It lies in an eraseblock of the first that is no member of a LEB.
+    Several {
+        case: Case {
+            len: 4 * 16_384,
+            rows: &[
+                (0, 16_384, 4, What::Header(512, 1024)),
+                (2 * 16_384, 16_384, 2, What::Copies(512, 1024, 15_344)),
+                (16_384 + 1024, 1024, 15, What::Header(64, 128)),
+            ],
+            told: LARGE,
+        },
+        spans: &[(0, 65_536), (16_384 + 1024, 15 * 1024)],
+        are_apart: true,
     },
 ];
 
+/// An image of four eraseblocks of 16,384 bytes, whose headers fit pages of 512 and of 1,024 bytes.
+const LARGE: Told = Told::Image(Image {
+    peb: 16_384,
+    offsets: (512, 1024),
+    pages: &[512, 1024],
+    oob: 0,
+    part: (0, 65_536),
+});
+
 /// Files that are an image of others.
 static OTHERS: [Case; 5] = [
-    // The data of the third eraseblock hold an image of smaller ones; and those of the second.
+    // The data of the third eraseblock, which is a member of a LEB, hold an image of smaller ones; and those of the second.
     Case {
         len: 4 * 16_384,
         rows: &[
             (0, 16_384, 4, What::Header(512, 1024)),
             (0, 16_384, 2, What::Copies(512, 1024, 15_344)),
+            (2 * 16_384 + 512, 1, 1, What::Member),
             (2 * 16_384 + 1024, 1024, 15, What::Header(64, 128)),
         ],
-        told: Told::Image(Image {
-            peb: 16_384,
-            offsets: (512, 1024),
-            pages: &[512, 1024],
-            oob: 0,
-            part: (0, 65_536),
-        }),
+        told: LARGE,
     },
     Case {
         len: 4 * 16_384,
         rows: &[
             (0, 16_384, 4, What::Header(512, 1024)),
             (2 * 16_384, 16_384, 2, What::Copies(512, 1024, 15_344)),
+            (16_384 + 512, 1, 1, What::Member),
             (16_384 + 1024, 1024, 15, What::Header(64, 128)),
         ],
-        told: Told::Image(Image {
-            peb: 16_384,
-            offsets: (512, 1024),
-            pages: &[512, 1024],
-            oob: 0,
-            part: (0, 65_536),
-        }),
+        told: LARGE,
     },
     // Pages of 256 bytes with 8 out-of-band bytes: the identifier stands at 264, and the table's last record at 3892.
     Case {
@@ -301,7 +379,7 @@ static OTHERS: [Case; 5] = [
 ];
 
 /// Files of which nothing is detected.
-static UNDETECTED: [Case; 18] = [
+static UNDETECTED: [Case; 19] = [
     Case {
         len: 0,
         rows: &[],
@@ -407,6 +485,18 @@ static UNDETECTED: [Case; 18] = [
         ],
         told: Told::Nothing(Undetected::NoSize),
     },
+    // A header lies in the middle of one of eight eraseblocks: of all of them the size is 512, and each second eraseblock but one has
+    // none. What they hold goes on everywhere.
+    Case {
+        len: 8 * 1024,
+        rows: &[
+            (0, 1, 1, What::Fill(1, 8 * 1024)),
+            (0, 1024, 8, What::Header(64, 128)),
+            (2048 + 512, 1, 1, What::Header(64, 128)),
+            (512 - 16, 1, 1, What::Fill(0xFF, 16)),
+        ],
+        told: Told::Nothing(Undetected::NoSize),
+    },
     // Headers name 257 numbers.
     Case {
         len: 16_384 + 4096,
@@ -458,11 +548,17 @@ fn detects_images_or_tells_why_there_is_none(rt: HostRuntime) -> Result<(), Fail
     for cases in [SMALL.as_slice(), OTHERS.as_slice(), UNDETECTED.as_slice()] {
         for (index, case) in cases.iter().enumerate() {
             assert!(rt;
-                is_told(rt.alloc(), case)?,
+                is_told(rt.alloc(), case, &[], false)?,
                 "case {index} of {}",
                 cases.len()
             );
         }
+    }
+    for (index, several) in SEVERAL.iter().enumerate() {
+        assert!(rt;
+            is_told(rt.alloc(), &several.case, several.spans, several.are_apart)?,
+            "several {index}"
+        );
     }
     Ok(())
 }
@@ -532,7 +628,7 @@ fn stops_at_too_many_numbers(rt: HostRuntime) -> Result<(), Fail> {
 /// The size that is detected of a file, in bytes, or that memory ran out.
 fn size_of(alloc: Global, bytes: &[u8]) -> Result<u32, DetectError> {
     let found = detect_from(alloc, &mut MemorySource::new(bytes))?;
-    Ok(match found.get(0) {
+    Ok(match found.geometries.get(0) {
         Some(detected) => detected.geometry.peb_size(),
         None => 0,
     })

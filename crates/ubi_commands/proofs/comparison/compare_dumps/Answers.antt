@@ -20,10 +20,10 @@ returns-in-AtPlaces-clause-answer g c =
     let d = g.D.Disk.files c.args.disk.now in
     let h = rw (c.in_ok-frame.ensures.dump, c.in-AtPlaces.is) at c.in_ok-file.ensures.opened in
     let alike : sizes_of right.known.dump.numbers ≡ sizes_of dump.numbers = ap sizes_of (sym c.requires.alike) in
-    IfOk-weaker c.compare_beside.result _ _
+    IfOk-weaker c.compare_beside-work.result _ _
     (λ o work. dumps_at_places d dump right.known.dump c.args.left.path.now right.path.now (ComparesOf c.args.how) alike _ _ _ o h.1 h.2 h.3
-    (keeps_promise _ _ _ c.compare_beside.new.source.told) work)
-    c.compare_beside.ensures.answer
+    (keeps_promise _ _ _ c.compare_beside-work.new.source.told) work)
+    c.compare_beside-work.ensures.answer
 
 pub returns-in-AtPlaces-clause-unread : goal.returns-in-AtPlaces-clause-unread
 returns-in-AtPlaces-clause-unread g c =
@@ -31,11 +31,11 @@ returns-in-AtPlaces-clause-unread g c =
     let right = c.args.right in
     let d = g.D.Disk.files c.args.disk.now in
     let h = rw (c.in_ok-frame.ensures.dump, c.in-AtPlaces.is) at c.in_ok-file.ensures.opened in
-    tells_less c.compare_beside.result _ _
+    tells_less c.compare_beside-work.result _ _
     (λ o works. at_places d dump c.args.left.path.now (λ _ _ _. OfFile d right.known.dump right.path.now (λ _ _ _ _. ⊥))
-    (sizes_of dump.numbers) refl _ _ _ o h.1 h.2 h.3 (keeps_promise _ _ _ c.compare_beside.new.source.told)
+    (sizes_of dump.numbers) refl _ _ _ o h.1 h.2 h.3 (keeps_promise _ _ _ c.compare_beside-work.new.source.told)
     (Works-weaker _ _ _ _ _ (λ e is. no_file is) o works))
-    c.compare_beside.ensures.unread
+    c.compare_beside-work.ensures.unread
 
 pub returns-clause-answer : goal.returns-clause-answer
 returns-clause-answer g c =
@@ -44,11 +44,11 @@ returns-clause-answer g c =
     let d = g.D.Disk.files c.args.disk.now in
     let h = rw (c.in_ok-frame.ensures.dump, c.in-Whole.is) at c.in_ok-file.ensures.opened in
     let alike : sizes_of right.known.dump.numbers ≡ sizes_of dump.numbers = ap sizes_of (sym c.requires.alike) in
-    IfOk-weaker c.compare_beside-in-Whole.result _ _
+    IfOk-weaker c.compare_beside-work-in-Whole.result _ _
     (λ o work. dumps_by_bytes d dump right.known.dump c.args.left.path.now right.path.now (ComparesOf c.args.how) alike
     c.in-Whole.file.bytes.items _ _ o h.1 h.2 h.3 (c.new-source.ensures ∙ c.as_slice.ensures.value)
-    c.compare_beside-in-Whole.ensures.narrows work.1)
-    c.compare_beside-in-Whole.ensures.answer
+    c.compare_beside-work-in-Whole.ensures.narrows work.1)
+    c.compare_beside-work-in-Whole.ensures.answer
 
 pub returns-clause-unread : goal.returns-clause-unread
 returns-clause-unread g c =
@@ -56,8 +56,8 @@ returns-clause-unread g c =
     let right = c.args.right in
     let d = g.D.Disk.files c.args.disk.now in
     let h = rw (c.in_ok-frame.ensures.dump, c.in-Whole.is) at c.in_ok-file.ensures.opened in
-    tells_less c.compare_beside-in-Whole.result _ _
+    tells_less c.compare_beside-work-in-Whole.result _ _
     (λ o works. by_bytes d dump c.args.left.path.now (λ _ _ _. OfFile d right.known.dump right.path.now (λ _ _ _ _. ⊥))
     (sizes_of dump.numbers) refl c.in-Whole.file.bytes.items _ _ o h.1 h.2 h.3 (c.new-source.ensures ∙ c.as_slice.ensures.value)
-    c.compare_beside-in-Whole.ensures.narrows (Works-weaker _ _ _ _ _ (λ e is. no_file is) o works))
-    c.compare_beside-in-Whole.ensures.unread
+    c.compare_beside-work-in-Whole.ensures.narrows (Works-weaker _ _ _ _ _ (λ e is. no_file is) o works))
+    c.compare_beside-work-in-Whole.ensures.unread

@@ -22,12 +22,12 @@ returns-in-AtPlaces-clause-dump g c =
     let sought = c.args.sought.now in
     let is = c.in_ok-frame.ensures.dump ∙ c.greatest.ensures in
     let h = rw (is, c.in-AtPlaces.is) at c.in_ok-file.ensures.opened in
-    let work = c.seek_at_places.ensures in
-    IfOk-weaker c.seek_at_places.result _ _
+    let work = c.seek_at_places-found.ensures in
+    IfOk-weaker c.seek_at_places-found.result _ _
     (λ known f. subst (λ (dump : Dump). IsDump d c.args.path.now (asked.Sought sought) dump) (sym f.0.2)
-    (told f.0.0 (read_at_places d (greatest_dump sought.part) c.args.path.now (λ _ agrees. IsToldFirst agrees f.0.0) _ _ _ h.1 h.2 h.3
-    (keeps_promise _ _ _ c.seek_at_places.new.source.told) f.1 f.0.1)))
-    (both c.seek_at_places.result _ _ work.told work.known)
+    (told f.0.0 (read_at_places d (greatest_dump sought.part) c.args.path.now (λ _ agrees. IsToldFirst sought.part agrees f.0.0) _ _ _ h.1 h.2 h.3
+    (keeps_promise _ _ _ c.seek_at_places-found.new.source.told) f.1 f.0.1)))
+    (both c.seek_at_places-found.result _ _ work.told work.known)
 
 pub returns-in-AtPlaces-clause-untold : goal.returns-in-AtPlaces-clause-untold
 returns-in-AtPlaces-clause-untold g c =
@@ -35,13 +35,13 @@ returns-in-AtPlaces-clause-untold g c =
     let dump = greatest_dump c.args.sought.now.part in
     let is = c.in_ok-frame.ensures.dump ∙ c.greatest.ensures in
     let h = rw (is, c.in-AtPlaces.is) at c.in_ok-file.ensures.opened in
-    tells_less c.seek_at_places.result _ _
+    tells_less c.seek_at_places-found.result _ _
     (λ o e. elim e [
-      | inl works ↦ at_places d dump c.args.path.now (λ _. TellsNothing c.args.side.now) (sizes_of dump.numbers) refl _ _ _ o h.1 h.2 h.3
-          (keeps_promise _ _ _ c.seek_at_places.new.source.told) works
+      | inl works ↦ at_places d dump c.args.path.now (λ _. TellsNothing c.args.sought.now.part c.args.side.now) (sizes_of dump.numbers) refl _ _ _ o h.1 h.2 h.3
+          (keeps_promise _ _ _ c.seek_at_places-found.new.source.told) works
       | inr line ↦ no_file (no_read d dump c.args.path.now o h.1 line)
     ])
-    c.seek_at_places.ensures.nothing
+    c.seek_at_places-found.ensures.nothing
 
 pub returns-clause-dump : goal.returns-clause-dump
 returns-clause-dump g c =
@@ -49,10 +49,10 @@ returns-clause-dump g c =
     let sought = c.args.sought.now in
     let is = c.in_ok-frame.ensures.dump ∙ c.greatest.ensures in
     let h = rw (is, c.in-Whole.is) at c.in_ok-file.ensures.opened in
-    IfOk-weaker c.seek_whole.result _ _
+    IfOk-weaker c.seek_whole-found.result _ _
     (λ known f. subst (λ (dump : Dump). IsDump d c.args.path.now (asked.Sought sought) dump) (sym f.2)
     (told f.0 (whole c.in-Whole.file.bytes.items h.1 h.2 h.3 f.1)))
-    c.seek_whole.ensures.told
+    c.seek_whole-found.ensures.told
 
 pub returns-clause-kept : goal.returns-clause-kept
 returns-clause-kept g c =
@@ -60,10 +60,10 @@ returns-clause-kept g c =
     let sought = c.args.sought.now in
     let is = c.in_ok-frame.ensures.dump ∙ c.greatest.ensures in
     let h = rw (is, c.in-Whole.is) at c.in_ok-file.ensures.opened in
-    IfOk-weaker c.seek_whole.result _ _
+    IfOk-weaker c.seek_whole-found.result _ _
     (λ known f. is_there known.kept _ _ f.3 (λ bytes are. rw f.2
     (kept_of_told sought f.0 c.in-Whole.file.bytes.items bytes.items f.1 are d c.args.path.now h.2 h.3)))
-    c.seek_whole.ensures.told
+    c.seek_whole-found.ensures.told
 
 pub returns-clause-opens : goal.returns-clause-opens
 returns-clause-opens g c = λ known.
@@ -77,9 +77,9 @@ returns-clause-untold g c =
     let dump = greatest_dump c.args.sought.now.part in
     let is = c.in_ok-frame.ensures.dump ∙ c.greatest.ensures in
     let h = rw (is, c.in-Whole.is) at c.in_ok-file.ensures.opened in
-    tells_less c.seek_whole.result _ _
+    tells_less c.seek_whole-found.result _ _
     (λ o e. elim e [
       | inl nothing ↦ file (whole c.in-Whole.file.bytes.items h.1 h.2 h.3 nothing)
       | inr line ↦ no_file (no_read d dump c.args.path.now o h.1.limits line)
     ])
-    c.seek_whole.ensures.nothing
+    c.seek_whole-found.ensures.nothing

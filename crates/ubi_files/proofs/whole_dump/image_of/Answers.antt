@@ -1,4 +1,4 @@
-use Rattle.ubi_files.proofs.Prelude.{◌≡◌, ◌∙◌, ◌*◌, ◌<◌, ap, ap₂, rules, sym, ℕ, Sizes, as_read, sizes_of, unfit_whole, misfit, pages_of, FilePart}
+use Rattle.ubi_files.proofs.Prelude.{◌≡◌, ◌∙◌, ◌+◌, ◌++◌, ◌*◌, ◌<◌, blank, min, ap, ap₂, rules, sym, ℕ, Sizes, as_read, sizes_of, unfit_whole, misfit, pages_of, FilePart}
 use Rattle.ubi_files.proofs.Tells.{Tells-weaker}
 use Rattle.ubi_files.proofs.SeenBytes.{judged_seen, length-whole}
 use Rattle.ubi_files.proofs.whole_dump.image_of.Goals as goal
@@ -21,8 +21,10 @@ returns-clause-read c =
       limits = frame.limits;
       few =
           let s = sizes_of frame.dump.numbers in
-          rw (c.see.ensures, frame.sizes)
-          (length-whole s.peb_size (s.pebs * s.peb_size) frame.marks.items (pages_of s.page frame.dump.oob c.args.read.bytes.items));
+          let device = s.pebs * s.peb_size in
+          rw (c.in_ok-bytes.ensures, frame.sizes)
+          (length-whole s.peb_size device frame.marks.items
+          (blank (min (frame.before * s.peb_size) (device + 1)) ++ pages_of s.page frame.dump.oob c.args.read.bytes.items));
     }
 
 pub returns-clause-named : goal.returns-clause-named
@@ -30,5 +32,5 @@ returns-clause-named c = λ d path read.
     let frame = c.args.frame.now in
     let some : 0 < c.page.result = search rules in
     let page = c.page.ensures.value ∙ ap (λ (s : Sizes). s.page) frame.sizes in
-    judged_seen frame.dump (d.holds path) c.args.read.bytes.items c.see.new.bytes.items (rw page at some)
-    (rw (frame.sizes, frame.marked) at c.see.ensures) read.bytes
+    judged_seen frame.dump (d.holds path) c.args.read.bytes.items c.in_ok-bytes.bytes.items (rw page at some)
+    (rw (frame.sizes, frame.marked, frame.led) at c.in_ok-bytes.ensures) read.bytes

@@ -2,7 +2,7 @@
 
 use std::alloc::Global;
 use std::test::Fail;
-use ubi_media::{EcHeader, Geometry, GeometryError, write_ec};
+use ubi_media::{EcHeader, Geometry, GeometryError, VidHeader, VolKind, write_ec, write_vid};
 
 /// What is put at a place of a file.
 #[derive(Clone, Copy)]
@@ -15,6 +15,8 @@ pub enum What {
     Counted(u32, u32),
     /// What a volume-identifier header of the volume 0 begins with.
     Vid,
+    /// A whole volume-identifier header of the volume 0.
+    Member,
     /// What one of the volume table begins with, of the copy with this number.
     Table(u8),
     /// Both copies of the volume table, one at each place of its row: where an eraseblock has its identifier and its data, and
@@ -44,6 +46,22 @@ pub fn header(vid_offset: u32, data_offset: u32) -> Result<[u8; 64], GeometryErr
 
 /// The first 16 bytes of the volume-identifier header of the volume 0: magic, version, type and flags, volume, logical eraseblock.
 static VID: [u8; 16] = [b'U', b'B', b'I', b'!', 1, 1, 0, 0, 0, 0, 0, 0, 0, 0, 0, 0];
+
+/// The bytes of a volume-identifier header of LEB 0 of the volume 0.
+fn member_vid() -> [u8; 64] {
+    write_vid(&VidHeader {
+        kind: VolKind::Dynamic,
+        copy_flag: false,
+        compat: 0,
+        vol_id: 0,
+        lnum: 0,
+        data_size: 0,
+        used_ebs: 0,
+        data_pad: 0,
+        data_crc: 0,
+        sqnum: 0,
+    })
+}
 
 /// Those of the volume table, of the copy with this number.
 pub fn table_vid(copy: u8) -> [u8; 16] {
@@ -80,6 +98,7 @@ fn put_what(bytes: &mut [u8], at: usize, what: What, index: usize) -> Result<(),
         What::Numbered(vid, data, seq) => put(bytes, at, &numbered(vid, data, seq)?),
         What::Counted(vid, data) => put(bytes, at, &numbered(vid, data, counted(index))?),
         What::Vid => put(bytes, at, &VID),
+        What::Member => put(bytes, at, &member_vid()),
         What::Table(copy) => put(bytes, at, &table_vid(copy)),
         What::Copies(vid, data, count) => {
             put(

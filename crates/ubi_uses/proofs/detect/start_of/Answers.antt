@@ -13,5 +13,5 @@ first_told agrees (x ∷ xs) t are some is = (x, xs, are, ap (λ (d : Detected).
 
 pub returns : goal.returns
 returns g c =
-    first_told (g.S.BlockSource.agrees c.detect_from.new.source) c.in_ok-found.found.items c.index.result.now
+    first_told (g.S.BlockSource.agrees c.detect_from.new.source) c.in_ok-found.found.geometries.items c.index.result.now
     c.in_ok-found.ensures.found c.in_ok-found.ensures.some c.index.ensures

@@ -2,7 +2,7 @@ use Rattle.ubi_commands.proofs.Prelude.{◌≡◌, [], Bool, Some, ap, IfOk-weak
 use Rattle.std.proofs.Common.{None}
 use Rattle.ubi_commands.proofs.Ended.{OfFile-weaker}
 use Rattle.ubi_commands.proofs.Planned.{OfFile-after, OfFile-at, not_done, pages_end, without_pages}
-use Rattle.ubi_commands.proofs.planners.write_plan.Goals as goal
+use Rattle.ubi_commands.proofs.planners.plan_late.Goals as goal
 
 pub returns-in_default-clause-answer : goal.returns-in_default-clause-answer
 returns-in_default-clause-answer g c d dump is =
