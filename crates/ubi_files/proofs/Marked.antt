@@ -1,5 +1,5 @@
 -- Marks of eraseblocks, range by range.
-use Rattle.ubi_files.proofs.Prelude.{◌≡◌, ◌∙◌, ℕ, ◌+◌, ◌-◌, ◌<◌, ◌≤◌, ◌&&◌, ◌||◌, ◌⊎◌, Bool, List, [], ◌∷◌, ◌++◌, ap, arith, cond, drop, false, get_or, length, min, nat_le, nat_lt, refl, replicate, sym, take, true, list_any, slice_split, cases_lt, nat_tests, length-append, length-drop, length-replicate, length-take-le, same_lists, length-slice_split, Bor, option_map_or, None, Option, filter_map, filter_map-append, has_number, range_of, range_of_parts, ranges_of, with_ranges, BlockRange, Some}
+use Rattle.ubi_files.proofs.Prelude.{◌≡◌, ◌∙◌, ℕ, ◌+◌, ◌-◌, ◌<◌, ◌≤◌, ◌&&◌, ◌||◌, ◌⊎◌, Bool, List, [], ◌∷◌, ◌++◌, ap, arith, cond, drop, false, get_or, length, map, min, nat_le, nat_lt, refl, replicate, sym, take, true, list_any, slice_split, cases_lt, nat_tests, length-append, length-drop, length-replicate, length-take-le, map-append, same_lists, take_more, length-slice_split, Bor, option_map_or, None, Option, filter_map, filter_map-append, has_number, one_block, range_of, range_of_parts, ranges_of, with_ranges, BlockRange, Some}
 use Rattle.std.specs.Prelude.{is_some}
 use Rattle.std.specs.Prelude.{◌==◌}
 use Rattle.ubi_files.proofs.PlaceByPlace.{get_or-filled, get_or-placed, length-placed}
@@ -64,6 +64,15 @@ with_more_ranges marks xs ys = same_lists (with_ranges (with_ranges marks xs) ys
     ∙ or_assoc (get_or marks k d) (in_ranges xs k) (in_ranges ys k)
     ∙ ap (λ x. get_or marks k d || x) (sym (any-append xs ys k))
     ∙ sym (get_or-with_ranges marks (xs ++ ys) k d here))
+
+-- one number more marks one eraseblock more
+pub mark_number : (marks : List Bool) (numbers : List ℕ) (i : ℕ) → i < length numbers
+    → with_ranges (with_ranges marks (map one_block (take i numbers))) (one_block (get_or numbers i 0) ∷ [])
+    ≡ with_ranges marks (map one_block (take (i + 1) numbers))
+mark_number marks numbers i l =
+    with_more_ranges marks (map one_block (take i numbers)) (one_block (get_or numbers i 0) ∷ [])
+    ∙ ap (with_ranges marks) (sym (ap (map one_block) (take_more numbers i 0 l)
+    ∙ map-append one_block (take i numbers) (get_or numbers i 0 ∷ [])))
 
 -- an item, and those behind it
 pub mark_next : (marks : List Bool) (items item : List ℕ) (behind : List (List ℕ)) → slice_split (λ b. b == 44) items ≡ item ∷ behind

@@ -5,7 +5,7 @@ pub use Rattle.std.proofs.Math.Nat.{div-lt_iff_lt-mul, min-le_left, min-le_right
 pub use Rattle.std.proofs.Math.Seq.{drop-append-add, paste, take-append-add}
 pub use Rattle.std.proofs.lemmas.Bool.{cases_lt}
 pub use Rattle.std.proofs.lemmas.Bool.Decides.{nat_tests}
-pub use Rattle.std.proofs.lemmas.List.{append-nil, drop-append-le, drop-drop, drop-replicate, drop-take, drop_all, drop_at, get_or-append_right, get_or-drop, get_or-replicate, get_or-take, get_or_append_left, length-append, length-drop, length-replicate, length-take, length-take-le, nil_from_length, same_lists, take-append-drop, take-append-le, take-replicate, take-take, take_all, take_at, take_min, take_rest, with_items_is}
+pub use Rattle.std.proofs.lemmas.List.{append-nil, drop-append-le, drop-drop, drop-replicate, drop-take, drop_all, drop_at, get_or-append_right, get_or-drop, get_or-replicate, get_or-take, get_or_append_left, length-append, length-drop, length-replicate, length-take, length-take-le, map-append, nil_from_length, same_lists, take-append-drop, take-append-le, take-replicate, take-take, take_all, take_at, take_min, take_more, take_rest, with_items_is}
 pub use Rattle.std.proofs.lemmas.List.Edits.{drop-paste, length-paste, take-paste}
 pub use Rattle.std.proofs.lemmas.List.Elements.{filter_map-append}
 pub use Rattle.std.proofs.lemmas.List.Splits.{length-slice_split}
@@ -26,7 +26,7 @@ pub use Rattle.ubi_scan.proofs.BytesAtPlace.{stand_within}
 pub use Rattle.ubi_scan.specs.Image.{seen_of}
 pub use Rattle.ubi_scan.specs.Marks.{is_listed}
 pub use Rattle.ubi_scan.specs.Placed.{StandsAt}
-pub use Rattle.ubi_files.specs.BadBlocks.{has_number, masked, range_of, range_of_parts, ranges_of, with_ranges}
+pub use Rattle.ubi_files.specs.BadBlocks.{has_number, masked, one_block, range_of, range_of_parts, ranges_of, with_ranges}
 pub use Rattle.ubi_files.specs.Disk.{Files}
 pub use Rattle.ubi_files.specs.Dump.{Fits, as_read, before, blocks_before, marks_of, misfit_of, most_of, viewed}
 pub use Rattle.ubi_files.specs.Numbers.{sizes_of}

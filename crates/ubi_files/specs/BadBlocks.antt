@@ -52,6 +52,15 @@ with_ranges marks ranges = map (λ e. e.1 || list_any (λ r. has_number r e.0) r
 abbrev pub bad_marks : ℕ → List ℕ → List Bool
 bad_marks pebs word = with_ranges (replicate pebs false) (ranges_of word)
 
+-- the range of one eraseblock
+abbrev pub one_block : ℕ → BlockRange
+one_block n = record { first = n; last = n }
+
+-- whether each eraseblock of a device has one of these numbers; without numbers there are no marks
+abbrev pub marks_by_number : ℕ → List ℕ → List Bool
+marks_by_number pebs [] = []
+marks_by_number pebs numbers = with_ranges (replicate pebs false) (map one_block numbers)
+
 -- bytes of eraseblocks of this size, as they are read: 0xFF if the eraseblock is marked, and as they are if not
 abbrev pub masked : ℕ → List Bool → List ℕ → List ℕ
 masked size marks bytes = map (λ e. if is_listed marks (e.0 / size) then 0xFF else e.1) (enumerate_from 0 bytes)

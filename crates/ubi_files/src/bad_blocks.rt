@@ -1,9 +1,9 @@
 //! The eraseblocks that a word lists as bad.
 
 ghost use Rattle.std.specs.List.{list_all, slice_split};
-ghost use Rattle.std.specs.Prelude.{◌≡◌, ◌==◌, ◌∷◌, [], IfOk, filter_map, is_some};
+ghost use Rattle.std.specs.Prelude.{◌≡◌, ◌==◌, ◌∷◌, [], IfOk, filter_map, is_some, map};
 ghost use Rattle.std.specs.Str.Parse.{without_leading_plus};
-ghost use Rattle.ubi_files.specs.BadBlocks.{bad_marks, block_number, is_block_list, range_between, range_of, ranges_of, with_ranges};
+ghost use Rattle.ubi_files.specs.BadBlocks.{bad_marks, block_number, is_block_list, marks_by_number, one_block, range_between, range_of, ranges_of, with_ranges};
 
 use std::alloc::{AllocError, Global};
 use ubi_words::{cut, decimal_of};
@@ -144,5 +144,35 @@ pub fn bad_marks(alloc: Global, pebs: u32, word: &[u8]) -> Result<Vec<bool>, All
 {
     let mut marks = Vec::from_elem(alloc, false, pebs as usize)?;
     mark_list(marks.as_mut_slice(), word);
+    Ok(marks)
+}
+
+/// Marks the eraseblocks with these numbers, as far as they have marks.
+fn mark_numbers(marks: &mut [bool], numbers: &[u32])
+    ensures { marks.new ≡ with_ranges marks.old (map one_block numbers.now) }
+{
+    for i in 0..numbers.len() {
+        let first = numbers[i];
+        mark_range(marks, BlockRange { first, last: first });
+    }
+}
+
+/// Whether each of `pebs` eraseblocks has one of these numbers. If there are no numbers, there are no marks.
+///
+/// # Errors
+///
+/// Memory ran out.
+pub fn marks_by_number(
+    alloc: Global,
+    pebs: u32,
+    numbers: &[u32],
+) -> Result<Vec<bool>, AllocError>
+    ensures { IfOk result (λ marks. marks.items ≡ marks_by_number pebs numbers.now) }
+{
+    if numbers.is_empty() {
+        return Ok(Vec::new(alloc));
+    }
+    let mut marks = Vec::from_elem(alloc, false, pebs as usize)?;
+    mark_numbers(marks.as_mut_slice(), numbers);
     Ok(marks)
 }

@@ -30,7 +30,7 @@ mod replaced;
 mod view;
 mod whole_dump;
 
-pub use bad_blocks::is_block_list;
+pub use bad_blocks::{is_block_list, marks_by_number};
 pub use behind::Behind;
 pub use disk::{Disk, OutputFile, WholeFile};
 pub use dump::Dump;
@@ -43,7 +43,7 @@ pub use late_file::{LateFile, Target};
 pub use lines::{
     file_line, geometry_line, misfit_line, put_number, put_word, refusal_line, refused,
 };
-pub use masked::Masked;
+pub use masked::{Masked, mask};
 pub use numbers::{GREATEST, Numbers, geometry_of};
 pub use open_image::{
     DumpSource, Frame, OpenImage, PlacedImage, Seen, frame_of, open_beside, open_dump,

@@ -53,20 +53,19 @@ impl Lay {
         Ok(words)
     }
 
-    /// How many bytes of the file an eraseblock of `pages` pages of a size has, with what follows each page.
-    fn raw(&self, pages: usize, page: usize) -> usize {
-        let Lay(_, oob, _) = *self;
-        page.saturating_add(oob).saturating_mul(pages).max(1)
+    /// How many bytes of the file an eraseblock of `pages` pages of a size has, with what follows each page; and how many such
+    /// eraseblocks, and bytes more, lie before the image.
+    fn before(&self, pages: usize, page: usize) -> (usize, usize, usize) {
+        let Lay(before, oob, _) = *self;
+        let raw = page.saturating_add(oob).saturating_mul(pages).max(1);
+        (raw, before / raw, before % raw)
     }
 
     /// How many eraseblocks of `pages` pages of a size lie before the image, if these are all that does.
     fn blocks(&self, pages: usize, page: usize) -> Option<usize> {
-        let Lay(before, _, _) = *self;
-        let raw = self.raw(pages, page);
-        if before % raw == 0 {
-            Some(before / raw)
-        } else {
-            None
+        match self.before(pages, page) {
+            (_, blocks, 0) => Some(blocks),
+            _ => None,
         }
     }
 }
@@ -169,18 +168,17 @@ fn plans_eraseblocks_of_the_file(rt: HostRuntime) -> Result<(), Fail> {
     let new = [0x61; 64];
     for lay in &LAYS {
         let file = lay.file(alloc, image, 64)?;
-        let (raw, Lay(before, _, _)) = (lay.raw(8, 64), *lay);
+        let (raw, blocks, rest) = lay.before(8, 64);
         for line in PLANS {
             let words = lay.words(alloc, image.len(), 64)?;
             let viewed = format!(in alloc; "{line}{words}")?;
             let viewed = with_sizes(alloc, viewed.as_str(), SMALL_SIZES)?;
-            let Some(blocks) = lay.blocks(8, 64) else {
-                let rest = before % raw;
+            if rest > 0 {
                 let refused = format!(in alloc; "refused F11 Start peb={raw} rest={rest}\n")?;
                 let answer = (refused.as_str().as_bytes(), 1, [].as_slice());
                 assert_own(&rt, alloc, (file.as_slice(), &new), viewed.as_str(), answer)?;
                 continue;
-            };
+            }
             let counted = behind_blank(alloc, image, blocks, 512)?;
             let avoiding = if blocks == 0 {
                 String::from_str(alloc, line)?
