@@ -112,6 +112,34 @@ def _number(number):
     return number
 
 
+def _sizes_of(sizes):
+    """The address of sizes."""
+    if not isinstance(sizes, Sizes):
+        raise TypeError(f"{sizes!r} is no Sizes")
+    return ctypes.byref(sizes)
+
+
+def _spared_of(bad, keep_blank):
+    """What a plan spares, as C takes it."""
+    numbers = [_number(block) for block in bad]
+    return [(ctypes.c_uint32 * max(len(numbers), 1))(*numbers), ctypes.c_size_t(len(numbers)), bool(keep_blank)]
+
+
+# What the calls take, as ubi.h declares it.
+_SIZES, _NUMBER = (ctypes.POINTER(Sizes),), (ctypes.c_uint32,)
+_IMAGE = (ctypes.c_void_p, ctypes.c_size_t)
+_SPARED = (ctypes.c_void_p, ctypes.c_size_t, ctypes.c_bool)
+_ROOM = (ctypes.c_void_p, ctypes.c_size_t, ctypes.POINTER(ctypes.c_size_t))
+_CALLS = {
+    "geometry": _IMAGE + _ROOM,
+    **dict.fromkeys(("check", "list", "map", "normalise"), _SIZES + _IMAGE + _ROOM),
+    **dict.fromkeys(("show", "read"), _SIZES + _IMAGE + _NUMBER + _ROOM),
+    **dict.fromkeys(("same", "diff"), _SIZES + _IMAGE + _IMAGE + _ROOM),
+    "change": _SIZES + _IMAGE + _SPARED + _NUMBER + _NUMBER + _IMAGE + _ROOM + _ROOM,
+    "rename": _SIZES + _IMAGE + _SPARED + _NUMBER + _IMAGE + _ROOM + _ROOM,
+}
+
+
 class _Room:
     """A buffer for an answer."""
 
@@ -143,17 +171,19 @@ class Library:
 
     def __init__(self, path=None):
         self._library = ctypes.CDLL(path or _path())
+        for name, takes in _CALLS.items():
+            call = getattr(self._library, f"ubi_{name}")
+            call.argtypes, call.restype = takes, ctypes.c_uint32
 
-    def _call(self, name, sizes, images, numbers, given, rooms):
+    def _call(self, name, sizes, images, spared, numbers, given, rooms):
         """The status, with the answers in rooms; calls once more if one of them is too small. Raises Limit and
         MemoryError."""
         call = getattr(self._library, f"ubi_{name}")
-        call.restype = ctypes.c_uint32
         with contextlib.ExitStack() as held:
             before, after = (
                 [word for data in some for word in held.enter_context(_bytes_of(data))] for some in (images, given))
-            words = [ctypes.byref(sizes)] if sizes else []
-            words += before + [ctypes.c_uint32(_number(n)) for n in numbers] + after
+            words = [] if name == "geometry" else [_sizes_of(sizes)]
+            words += before + spared + [ctypes.c_uint32(_number(n)) for n in numbers] + after
             while True:
                 status = call(*words, *(word for room in rooms for word in room.words()))
                 if status == NO_MEMORY:
@@ -165,9 +195,9 @@ class Library:
                     return status, answers
                 rooms = [room if room.has_all() else _Room(room.len.value) for room in rooms]
 
-    def _answer(self, name, sizes, images, numbers=(), given=(), rooms=None):
+    def _answer(self, name, sizes, images, numbers=(), given=(), rooms=None, spared=()):
         """The answers of a call that is done; raises Refused if it is refused."""
-        status, answers = self._call(name, sizes, images, numbers, given, rooms or [_Room(ROOM)])
+        status, answers = self._call(name, sizes, images, list(spared), numbers, given, rooms or [_Room(ROOM)])
         refusal = REFUSAL.fullmatch(answers[0]) if status == REFUSED else None
         if refusal:
             side, cause = refusal.groups()
@@ -202,7 +232,7 @@ class Library:
     def map(self, sizes, image):
         """The lines that `ubi_tool map` prints: a letter for each eraseblock. An image that is refused has them too,
         and then the cause."""
-        return self._call("map", sizes, [image], (), (), [_Room(ROOM)])[1][0].decode("ascii")
+        return self._call("map", sizes, [image], [], (), (), [_Room(ROOM)])[1][0].decode("ascii")
 
     def read(self, sizes, image, number):
         """The bytes of the volume with this number."""
@@ -221,20 +251,21 @@ class Library:
         mean the same."""
         return self._answer("diff", sizes, [left, right])[0].decode("ascii").splitlines()[:-1]
 
-    def change(self, sizes, image, number, lnum, data):
-        """The steps that give the logical eraseblock `lnum` of the dynamic volume `number` new bytes: a list of
-        Step."""
-        return self._plan("change", sizes, image, [number, lnum], data)
+    def change(self, sizes, image, number, lnum, data, bad=(), keep_blank=False):
+        """The steps that give the logical eraseblock `lnum` of the dynamic volume `number` new bytes: a list of Step.
+        `bad` has the numbers of the chip's bad eraseblocks: no step works on one of them, and each reads 0xFF. If
+        `keep_blank` is true, no step works on an eraseblock that is blank throughout either."""
+        return self._plan("change", sizes, image, _spared_of(bad, keep_blank), [number, lnum], data)
 
-    def rename(self, sizes, image, number, name):
+    def rename(self, sizes, image, number, name, bad=(), keep_blank=False):
         """The steps that give the volume `number` a new name, which is bytes, or a string as `list` shows names: a list
-        of Step."""
+        of Step. `bad` and `keep_blank` are those of `change`."""
         word = name.encode("ascii") if isinstance(name, str) else "".join(rf"\x{byte:02x}" for byte in name).encode()
-        return self._plan("rename", sizes, image, [number], word)
+        return self._plan("rename", sizes, image, _spared_of(bad, keep_blank), [number], word)
 
-    def _plan(self, name, sizes, image, numbers, data):
+    def _plan(self, name, sizes, image, spared, numbers, data):
         rooms = [_Room(ROOM), _Room(2 * sizes.peb_size)]
-        lines, pages = self._answer(name, sizes, [image], numbers, [data], rooms)
+        lines, pages = self._answer(name, sizes, [image], numbers, [data], rooms, spared)
         steps = []
         for line in lines.decode("ascii").splitlines()[1:]:
             places = [int(place) for place in re.findall(r"=(\d+)", line)]

@@ -22,6 +22,7 @@
 #ifndef UBI_H
 #define UBI_H
 
+#include <stdbool.h>
 #include <stddef.h>
 #include <stdint.h>
 
@@ -84,15 +85,21 @@ uint32_t ubi_diff(const struct ubi_sizes *sizes, const uint8_t *left, size_t lef
 /* The plan that gives the logical eraseblock lnum of the dynamic volume id new bytes, such that the image means the old or the new
  * wherever the power fails: in out a line for each step, such as "erase block=3" or "program block=7 page=2", and in pages the bytes
  * of the pages that the steps program, in the order of the steps, each page bytes long. pages is filled as out is, and *pages_len is
- * the number of bytes of all pages. If the status isn't UBI_DONE, there are no pages. */
-uint32_t ubi_change(const struct ubi_sizes *sizes, const uint8_t *image, size_t image_len, uint32_t id, uint32_t lnum,
-    const uint8_t *bytes, size_t bytes_len, uint8_t *out, size_t out_len, size_t *len, uint8_t *pages, size_t pages_room,
-    size_t *pages_len);
+ * the number of bytes of all pages. If the status isn't UBI_DONE, there are no pages.
+ *
+ * bad has the numbers of the chip's bad eraseblocks, in any order; bads says how many there are. No step works on one of them, and each
+ * reads 0xFF, whatever the image has there. For a chip that has some, a plan without them erases what must not be erased. The call holds
+ * a copy of the image if bads isn't 0. If keep_blank is true, no step works on an eraseblock that is blank throughout either (docs/CHANGE.md
+ * says when to want that). */
+uint32_t ubi_change(const struct ubi_sizes *sizes, const uint8_t *image, size_t image_len, const uint32_t *bad, size_t bads,
+    bool keep_blank, uint32_t id, uint32_t lnum, const uint8_t *bytes, size_t bytes_len, uint8_t *out, size_t out_len, size_t *len,
+    uint8_t *pages, size_t pages_room, size_t *pages_len);
 
 /* The plan that gives the volume id a new name, likewise. The name is written as ubi_list shows names: each byte as it is, or as \x
  * and two hexadecimal digits. */
-uint32_t ubi_rename(const struct ubi_sizes *sizes, const uint8_t *image, size_t image_len, uint32_t id, const uint8_t *name,
-    size_t name_len, uint8_t *out, size_t out_len, size_t *len, uint8_t *pages, size_t pages_room, size_t *pages_len);
+uint32_t ubi_rename(const struct ubi_sizes *sizes, const uint8_t *image, size_t image_len, const uint32_t *bad, size_t bads,
+    bool keep_blank, uint32_t id, const uint8_t *name, size_t name_len, uint8_t *out, size_t out_len, size_t *len, uint8_t *pages,
+    size_t pages_room, size_t *pages_len);
 
 #ifdef __cplusplus
 }

@@ -1,11 +1,12 @@
 /* Makes the calls of ubi.h that its input asks for, and writes their answers: for c_calls.py.
  *
- * Each line of the input is CALL ROOM PAGES_ROOM PEB PAGE VID DATA PEBS A B X Y REFUSED: the call, the numbers of bytes of
- * out and pages, the sizes, two files (or '-'), two numbers, and which allocation is refused, or 0. For each it writes a
- * line STATUS LEN KEPT PAGES_LEN NANOSECONDS: KEPT is 1 if everything that was passed is as it was, except what the call
- * may write, and the last is how long the call took. Then it writes the first bytes of out and of pages: those of the
- * answer that fit, or all of them if memory ran out. Each buffer has exactly as many bytes as its length says, so that a
- * checker of memory sees any other byte that is touched. A file that is named twice is passed as one.
+ * Each line of the input is CALL ROOM PAGES_ROOM PEB PAGE VID DATA PEBS A B X Y BAD KEEP REFUSED: the call, the numbers
+ * of bytes of out and pages, the sizes, two files (or '-'), two numbers, the bad eraseblocks as 3,9 (or '-'), whether
+ * blank ones are kept, and which allocation is refused, or 0. For each it writes a line STATUS LEN KEPT PAGES_LEN
+ * NANOSECONDS: KEPT is 1 if everything that was passed is as it was, except what the call may write, and the last is how
+ * long the call took. Then it writes the first bytes of out and of pages: those of the answer that fit, or all of them if
+ * memory ran out. Each buffer has exactly as many bytes as its length says, so that a checker of memory sees any other
+ * byte that is touched. A file that is named twice is passed as one.
  *
  * It is linked with -Wl,--wrap=malloc,--wrap=realloc, so that allocations can be refused. */
 #include "ubi.h"
@@ -61,6 +62,23 @@ static struct bytes load(const char *path) {
     return b;
 }
 
+/* The numbers in a list, in just as many bytes as they need, and a copy of them. */
+static struct bytes numbers_in(const char *list) {
+    struct bytes b = {0};
+    for (const char *at = list; *at; at++) b.len += *at == ',';
+    b.len = strcmp(list, "-") ? (b.len + 1) * sizeof(uint32_t) : 0;
+    b.data = some(b.len);
+    b.copy = some(b.len);
+    for (size_t at = 0; at < b.len; at += sizeof(uint32_t)) {
+        char *end;
+        uint32_t number = (uint32_t)strtoul(list, &end, 10);
+        memcpy(b.data + at, &number, sizeof number);
+        list = end + 1;
+    }
+    memcpy(b.copy, b.data, b.len);
+    return b;
+}
+
 static int is_kept(struct bytes b) {
     int same = !memcmp(b.data, b.copy, b.len);
     free(b.data);
@@ -92,15 +110,18 @@ static int is_rest_kept(const uint8_t *data, size_t from, size_t len) {
 }
 
 int main(void) {
-    char call[32], a_path[4096], b_path[4096];
+    char call[32], a_path[4096], b_path[4096], bad_list[4096];
     size_t out_len, pages_room;
     struct ubi_sizes s;
     uint32_t x, y;
-    unsigned refused;
-    while (scanf("%31s %zu %zu %u %u %u %u %u %4095s %4095s %u %u %u", call, &out_len, &pages_room, &s.peb_size, &s.page,
-                 &s.vid_offset, &s.data_offset, &s.pebs, a_path, b_path, &x, &y, &refused) == 13) {
+    unsigned keep, refused;
+    while (scanf("%31s %zu %zu %u %u %u %u %u %4095s %4095s %u %u %4095s %u %u", call, &out_len, &pages_room,
+                 &s.peb_size, &s.page, &s.vid_offset, &s.data_offset, &s.pebs, a_path, b_path, &x, &y, bad_list, &keep,
+                 &refused) == 15) {
         int is_one = !strcmp(a_path, b_path);
-        struct bytes a = load(a_path), b = is_one ? a : load(b_path);
+        struct bytes a = load(a_path), b = is_one ? a : load(b_path), bad = numbers_in(bad_list);
+        const uint32_t *blocks = (const uint32_t *)(void *)bad.data;
+        size_t bads = bad.len / sizeof *blocks;
         struct ubi_sizes before = s;
         uint8_t *out = room(out_len), *pages = room(pages_room);
         size_t len = 7, pages_len = 0;
@@ -117,15 +138,17 @@ int main(void) {
         if (!strcmp(call, "same")) status = ubi_same(&s, a.data, a.len, b.data, b.len, out, out_len, &len);
         if (!strcmp(call, "diff")) status = ubi_diff(&s, a.data, a.len, b.data, b.len, out, out_len, &len);
         if (!strcmp(call, "change"))
-            status = ubi_change(&s, a.data, a.len, x, y, b.data, b.len, out, out_len, &len, pages, pages_room, &pages_len);
+            status = ubi_change(&s, a.data, a.len, blocks, bads, keep, x, y, b.data, b.len, out, out_len, &len, pages,
+                                pages_room, &pages_len);
         if (!strcmp(call, "rename"))
-            status = ubi_rename(&s, a.data, a.len, x, b.data, b.len, out, out_len, &len, pages, pages_room, &pages_len);
+            status = ubi_rename(&s, a.data, a.len, blocks, bads, keep, x, b.data, b.len, out, out_len, &len, pages,
+                                pages_room, &pages_len);
         allocations = 0;
         uint64_t took = now() - start;
         size_t here = status == UBI_NO_MEMORY ? out_len : filled(len, out_len);
         size_t there = status == UBI_NO_MEMORY ? pages_room : filled(pages_len, pages_room);
-        int kept = is_kept(a) & (is_one || is_kept(b)) & !memcmp(&s, &before, sizeof s) & is_rest_kept(out, here, out_len)
-            & is_rest_kept(pages, there, pages_room);
+        int kept = is_kept(a) & (is_one || is_kept(b)) & is_kept(bad) & !memcmp(&s, &before, sizeof s)
+            & is_rest_kept(out, here, out_len) & is_rest_kept(pages, there, pages_room);
         printf("%u %zu %d %zu %llu\n", status, len, kept, pages_len, (unsigned long long)took);
         fwrite(out, 1, here, stdout);
         fwrite(pages, 1, there, stdout);

@@ -2,8 +2,8 @@
 """Compares the answers of the calls for C and Python with those of the program, for the images of the repository and
 for random ones.
 
-usage: c_calls.py [--seed N] [--count N] [--large N] [--starved N] [--first N] [--dir FOLDER] [--tool PROGRAM]
-                  [--built FOLDER] [--asan]
+usage: c_calls.py [--seed N] [--count N] [--large N] [--plans N] [--starved N] [--first N] [--dir FOLDER]
+                  [--tool PROGRAM] [--built FOLDER] [--asan]
 
 The images are those of fuzz.py and the second ones those of diff.py: accepted and refused, with all kinds of volumes
 and states; and those in crates/ubi_tool/data. For each it runs `geometry`, `check`, `list`, `show`, `extract`,
@@ -15,10 +15,16 @@ byte: the answer's length must be the same, its first bytes must be in the buffe
 any that is passed. For some images each allocation of each call is refused in turn: it has to answer that memory ran
 out, with nothing or only first bytes written. If an image is refused, Python has to raise the cause.
 
+For --plans images it looks at plans alone, around bad eraseblocks: those of members, of the table, of nothing and ones
+that the image doesn't have, with blank eraseblocks kept or not. The program gets them by --bad and --blank.
+
+Python has to raise TypeError for what are no sizes, and MemoryError where a copy of the image doesn't fit in memory.
+
 It also reads volumes of more than 2^31 and of more than 2^32 bytes, the former by Python, which takes 5 GB of memory.
 Then it runs c/examples/volumes.c and volumes.py on an image, which have to print and write the same as the program.
 
-By default there are 200 images of the seed 1, five with large eraseblocks, and five for which allocations are refused.
+By default there are 200 images of the seed 1, five with large eraseblocks, 500 for plans, and five for which allocations
+are refused.
 The library is the one that c/build.sh has put into c/out, or the one in the folder that --built names. With --asan
 c_caller.c is compiled with the checkers of addresses and of undefined behaviour, and linked with the archive. Without
 --tool the program is built first, unless it is built already. The last line is 'N passed, M failed', and the exit
@@ -54,6 +60,24 @@ FILLER = b"\xA5"
 CHECKERS = ("-fsanitize=address,undefined", "-fno-sanitize-recover=all", "-g")
 
 
+@dataclasses.dataclass
+class Spared:
+    """What a plan spares: bad eraseblocks, and blank ones or not."""
+
+    bad: tuple = ()
+    keeps_blank: bool = False
+
+    def words(self):
+        bad = ["--bad", ",".join(map(str, self.bad))] if self.bad else []
+        return bad + ["--blank", "keep"] * self.keeps_blank
+
+    def given(self):
+        return {"bad": self.bad, "keep_blank": self.keeps_blank}
+
+
+NOTHING_SPARED = Spared()
+
+
 def sizes_of(geometry):
     return (geometry.peb, geometry.page, geometry.vid, geometry.data, geometry.pebs)
 
@@ -68,10 +92,11 @@ class Caller:
         subprocess.run([*compiler, *sources, "-Wl,--wrap=malloc,--wrap=realloc"], check=True)
         self.running = subprocess.Popen([program], stdin=subprocess.PIPE, stdout=subprocess.PIPE)
 
-    def call(self, name, sizes, room, pages_room, paths, numbers, refused=0):
+    def call(self, name, sizes, room, pages_room, paths, numbers, spared, refused=0):
         """The status, the length, the bytes, whether nothing else was written, and the length of the pages and their
         bytes, of a call in which the allocation with the number REFUSED is refused."""
-        words = [name, room, pages_room, *sizes, *(list(paths) + ["-"])[:2], *(list(numbers) + [0, 0])[:2], refused]
+        words = [name, room, pages_room, *sizes, *(list(paths) + ["-"])[:2], *(list(numbers) + [0, 0])[:2]]
+        words += [",".join(map(str, spared.bad)) or "-", int(spared.keeps_blank), refused]
         self.running.stdin.write((" ".join(map(str, words)) + "\n").encode())
         self.running.stdin.flush()
         line = self.running.stdout.readline()
@@ -122,7 +147,7 @@ class Case:
         answer = written if out and ran.returncode == 0 else ran.stdout
         return ran.returncode, answer, programmed or b""
 
-    def look_c(self, name, sizes, paths, numbers, right):
+    def look_c(self, name, sizes, paths, numbers, right, spared=NOTHING_SPARED):
         """Makes a call of C with all sizes of room that matter: each has to give the right answer."""
         status, answer, pages = right
         if name == "normalise" and status == 0 and len(answer) > len(self.image) + 2 * self.geometry.peb:
@@ -131,20 +156,20 @@ class Case:
         some = (self.rng.randrange(most + 1), self.rng.randrange(most_pages + 1))
         less = (max(most - 1, 0), max(most_pages - 1, 0))
         for room, pages_room in ((most, most_pages), (most + 1, most_pages + 1), less, (0, 0), (1, 1), some):
-            given = self.caller.call(name, sizes, room, pages_room, paths, numbers)
+            given = self.caller.call(name, sizes, room, pages_room, paths, numbers, spared)
             if given != (status, most, answer[:room], True, most_pages, pages[:pages_room]):
-                raise Failure(f"ubi_{name} {sizes} {numbers} with room for {room} and {pages_room} gives "
+                raise Failure(f"ubi_{name} {sizes} {numbers} {spared} with room for {room} and {pages_room} gives "
                     f"{given[0]}, {given[1]}, {given[2][:80]!r}, {given[3:5]} "
                     f"and not {status}, {most}, {answer[:80]!r}, {most_pages}")
 
-    def look_refused(self, name, sizes, paths, numbers, right):
+    def look_refused(self, name, sizes, paths, numbers, right, spared):
         """Refuses each allocation of a call in turn: it has to answer that memory ran out, and to write nothing, or
         only first bytes if it fills the buffer as it goes. Returns how many allocations there are."""
         status, answer, pages = right
         call = f"ubi_{name} {sizes} {numbers}"
         room, pages_room = self.rng.choice(((len(answer), len(pages)), (max(len(answer) - 1, 0), 0), (0, 1)))
         for place in range(1, 10000):
-            given = self.caller.call(name, sizes, room, pages_room, paths, numbers, place)
+            given = self.caller.call(name, sizes, room, pages_room, paths, numbers, spared, place)
             if given[0] != ubi.NO_MEMORY:
                 break
             rest = given[2].rstrip(FILLER)
@@ -166,7 +191,8 @@ class Case:
             is_right = status == 2 and f"{limit}\n".encode() == answer and limit.cause.startswith("G")
         except ubi.Refused as refused:
             given = str(refused)
-            is_right = status == 1 and f"{refused}\n".encode() == answer
+            side = answer.partition(b"refused ")[0].decode().strip() or None
+            is_right = status == 1 and f"{refused}\n".encode() == answer and refused.side == side
             is_right = is_right and f"refused {refused.cause}\n".encode() in answer
         else:
             is_right = given == self.in_python(name, answer, pages)
@@ -193,13 +219,13 @@ class Case:
             return steps
         return answer.decode()
 
-    def look_call(self, name, words, paths, numbers, call, sizes=None, out=False, pages=False):
+    def look_call(self, name, words, paths, numbers, call, sizes=None, out=False, pages=False, spared=NOTHING_SPARED):
         """Compares the calls of both languages with the program."""
         sizes = sizes or sizes_of(self.geometry)
-        right = self.program(words, sizes, out, pages)
-        self.look_c(name, sizes, paths, numbers, right)
+        right = self.program(words + spared.words(), sizes, out, pages)
+        self.look_c(name, sizes, paths, numbers, right, spared)
         if self.is_starved:
-            self.refusals += self.look_refused(name, sizes, paths, numbers, right)
+            self.refusals += self.look_refused(name, sizes, paths, numbers, right, spared)
         self.look_python(name, right, lambda: call(ubi.Sizes(*sizes)))
         return right[0] == 0
 
@@ -234,7 +260,15 @@ class Case:
         except Refused:
             return None
 
-    def look_plans(self, path, meaning):
+    def spared(self):
+        """Some bad eraseblocks, and whether blank ones are kept: nothing, one, a few, or most."""
+        rng, blocks = self.rng, len(self.image) // self.geometry.peb
+        count = rng.choice((0, 1, 2, rng.randrange(blocks + 1)))
+        bad = [rng.randrange(blocks + 2) for _ in range(count)]
+        bad += rng.choice(((), (), (self.geometry.pebs,), (2**32 - 1,)))
+        return Spared(tuple(bad), rng.random() < 0.3)
+
+    def look_plans(self, path, meaning, spared=NOTHING_SPARED):
         """Compares a change and a rename, most of which can be planned."""
         rng, image, library = self.rng, self.image, self.library
         records = meaning.records if meaning else {}
@@ -248,14 +282,15 @@ class Case:
         data = self.put("new", new)
         words = ["change", path, "--id", str(number), "--lnum", str(lnum), "--from", data]
         self.look_call("change", words, [path, data], [number, lnum],
-            lambda sizes: library.change(sizes, image, number, lnum, new), pages=True)
+            lambda sizes: library.change(sizes, image, number, lnum, new, **spared.given()), pages=True, spared=spared)
         named = rng.choice(list(records)) if records and rng.random() < 0.9 else rng.choice((0, 2**32 - 1))
         is_random = rng.random() < 0.8
-        some = shown(rng.randbytes(rng.choice((1, 5, 127, 128)))) if is_random else None
-        word = some or rng.choice(("", "\\", "a b", "root", "\\x00"))
+        name = rng.randbytes(rng.choice((1, 5, 127, 128))) if is_random else None
+        word = shown(name) if name else rng.choice(("", "\\", "a b", "root", "\\x00"))
+        given = name if name and rng.random() < 0.5 else word
         words = ["rename", path, "--id", str(named), f"--name={word}"]
         self.look_call("rename", words, [path, self.put("name", word.encode())], [named],
-            lambda sizes: library.rename(sizes, image, named, word), pages=True)
+            lambda sizes: library.rename(sizes, image, named, given, **spared.given()), pages=True, spared=spared)
 
     def look(self):
         """Compares each call. Returns whether the image is accepted."""
@@ -290,6 +325,8 @@ class Case:
         change = ["change", path, "--id", "0", "--lnum", "0", "--from", second]
         self.look_call("change", change, [path, second], [0, 0],
             lambda sizes: library.change(sizes, image, 0, 0, other), sizes=wrong, pages=True)
+        self.look_call("rename", ["rename", path, "--id", "0", "--name", "a"], [path, self.put("name", b"a")], [0],
+            lambda sizes: library.rename(sizes, image, 0, "a"), sizes=wrong, pages=True)
         return accepted
 
 
@@ -303,6 +340,18 @@ def look_random(rng, tool, folder, caller, library, sizes, is_starved=False):
         image = image[:rng.randrange(len(image) + 1)]
     case = Case(rng, tool, folder, caller, library, maker.geometry, image, other, is_starved)
     return case.look(), case.refusals
+
+
+def look_spared(rng, tool, folder, caller, library):
+    """Compares plans for a random image with bad eraseblocks. Returns whether the image is accepted, and that no
+    allocation was refused."""
+    maker = Maker(rng, SIZES)
+    image = Mutator(rng, maker.geometry, (0, 0, 0, 1)).mutate(maker.blocks)
+    case = Case(rng, tool, folder, caller, library, maker.geometry, image, image)
+    path, meaning = case.put("image", image), case.meaning()
+    for _ in range(2):
+        case.look_plans(path, meaning, case.spared())
+    return meaning is not None, 0
 
 
 def look_data(rng, tool, folder, caller, library):
@@ -326,6 +375,59 @@ def look_far(tool, folder, library):
             raise Failure(f"ubi_read without room answers {status} and {size.value} of {length} bytes")
         if is_read and library.read(sizes, image, 0).count(b"\xFF") != length:
             raise Failure(f"Python reads other contents than {length} bytes 0xFF")
+
+
+def raised(call):
+    """The name of what a call raises."""
+    try:
+        call()
+    except Exception as error:
+        return type(error).__name__
+    return "nothing"
+
+
+def look_wrong(library):
+    """Gives each call something that isn't sizes, or numbers that aren't ones of 32 bits: it has to raise."""
+    image, sizes = bytes(1024), ubi.Sizes(512, 64, 64, 128, 8)
+    for wrong in (None, 0, image, ctypes.c_uint32(5), (512, 64, 64, 128, 8)):
+        for name, rest in (("check", ()), ("list", ()), ("show", (0,)), ("map", ()), ("read", (0,)), ("normalise", ()),
+                ("same", (image,)), ("diff", (image,)), ("change", (0, 0, image)), ("rename", (0, "a"))):
+            if raised(lambda: getattr(library, name)(wrong, image, *rest)) != "TypeError":
+                raise Failure(f"{name} of Python takes {wrong!r} for sizes")
+    for number in (-1, 2**32):
+        if raised(lambda: library.rename(sizes, image, 0, "a", bad=[number])) != "ValueError":
+            raise Failure(f"Python takes {number} for an eraseblock")
+    for data in (None, 5, "text"):
+        if raised(lambda: library.list(sizes, data)) != "TypeError":
+            raise Failure(f"Python takes {data!r} for an image")
+
+
+# Plans for a chip with a bad eraseblock where the copy of its image doesn't fit in memory.
+STARVED = """
+import mmap, resource, sys
+import ubi
+library = ubi.Library(sys.argv[1])
+with open(sys.argv[2], "rb") as file:
+    image = mmap.mmap(file.fileno(), 0, access=mmap.ACCESS_READ)
+with open("/proc/self/statm") as file:
+    used = int(file.read().split()[0]) * resource.getpagesize()
+resource.setrlimit(resource.RLIMIT_AS, (used + len(image) // 2, resource.RLIM_INFINITY))
+try:
+    library.rename(ubi.Sizes(131072, 2048, 2048, 4096), image, 0, "new", bad=[0])
+except MemoryError as error:
+    print("MemoryError", error)
+"""
+
+
+def look_starved(tool, folder, made):
+    """Lets memory end in a call of Python."""
+    text, path = Path(folder) / "wide.txt", Path(folder) / "wide.img"
+    text.write_text("volume 0 dynamic 512 1 00 wide\n")
+    subprocess.run([tool, "compose", text, "--out", path, "--spares", "510", *CHIP], check=True, capture_output=True)
+    words = [sys.executable, "-c", STARVED, f"{made}/libubi.so", path]
+    ran = subprocess.run(words, capture_output=True, env={**os.environ, "PYTHONPATH": str(ROOT / "c")})
+    if (ran.returncode, ran.stdout) != (0, b"MemoryError ubi_rename\n"):
+        raise Failure(f"Python without memory ends with {ran.returncode}, {ran.stdout!r}, {ran.stderr!r}")
 
 
 def look_examples(tool, folder, made, checkers):
@@ -367,7 +469,7 @@ def look_examples(tool, folder, made, checkers):
 
 def options():
     words = argparse.ArgumentParser(description=__doc__, formatter_class=argparse.RawDescriptionHelpFormatter)
-    for name, number in (("seed", 1), ("count", 200), ("large", 5), ("starved", 5), ("first", 0)):
+    for name, number in (("seed", 1), ("count", 200), ("large", 5), ("plans", 500), ("starved", 5), ("first", 0)):
         words.add_argument(f"--{name}", type=int, default=number)
     words.add_argument("--dir", default="/tmp")
     words.add_argument("--tool")
@@ -389,6 +491,7 @@ def main():
         answers, failed = run_cases(words, {
             "": (looking(SIZES), words.count),
             "large ": (looking(REAL_SIZES), words.large),
+            "plans ": (lambda rng, place: look_spared(rng, tool, place, caller, library), words.plans),
             "starved ": (looking(SIZES, True), words.starved),
         })
         accepted, refusals = (sum(answer[k] for answer in answers) for k in range(2))
@@ -396,6 +499,8 @@ def main():
         looks = {
             "the images of the repository": lambda: look_data(rng, tool, folder, caller, library),
             "contents beyond 2^32 bytes": lambda: look_far(tool, folder, library),
+            "what Python refuses": lambda: look_wrong(library),
+            "memory that ends under Python": lambda: look_starved(tool, folder, words.built),
             "the examples": lambda: look_examples(tool, folder, words.built, checkers),
             "the caller": caller.end,
         }

@@ -13,7 +13,7 @@ ghost use Rattle.ubi_commands.specs.declared.comparison.Comparison.TheVariants a
 ghost use Rattle.ubi_commands.specs.declared.format.Format.TheVariants as format;
 ghost use Rattle.ubi_calls.specs.Calls.{Fills, FillsBoth, Streams, Under, printed};
 ghost use Rattle.ubi_calls.specs.Contents.{Normal, ReadsContents};
-ghost use Rattle.ubi_calls.specs.Edits.{PlansChange, PlansRename};
+ghost use Rattle.ubi_calls.specs.Edits.{PlansChange, PlansRename, avoided, image_without};
 
 use std::alloc::Global;
 use ubi_calls::DeviceSizes;
@@ -142,12 +142,15 @@ pub extern "C" fn ubi_diff(
     ubi_calls::diff(alloc, sizes, left, right, out, len)
 }
 
-/// The plan of a change of a logical eraseblock: its lines, as `change` prints them, and the pages that its steps program.
+/// The plan of a change of a logical eraseblock on a chip with these bad eraseblocks: its lines, as `change` prints them, and the pages
+/// that its steps program. `keep_blank` is `--blank keep`.
 #[unsafe(no_mangle)]
 pub extern "C" fn ubi_change(
     alloc: Global,
     sizes: &DeviceSizes,
     image: &[u8],
+    bad: &[u32],
+    keep_blank: bool,
     id: u32,
     lnum: u32,
     new: &[u8],
@@ -156,19 +159,21 @@ pub extern "C" fn ubi_change(
     pages: &mut [u8],
     pages_len: &mut usize,
 ) -> u32
-    ensures { FillsBoth (λ programmed. Under sizes.now (λ s. PlansChange (image_of s image.now) id lnum new.now programmed)) out.old out.new len.new pages.old pages.new pages_len.new result }
+    ensures { FillsBoth (λ programmed. Under sizes.now (λ s. PlansChange (image_without s bad.now image.now) (avoided s bad.now keep_blank) id lnum new.now programmed)) out.old out.new len.new pages.old pages.new pages_len.new result }
 {
     ubi_calls::change(
-        alloc, sizes, image, id, lnum, new, out, len, pages, pages_len,
+        alloc, sizes, image, bad, keep_blank, id, lnum, new, out, len, pages, pages_len,
     )
 }
 
-/// The plan of a rename of a volume: its lines, as `rename` prints them, and the pages that its steps program.
+/// The plan of a rename of a volume, likewise.
 #[unsafe(no_mangle)]
 pub extern "C" fn ubi_rename(
     alloc: Global,
     sizes: &DeviceSizes,
     image: &[u8],
+    bad: &[u32],
+    keep_blank: bool,
     id: u32,
     name: &[u8],
     out: &mut [u8],
@@ -176,7 +181,9 @@ pub extern "C" fn ubi_rename(
     pages: &mut [u8],
     pages_len: &mut usize,
 ) -> u32
-    ensures { FillsBoth (λ programmed. Under sizes.now (λ s. PlansRename (image_of s image.now) id name.now programmed)) out.old out.new len.new pages.old pages.new pages_len.new result }
+    ensures { FillsBoth (λ programmed. Under sizes.now (λ s. PlansRename (image_without s bad.now image.now) (avoided s bad.now keep_blank) id name.now programmed)) out.old out.new len.new pages.old pages.new pages_len.new result }
 {
-    ubi_calls::rename(alloc, sizes, image, id, name, out, len, pages, pages_len)
+    ubi_calls::rename(
+        alloc, sizes, image, bad, keep_blank, id, name, out, len, pages, pages_len,
+    )
 }

@@ -1,5 +1,5 @@
 -- What is answered for edits over memory, and what is handed over of their plans.
-use Rattle.ubi_calls.proofs.Prelude.{[], Bool, List, Some, ap, arith, length, refl, subst, sym, take, true≢false, ℕ, ◌==◌, ◌∙◌, ◌≡◌, ◌≢◌, ne_eqb, take_all, IfOk-at_ok, IfOk-weaker, Err, IfOk, None, Ok, Option, Result, if◌then◌else◌, AllocError, Sizes, first_broken, GeometryError, Gives, says, geometry_line, image_of, Narrows, holds, memory, still, nothing, programmed, Step, Outcome, ToolError, ChangesFrom, RenamesFrom, FillsBoth, MayTell, Under, bad_limit, both, neither, named_sizes, DeviceSizes, PlansChange, PlansRename, HandsPlan, given_pages}
+use Rattle.ubi_calls.proofs.Prelude.{[], Bool, List, Some, ap, arith, length, refl, subst, sym, take, ℕ, ◌==◌, ◌∙◌, ◌≡◌, ◌≢◌, ne_eqb, take_all, IfOk-at_ok, IfOk-weaker, Err, IfOk, None, Ok, Option, Result, if◌then◌else◌, AllocError, Sizes, first_broken, GeometryError, Gives, says, geometry_line, image_of, Narrows, holds, memory, still, programmed, Step, Outcome, ToolError, ChangesFrom, RenamesFrom, FillsBoth, MayTell, Under, bad_limit, both, neither, named_sizes, DeviceSizes, PlansChange, PlansRename, HandsPlan, given_pages, ◌<◌, Avoided, IsNotBlank, ReadBlank, blocks_of, of_blocks}
 use Rattle.ubi_change.proofs.Unplanned as planning
 use Rattle.ubi_change.proofs.Unrenamed as renaming
 use Rattle.ubi_commands.specs.Change as change
@@ -17,43 +17,48 @@ given status pages steps zero are =
 none_given : (status : ℕ) (pages : List ℕ) → status ≢ 0 → given_pages status pages ≡ []
 none_given status pages bad = ap (λ (b : Bool). if b then pages else []) (ne_eqb status 0 bad)
 
+-- ---- plans over bytes in memory in which no listed eraseblock holds anything
 module _ (s : Sizes) (image start left pages : List ℕ) (same : start ≡ image) (narrows : Narrows (holds start) (holds left))
-    (old new : Option (List ℕ)) where
+    (old new : Option (List ℕ)) (av : Avoided) (blank : of_blocks ReadBlank (image_of s image) av) where
+  -- so none of them is a cause
+  none_listed : (p : ℕ) → of_blocks IsNotBlank (image_of s start) av p → ⊥
+  none_listed p h = h.1.1.0 (blank p (subst (λ (b : List ℕ). p < length (blocks_of s b)) same h.1.0) h.0)
+
   change_told : (id lnum : ℕ) (bytes : List ℕ) (o : Outcome)
-      → ChangesFrom nothing id lnum bytes None s (memory start) (holds left) pages old new o
-      → PlansChange (image_of s start) id lnum bytes (given_pages o.status pages) o.text.items o.status
+      → ChangesFrom av id lnum bytes None s (memory start) (holds left) pages old new o
+      → PlansChange (image_of s start) av id lnum bytes (given_pages o.status pages) o.text.items o.status
   change_told id lnum bytes o (change.planned_from steps plan said are wrote meant) =
       edits.change steps (plan.held start (still start left narrows)) said.text (given o.status pages steps said.status are) said.status
   change_told id lnum bytes o (change.unplanned_from c line cause is said kept) =
-      edits.no_change c (planning.error_in_memory s start start left refl narrows id lnum bytes _ c refl cause) (is ∙ ap Some (sym said.text)) said.status
+      edits.no_change c (planning.by_cause s start left narrows av id lnum bytes c cause) (is ∙ ap Some (sym said.text)) said.status
   change_told id lnum bytes o (change.not_blank_from p cause said kept) =
-      absurd (true≢false (sym (cause.1 start (still start left narrows)).0))
+      absurd (none_listed p (cause.1 start (still start left narrows)))
 
   rename_told : (id : ℕ) (word : List ℕ) (o : Outcome)
-      → RenamesFrom nothing id word None s (memory start) (holds left) pages old new o
-      → PlansRename (image_of s start) id word (given_pages o.status pages) o.text.items o.status
+      → RenamesFrom av id word None s (memory start) (holds left) pages old new o
+      → PlansRename (image_of s start) av id word (given_pages o.status pages) o.text.items o.status
   rename_told id word o (rename.planned_from name steps shown plan said are wrote of_name) =
       edits.rename name steps shown (plan.held start (still start left narrows)) said.text (given o.status pages steps said.status are) said.status
   rename_told id word o (rename.nameless_from shows said kept) = edits.no_name shows said.text said.status
   rename_told id word o (rename.unplanned_from name c line shown cause is said kept) =
-      edits.no_rename name c shown (renaming.error_in_memory s start start left refl narrows id name _ c refl cause) (is ∙ ap Some (sym said.text))
+      edits.no_rename name c shown (renaming.by_cause s start left narrows av id name c cause) (is ∙ ap Some (sym said.text))
       said.status
   rename_told id word o (rename.not_blank_from name p shown cause said kept) =
-      absurd (true≢false (sym (cause.1 start (still start left narrows)).0))
+      absurd (none_listed p (cause.1 start (still start left narrows)))
 
   module _ (work : Result Outcome ToolError) (r : Result Outcome AllocError) (done : IfOk r (λ o. work ≡ Ok o)) where
     pub change_planned : (id lnum : ℕ) (bytes : List ℕ)
-        → IfOk work (ChangesFrom nothing id lnum bytes None s (memory start) (holds left) pages old new)
-        → IfOk r (λ o. PlansChange (image_of s image) id lnum bytes (given_pages o.status pages) o.text.items o.status)
+        → IfOk work (ChangesFrom av id lnum bytes None s (memory start) (holds left) pages old new)
+        → IfOk r (λ o. PlansChange (image_of s image) av id lnum bytes (given_pages o.status pages) o.text.items o.status)
     change_planned id lnum bytes h =
-        IfOk-weaker r _ _ (λ o is. subst (λ (b : List ℕ). PlansChange (image_of s b) id lnum bytes (given_pages o.status pages) o.text.items o.status) same
+        IfOk-weaker r _ _ (λ o is. subst (λ (b : List ℕ). PlansChange (image_of s b) av id lnum bytes (given_pages o.status pages) o.text.items o.status) same
         (change_told id lnum bytes o (IfOk-at_ok _ is h))) done
 
     pub rename_planned : (id : ℕ) (word : List ℕ)
-        → IfOk work (RenamesFrom nothing id word None s (memory start) (holds left) pages old new)
-        → IfOk r (λ o. PlansRename (image_of s image) id word (given_pages o.status pages) o.text.items o.status)
+        → IfOk work (RenamesFrom av id word None s (memory start) (holds left) pages old new)
+        → IfOk r (λ o. PlansRename (image_of s image) av id word (given_pages o.status pages) o.text.items o.status)
     rename_planned id word h =
-        IfOk-weaker r _ _ (λ o is. subst (λ (b : List ℕ). PlansRename (image_of s b) id word (given_pages o.status pages) o.text.items o.status) same
+        IfOk-weaker r _ _ (λ o is. subst (λ (b : List ℕ). PlansRename (image_of s b) av id word (given_pages o.status pages) o.text.items o.status) same
         (rename_told id word o (IfOk-at_ok _ is h))) done
 
 -- what is told of a plan is handed over

@@ -1,5 +1,6 @@
 mod Edited
 mod FilledBuffers
+mod MaskedBlocks
 mod ToldOutcomes
 mod Wanted
 pub mod Prelude

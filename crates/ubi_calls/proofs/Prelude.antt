@@ -1,12 +1,13 @@
 -- The names that the proofs of this crate speak of, and where they come from.
-pub use Rattle.std.proofs.Common.{Bool, List, Some, [], ap, append-nil, ap₂, arith, drop, length, refl, subst, sym, take, true≢false, ℕ, ◌++◌, ◌+◌, ◌-◌, ◌==◌, ◌∙◌, ◌≡◌, ◌≢◌, ◌≤◌}
+pub use Rattle.std.proofs.Common.{Bool, List, Some, [], ap, append-nil, ap₂, arith, cond, drop, length, refl, subst, sym, take, true, ℕ, ◌*◌, ◌++◌, ◌+◌, ◌-◌, ◌/◌, ◌<◌, ◌==◌, ◌∙◌, ◌≡◌, ◌≢◌, ◌≤◌}
 pub use Rattle.std.proofs.lemmas.Bool.{ne_eqb}
-pub use Rattle.std.proofs.lemmas.List.{drop-drop, drop_all, length-take, take-append-drop, take_all}
+pub use Rattle.std.proofs.lemmas.List.{drop-drop, drop_all, get_or-drop, get_or-replicate, get_or-take, length-drop, length-replicate, length-take, length-take-le, same_lists, take-append-drop, take_all}
+pub use Rattle.std.proofs.lemmas.Nat.{div-mul-add}
 pub use Rattle.std.proofs.lemmas.Result.{IfOk-at_ok, IfOk-weaker}
 pub use Rattle.std.proofs.lemmas.Slice.{drop-put_mid}
 pub use Rattle.std.specs.Prelude.{Err, IfErr, IfOk, None, Ok, Option, Result, if◌then◌else◌}
 pub use Rattle.std.specs.declared.alloc.AllocError.{AllocError}
-pub use Rattle.ubi_change.specs.Avoided.{nothing}
+pub use Rattle.ubi_change.specs.Avoided.{Avoided, IsNotBlank, ReadBlank}
 pub use Rattle.ubi_change.specs.Pages.{programmed}
 pub use Rattle.ubi_change.specs.declared.step.Step.{Step}
 pub use Rattle.ubi_commands.proofs.Extracted.{has_text}
@@ -18,28 +19,36 @@ pub use Rattle.ubi_commands.specs.Rename.{RenamesFrom}
 pub use Rattle.ubi_commands.specs.declared.volume_key.VolumeKey.TheVariants.{Id}
 unfoldable pub use Rattle.ubi_compose.specs.Normal.{normal_bytes}
 pub use Rattle.ubi_compose.specs.Streamed.{IsNormalisedTo}
+pub use Rattle.ubi_files.proofs.MaskedBytes.{get_or-masked, length-masked, masked_none}
 pub use Rattle.ubi_files.specs.AfterRun.{after_run}
 pub use Rattle.ubi_files.specs.Answer.{Gives, says}
+pub use Rattle.ubi_files.specs.BadBlocks.{marks_by_number, masked}
 pub use Rattle.ubi_files.specs.Lines.{geometry_line}
 pub use Rattle.ubi_files.specs.Views.{whole_file}
 pub use Rattle.ubi_files.specs.declared.outcome.Outcome.{Outcome}
 pub use Rattle.ubi_files.specs.declared.outcome.ToolError.{ToolError}
-pub use Rattle.ubi_media.specs.Geometry.{Sizes}
+pub use Rattle.ubi_media.specs.Ec.{ec_reading}
+pub use Rattle.ubi_media.specs.Fields.{blank}
+pub use Rattle.ubi_media.specs.Geometry.{IsGeometry, Sizes}
 unfoldable pub use Rattle.ubi_media.specs.Limits.{first_broken}
 pub use Rattle.ubi_media.specs.declared.geometry.GeometryError.{GeometryError}
 pub use Rattle.ubi_scan.proofs.InMemory.{still}
-pub use Rattle.ubi_scan.specs.Image.{Image, image_of}
-pub use Rattle.ubi_scan.specs.Source.{Narrows, Source, WhereHeld, holds, memory}
+pub use Rattle.ubi_scan.proofs.Chunks.{length-first_chunks}
+pub use Rattle.ubi_scan.proofs.Parts.{blank_ec}
+pub use Rattle.ubi_scan.proofs.ReadParts.{part_of_block}
+pub use Rattle.ubi_scan.specs.Image.{Image, block, ec, image_of, of_blocks}
+pub use Rattle.ubi_scan.specs.Marks.{is_listed}
+pub use Rattle.ubi_scan.specs.Source.{Narrows, Source, WhereHeld, blocks_of, holds, memory}
 pub use Rattle.ubi_volume.proofs.OneMeaning.{Accepts-unique}
 pub use Rattle.ubi_volume.specs.Extract.{extent_len}
 pub use Rattle.ubi_volume.specs.Places.{ArePlaces, ArePlacesOf, Placed}
 pub use Rattle.ubi_volume.specs.Reading.{read_volume, volume_len}
 pub use Rattle.ubi_calls.specs.Calls.{Fills, FillsBoth, MayTell, Streams, Under, bad_limit, both, ended, filled, named_sizes, neither, no_memory, printed, put_into, uncounted, under}
 pub use Rattle.ubi_calls.specs.Contents.{Normal, ReadsContents, no_normal, normal, read, refused, unread}
-pub use Rattle.ubi_calls.specs.Edits.{PlansChange, PlansRename}
+pub use Rattle.ubi_calls.specs.Edits.{PlansChange, PlansRename, avoided, image_without}
 pub use Rattle.ubi_calls.specs.declared.numbers.DeviceSizes.{DeviceSizes}
 pub use Rattle.ubi_calls.specs.declared.streams.Content.{Content}
 pub use Rattle.ubi_calls.specs.inner.Asking.{answers}
-pub use Rattle.ubi_calls.specs.inner.Editing.{HandsPlan, edit_plan, given_pages}
+pub use Rattle.ubi_calls.specs.inner.Editing.{HandsPlan, edit_plan, given_pages, spared_plan}
 pub use Rattle.ubi_calls.specs.inner.Handing.{HandsOver, Leaves}
 pub use Rattle.ubi_calls.specs.inner.Streaming.{IsUnwritten, Writes, said, wanted, wrote}

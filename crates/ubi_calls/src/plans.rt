@@ -1,10 +1,11 @@
 //! The calls that plan an edit: the lines of its steps, and the pages that these program.
 
 ghost use Rattle.std.specs.Prelude.{◌≡◌, ◌≢◌, [], IfErr, IfOk, Ok};
-ghost use Rattle.ubi_scan.specs.Image.{image_of};
+ghost use Rattle.ubi_scan.specs.Image.{image_of, of_blocks};
+ghost use Rattle.ubi_change.specs.Avoided.{ReadBlank};
 ghost use Rattle.ubi_calls.specs.Calls.{FillsBoth, Under};
-ghost use Rattle.ubi_calls.specs.Edits.{PlansChange, PlansRename};
-ghost use Rattle.ubi_calls.specs.inner.Editing.{HandsPlan, given_pages, edit_plan};
+ghost use Rattle.ubi_calls.specs.Edits.{PlansChange, PlansRename, avoided, image_without};
+ghost use Rattle.ubi_calls.specs.inner.Editing.{HandsPlan, edit_plan, given_pages, spared_plan};
 
 use crate::answer::{NO_MEMORY, hand, limit_outcome, put_all};
 use crate::numbers::{DeviceSizes, geometry_of};
@@ -12,7 +13,7 @@ use std::alloc::{AllocError, Global};
 use std::io;
 use ubi_change::Avoided;
 use ubi_commands::{NewBytes, run_change_from, run_rename_from};
-use ubi_files::{DONE, Outcome, ToolError};
+use ubi_files::{DONE, Outcome, ToolError, marks_by_number, mask};
 use ubi_media::Geometry;
 use ubi_scan::MemorySource;
 
@@ -23,6 +24,15 @@ enum Edit<'a> {
     Change(NewBytes<'a>),
     /// The name that a word shows for the volume with this number.
     Rename(u32, &'a [u8]),
+}
+
+/// What a plan spares on a chip.
+#[derive(Clone, Copy)]
+struct Spared<'a> {
+    /// The numbers of the bad eraseblocks.
+    bad: &'a [u32],
+    /// Whether no Blank eraseblock may be touched.
+    keeps_blank: bool,
 }
 
 /// The outcome of work over memory that writes nowhere.
@@ -52,20 +62,21 @@ fn plan_change(
     alloc: Global,
     geometry: &Geometry,
     image: &[u8],
+    avoided: &Avoided<'_>,
     new: &NewBytes<'_>,
     pages: &mut Vec<u8>,
 ) -> Result<Outcome, AllocError>
-    requires { pages.old.items ≡ [] }
-    ensures { IfOk result (λ o. PlansChange (image_of geometry.now image.now) new.now.id new.now.lnum new.now.bytes.now (given_pages o.status pages.new.items) o.text.items o.status) }
+    requires empty { pages.old.items ≡ [] }
+    requires blank { of_blocks ReadBlank (image_of geometry.now image.now) avoided.now }
+    ensures { IfOk result (λ o. PlansChange (image_of geometry.now image.now) avoided.now new.now.id new.now.lnum new.now.bytes.now (given_pages o.status pages.new.items) o.text.items o.status) }
 {
     let mut source = MemorySource::new(image);
-    let nothing = Avoided::new(&[], false);
     let mut nowhere = io::sink();
     let work = run_change_from(
         alloc,
         geometry,
         &mut source,
-        &nothing,
+        avoided,
         new,
         None,
         &mut nowhere,
@@ -83,21 +94,22 @@ fn plan_rename(
     alloc: Global,
     geometry: &Geometry,
     image: &[u8],
+    avoided: &Avoided<'_>,
     id: u32,
     word: &[u8],
     pages: &mut Vec<u8>,
 ) -> Result<Outcome, AllocError>
-    requires { pages.old.items ≡ [] }
-    ensures { IfOk result (λ o. PlansRename (image_of geometry.now image.now) id word.now (given_pages o.status pages.new.items) o.text.items o.status) }
+    requires empty { pages.old.items ≡ [] }
+    requires blank { of_blocks ReadBlank (image_of geometry.now image.now) avoided.now }
+    ensures { IfOk result (λ o. PlansRename (image_of geometry.now image.now) avoided.now id word.now (given_pages o.status pages.new.items) o.text.items o.status) }
 {
     let mut source = MemorySource::new(image);
-    let nothing = Avoided::new(&[], false);
     let mut nowhere = io::sink();
     let work = run_rename_from(
         alloc,
         geometry,
         &mut source,
-        &nothing,
+        avoided,
         id,
         word,
         None,
@@ -136,7 +148,8 @@ fn hand_plan(
 }
 
 impl Edit<'_> {
-    /// Plans the edit: returns what is printed for it, and adds the pages that it programs.
+    /// Plans the edit of an image in which no listed eraseblock holds anything: returns what is printed for it, and adds the pages
+    /// that it programs.
     ///
     /// # Errors
     ///
@@ -146,15 +159,45 @@ impl Edit<'_> {
         alloc: Global,
         geometry: &Geometry,
         image: &[u8],
+        avoided: &Avoided<'_>,
+        pages: &mut Vec<u8>,
+    ) -> Result<Outcome, AllocError>
+        requires empty { pages.old.items ≡ [] }
+        requires blank { of_blocks ReadBlank (image_of geometry.now image.now) avoided.now }
+        ensures { IfOk result (λ o. edit_plan self.now (image_of geometry.now image.now) avoided.now (given_pages o.status pages.new.items) o.text.items o.status) }
+    {
+        match self {
+            Edit::Change(new) => plan_change(alloc, geometry, image, avoided, new, pages),
+            Edit::Rename(id, word) => {
+                plan_rename(alloc, geometry, image, avoided, *id, word, pages)
+            }
+        }
+    }
+
+    /// Plans the edit of an image on a chip: its bad eraseblocks read 0xFF, in a copy of the image if there are some.
+    ///
+    /// # Errors
+    ///
+    /// Memory ran out.
+    fn plan_sparing(
+        &self,
+        alloc: Global,
+        geometry: &Geometry,
+        image: &[u8],
+        spared: &Spared<'_>,
         pages: &mut Vec<u8>,
     ) -> Result<Outcome, AllocError>
         requires { pages.old.items ≡ [] }
-        ensures { IfOk result (λ o. edit_plan self.now (image_of geometry.now image.now) (given_pages o.status pages.new.items) o.text.items o.status) }
+        ensures { IfOk result (λ o. spared_plan self.now spared.now geometry.now image.now (given_pages o.status pages.new.items) o.text.items o.status) }
     {
-        match self {
-            Edit::Change(new) => plan_change(alloc, geometry, image, new, pages),
-            Edit::Rename(id, word) => plan_rename(alloc, geometry, image, *id, word, pages),
+        let marks = marks_by_number(alloc, geometry.pebs(), spared.bad)?;
+        let avoided = Avoided::new(marks.as_slice(), spared.keeps_blank);
+        if marks.is_empty() {
+            return self.plan(alloc, geometry, image, &avoided, pages);
         }
+        let mut seen = Vec::from_slice(alloc, image)?;
+        mask(seen.as_mut_slice(), geometry.peb_size(), marks.as_slice());
+        self.plan(alloc, geometry, seen.as_slice(), &avoided, pages)
     }
 
     /// Plans the edit under numbers.
@@ -167,13 +210,14 @@ impl Edit<'_> {
         alloc: Global,
         sizes: &DeviceSizes,
         image: &[u8],
+        spared: &Spared<'_>,
         pages: &mut Vec<u8>,
     ) -> Result<Outcome, AllocError>
         requires { pages.old.items ≡ [] }
-        ensures { IfOk result (λ o. Under sizes.now (λ s. edit_plan self.now (image_of s image.now) (given_pages o.status pages.new.items)) o.text.items o.status) }
+        ensures { IfOk result (λ o. Under sizes.now (λ s. spared_plan self.now spared.now s image.now (given_pages o.status pages.new.items)) o.text.items o.status) }
     {
         match geometry_of(sizes) {
-            Ok(geometry) => self.plan(alloc, &geometry, image, pages),
+            Ok(geometry) => self.plan_sparing(alloc, &geometry, image, spared, pages),
             Err(limit) => limit_outcome(alloc, limit),
         }
     }
@@ -184,25 +228,28 @@ impl Edit<'_> {
         alloc: Global,
         sizes: &DeviceSizes,
         image: &[u8],
+        spared: &Spared<'_>,
         out: &mut [u8],
         len: &mut usize,
         room: &mut [u8],
         pages_len: &mut usize,
     ) -> u32
-        ensures { FillsBoth (λ pages. Under sizes.now (λ s. edit_plan self.now (image_of s image.now) pages)) out.old out.new len.new room.old room.new pages_len.new result }
+        ensures { FillsBoth (λ pages. Under sizes.now (λ s. spared_plan self.now spared.now s image.now pages)) out.old out.new len.new room.old room.new pages_len.new result }
     {
         let mut pages = Vec::new(alloc);
-        let answer = self.plan_under(alloc, sizes, image, &mut pages);
+        let answer = self.plan_under(alloc, sizes, image, spared, &mut pages);
         hand_plan(answer, pages.as_slice(), out, len, room, pages_len)
     }
 }
 
-/// The plan of a change: its lines, as `change` prints them, and the pages that its steps program, in order; or the line of
-/// the refusal, and no pages.
+/// The plan of a change on a chip with these bad eraseblocks: its lines, as `change` prints them with `--bad`, and with `--blank keep` if
+/// `keeps_blank`; and the pages that its steps program, in order. Or the line of the refusal, and no pages.
 pub fn change(
     alloc: Global,
     sizes: &DeviceSizes,
     image: &[u8],
+    bad: &[u32],
+    keeps_blank: bool,
     id: u32,
     lnum: u32,
     new: &[u8],
@@ -211,22 +258,26 @@ pub fn change(
     pages: &mut [u8],
     pages_len: &mut usize,
 ) -> u32
-    ensures { FillsBoth (λ programmed. Under sizes.now (λ s. PlansChange (image_of s image.now) id lnum new.now programmed)) out.old out.new len.new pages.old pages.new pages_len.new result }
+    ensures { FillsBoth (λ programmed. Under sizes.now (λ s. PlansChange (image_without s bad.now image.now) (avoided s bad.now keeps_blank) id lnum new.now programmed)) out.old out.new len.new pages.old pages.new pages_len.new result }
 {
     let edit = Edit::Change(NewBytes {
         id,
         lnum,
         bytes: new,
     });
-    edit.tell(alloc, sizes, image, out, len, pages, pages_len)
+    let spared = Spared { bad, keeps_blank };
+    edit.tell(alloc, sizes, image, &spared, out, len, pages, pages_len)
 }
 
-/// The plan of a rename to the name that a word shows: its lines, as `rename` prints them, and the pages that its steps program,
-/// in order; or the line of the refusal, and no pages.
+/// The plan of a rename on a chip with these bad eraseblocks, to the name that a word shows: its lines, as `rename` prints them with
+/// `--bad`, and with `--blank keep` if `keeps_blank`; and the pages that its steps program, in order. Or the line of the refusal, and no
+/// pages.
 pub fn rename(
     alloc: Global,
     sizes: &DeviceSizes,
     image: &[u8],
+    bad: &[u32],
+    keeps_blank: bool,
     id: u32,
     word: &[u8],
     out: &mut [u8],
@@ -234,7 +285,8 @@ pub fn rename(
     pages: &mut [u8],
     pages_len: &mut usize,
 ) -> u32
-    ensures { FillsBoth (λ programmed. Under sizes.now (λ s. PlansRename (image_of s image.now) id word.now programmed)) out.old out.new len.new pages.old pages.new pages_len.new result }
+    ensures { FillsBoth (λ programmed. Under sizes.now (λ s. PlansRename (image_without s bad.now image.now) (avoided s bad.now keeps_blank) id word.now programmed)) out.old out.new len.new pages.old pages.new pages_len.new result }
 {
-    Edit::Rename(id, word).tell(alloc, sizes, image, out, len, pages, pages_len)
+    let spared = Spared { bad, keeps_blank };
+    Edit::Rename(id, word).tell(alloc, sizes, image, &spared, out, len, pages, pages_len)
 }

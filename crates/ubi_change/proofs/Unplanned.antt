@@ -96,13 +96,14 @@ error_read s k agrees av id lnum new (stream.Write written) h = absurd h
 error_read s k agrees av id lnum new stream.Memory h = tt
 
 -- why the change of bytes in memory isn't planned
-module _ (s : Sizes) (image left : List ℕ) (narrows : Narrows (holds image) (holds left)) (id lnum : ℕ) (new : List ℕ) where
-  stands : (c : ChangeRefusal) → IsWholeSize s (length image) × WhereHeld (holds left) (λ bytes. of_blocks ReadBlank (image_of s bytes) nothing × IsChangeRefusalAvoiding (image_of s bytes) nothing id lnum new c)
-      → IsChangeRefusal (image_of s image) id lnum new c
-  stands c h = refusal_nothing (image_of s image) id lnum new c (h.1 image (still image left narrows)).1
+module _ (s : Sizes) (image left : List ℕ) (narrows : Narrows (holds image) (holds left)) (av : Avoided) (id lnum : ℕ) (new : List ℕ) where
+  stands : (c : ChangeRefusal)
+      → IsWholeSize s (length image) × WhereHeld (holds left) (λ bytes. of_blocks ReadBlank (image_of s bytes) av × IsChangeRefusalAvoiding (image_of s bytes) av id lnum new c)
+      → IsChangeRefusalAvoiding (image_of s image) av id lnum new c
+  stands c h = (h.1 image (still image left narrows)).1
 
-  by_cause : (c : ChangeRefusal) → IsChangeError s (memory image) (holds left) nothing id lnum new (error.Refused c)
-      → IsChangeRefusal (image_of s image) id lnum new c
+  pub by_cause : (c : ChangeRefusal) → IsChangeError s (memory image) (holds left) av id lnum new (error.Refused c)
+      → IsChangeRefusalAvoiding (image_of s image) av id lnum new c
   by_cause refusal.Memory h = tt
   by_cause (refusal.Attach x) h = refused_in_memory s image left x narrows h
   by_cause refusal.NoVolume h = stands refusal.NoVolume h
@@ -119,4 +120,5 @@ pub error_in_memory : (s : Sizes) (bytes old left : List ℕ) → old ≡ bytes 
     → IsChangeError s (memory old) (holds left) nothing id lnum new e → IsChangeRefusal (image_of s bytes) id lnum new c
 error_in_memory s bytes old left same narrows id lnum new e c is h =
     subst (λ (b : List ℕ). IsChangeRefusal (image_of s b) id lnum new c) same
-    (by_cause s old left narrows id lnum new c (subst (IsChangeError s (memory old) (holds left) nothing id lnum new) is h))
+    (refusal_nothing (image_of s old) id lnum new c
+    (by_cause s old left narrows nothing id lnum new c (subst (IsChangeError s (memory old) (holds left) nothing id lnum new) is h)))

@@ -109,13 +109,14 @@ error_read s k agrees av id name (stream.Write written) h = absurd h
 error_read s k agrees av id name stream.Memory h = tt
 
 -- why the rename of bytes in memory isn't planned
-module _ (s : Sizes) (image left : List ℕ) (narrows : Narrows (holds image) (holds left)) (id : ℕ) (name : List ℕ) where
-  stands : (c : RenameRefusal) → IsWholeSize s (length image) × WhereHeld (holds left) (λ bytes. of_blocks ReadBlank (image_of s bytes) nothing × IsRenameRefusalAvoiding (image_of s bytes) nothing id name c)
-      → IsRenameRefusal (image_of s image) id name c
-  stands c h = rename_refusal_nothing (image_of s image) id name c (h.1 image (still image left narrows)).1
+module _ (s : Sizes) (image left : List ℕ) (narrows : Narrows (holds image) (holds left)) (av : Avoided) (id : ℕ) (name : List ℕ) where
+  stands : (c : RenameRefusal)
+      → IsWholeSize s (length image) × WhereHeld (holds left) (λ bytes. of_blocks ReadBlank (image_of s bytes) av × IsRenameRefusalAvoiding (image_of s bytes) av id name c)
+      → IsRenameRefusalAvoiding (image_of s image) av id name c
+  stands c h = (h.1 image (still image left narrows)).1
 
-  by_cause : (c : RenameRefusal) → IsRenameError s (memory image) (holds left) nothing id name (error.Refused c)
-      → IsRenameRefusal (image_of s image) id name c
+  pub by_cause : (c : RenameRefusal) → IsRenameError s (memory image) (holds left) av id name (error.Refused c)
+      → IsRenameRefusalAvoiding (image_of s image) av id name c
   by_cause refusal.Memory h = tt
   by_cause (refusal.Attach x) h = refused_in_memory s image left x narrows h
   by_cause refusal.NoVolume h = stands refusal.NoVolume h
@@ -131,4 +132,5 @@ pub error_in_memory : (s : Sizes) (bytes old left : List ℕ) → old ≡ bytes 
     → IsRenameError s (memory old) (holds left) nothing id name e → IsRenameRefusal (image_of s bytes) id name c
 error_in_memory s bytes old left same narrows id name e c is h =
     subst (λ (b : List ℕ). IsRenameRefusal (image_of s b) id name c) same
-    (by_cause s old left narrows id name c (subst (IsRenameError s (memory old) (holds left) nothing id name) is h))
+    (rename_refusal_nothing (image_of s old) id name c
+    (by_cause s old left narrows nothing id name c (subst (IsRenameError s (memory old) (holds left) nothing id name) is h)))

@@ -1,18 +1,25 @@
 -- What is answered for an edit, and handed over of its plan.
 use Rattle.std.specs.Prelude.{◌≡◌, ◌==◌, ℕ, List, [], Result, Ok, Err, if◌then◌else◌, length}
 use Rattle.std.specs.declared.alloc.AllocError.{AllocError}
+use Rattle.ubi_media.specs.Geometry.{Sizes}
 use Rattle.ubi_scan.specs.Image.{Image}
+use Rattle.ubi_change.specs.Avoided.{Avoided}
 use Rattle.ubi_files.specs.declared.outcome.Outcome.{Outcome}
 use Rattle.ubi_calls.specs.Calls.{MayTell, put_into}
-use Rattle.ubi_calls.specs.Edits.{PlansChange, PlansRename}
+use Rattle.ubi_calls.specs.Edits.{PlansChange, PlansRename, avoided, image_without}
 use Rattle.ubi_calls.specs.inner.Handing.{Leaves, LeavesNothing}
 use Rattle.ubi_calls.specs.declared.plans.Edit.{Edit}
 use Rattle.ubi_calls.specs.declared.plans.Edit.TheVariants as edit
+use Rattle.ubi_calls.specs.declared.plans.Spared.{Spared}
 
--- what is answered for an edit, with its pages
-abbrev pub edit_plan : Edit → Image → List ℕ → MayTell
-edit_plan (edit.Change new) image = PlansChange image new.id new.lnum new.bytes.now
-edit_plan (edit.Rename id word) image = PlansRename image id word.now
+-- what is answered for an edit by a plan that avoids something, with its pages
+abbrev pub edit_plan : Edit → Image → Avoided → List ℕ → MayTell
+edit_plan (edit.Change new) image av = PlansChange image av new.id new.lnum new.bytes.now
+edit_plan (edit.Rename id word) image av = PlansRename image av id word.now
+
+-- the same for bytes on a chip, some of whose eraseblocks are spared
+abbrev pub spared_plan : Edit → Spared → Sizes → List ℕ → List ℕ → MayTell
+spared_plan e spared s bytes = edit_plan e (image_without s spared.bad.now bytes) (avoided s spared.bad.now spared.keeps_blank)
 
 -- the pages of a plan, of which there are none if the status isn't 0
 abbrev pub given_pages : ℕ → List ℕ → List ℕ

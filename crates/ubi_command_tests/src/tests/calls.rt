@@ -2,7 +2,9 @@
 //!
 //! The script check/second/c_calls.py makes them from C and Python, over random images.
 
+use super::answers::run_over;
 use super::contents::{Contents, EMPTY};
+use super::fake::Broken;
 use super::geometry::SMALL;
 use super::rename::LINES;
 use super::shown::{CHANGED, ROOT_CHECKED, ROOT_LISTED, ROOT_SHOWN};
@@ -254,8 +256,13 @@ fn fills_buffers_of_any_room(rt: HostRuntime) -> Result<(), Fail> {
     Ok(())
 }
 
-/// What is answered of a rename of `root`, or of a change of a page of its logical eraseblock 1: the status, the lines, and the pages.
-fn planned(alloc: Global, name: Option<&[u8]>) -> Result<(u32, Vec<u8>, Vec<u8>), Fail> {
+/// What is answered of a rename of `root`, or of a change of a page of its logical eraseblock 1, on a chip with bad eraseblocks: the
+/// status, the lines, and the pages.
+fn planned(
+    alloc: Global,
+    name: Option<&[u8]>,
+    (bad, keeps_blank): (&[u32], bool),
+) -> Result<(u32, Vec<u8>, Vec<u8>), Fail> {
     let (sizes, image) = (sizes(64), Contents::Spares.bytes(alloc)?);
     let (mut out, mut pages) = (
         Vec::from_elem(alloc, FILLER, 512)?,
@@ -268,6 +275,8 @@ fn planned(alloc: Global, name: Option<&[u8]>) -> Result<(u32, Vec<u8>, Vec<u8>)
             alloc,
             &sizes,
             image,
+            bad,
+            keeps_blank,
             0,
             name,
             lines,
@@ -279,6 +288,8 @@ fn planned(alloc: Global, name: Option<&[u8]>) -> Result<(u32, Vec<u8>, Vec<u8>)
             alloc,
             &sizes,
             image,
+            bad,
+            keeps_blank,
             0,
             1,
             &[0x61; 64],
@@ -293,19 +304,61 @@ fn planned(alloc: Global, name: Option<&[u8]>) -> Result<(u32, Vec<u8>, Vec<u8>)
     Ok((status, out, pages))
 }
 
+/// No eraseblock is bad, and Blank ones may be taken.
+const ALL_GOOD: (&[u32], bool) = (&[], false);
+
 #[test]
 fn plans_with_pages(rt: HostRuntime) -> Result<(), Fail> {
     let alloc = rt.alloc();
     let mut want = Vec::from_slice(alloc, &COPY_OF_64)?;
     want.extend_from_slice(&[0x61; 64])?;
     want.extend_from_slice(&ERASED_EC)?;
-    let (status, lines, pages) = planned(alloc, None)?;
+    let (status, lines, pages) = planned(alloc, None, ALL_GOOD)?;
     assert!(rt; status == 0 && lines.as_slice() == CHANGED.as_bytes() && pages == want);
-    let (status, lines, pages) = planned(alloc, Some(b"data"))?;
+    let (status, lines, pages) = planned(alloc, Some(b"data"), ALL_GOOD)?;
     assert!(rt; status == 0 && lines.as_slice() == LINES.as_bytes() && pages.len() == 16 * 64);
-    let (status, lines, pages) = planned(alloc, Some(b"\\"))?;
+    let (status, lines, pages) = planned(alloc, Some(b"\\"), ALL_GOOD)?;
     assert!(rt;
         status == 1 && lines.as_slice() == "refused N1 BadName\n".as_bytes() && pages.is_empty()
     );
+    Ok(())
+}
+
+/// Bad eraseblocks, by their numbers and as a word: ones that hold nothing, the members, the table's, one twice, and none that the image or
+/// the device has.
+static BAD: [(&[u32], &str); 9] = [
+    (&[], ""),
+    (&[5], "5"),
+    (&[5, 6], "5-6"),
+    (&[6, 5, 6], "5-6"),
+    (&[0], "0"),
+    (&[1, 3], "1,3"),
+    (&[0, 1, 2, 3, 4, 5, 6], "0-6"),
+    (&[7, 31, 32], "7,31,32"),
+    (&[u32::MAX], "4294967295"),
+];
+
+/// A call plans what the command does with `--bad` and `--blank keep`.
+#[test]
+fn plans_around_bad_eraseblocks(rt: HostRuntime) -> Result<(), Fail> {
+    let alloc = rt.alloc();
+    let image = Contents::Spares.bytes(alloc)?;
+    let files = (image.as_slice(), [0x61; 64].as_slice());
+    for (numbers, word) in &BAD {
+        for (keeps, blank) in [(false, ""), (true, " --blank keep")] {
+            for (name, line) in [
+                (None, "change a.img --id 0 --lnum 1 --from new.bin"),
+                (Some(b"data".as_slice()), "rename a.img --id 0 --name data"),
+            ] {
+                let line = format!(in alloc; "{line} --out b.img --bad={word}{blank}")?;
+                let (want, _) = run_over(alloc, files, Broken::Nothing, line.as_str())?;
+                let (status, lines, _) = planned(alloc, name, (numbers, keeps))?;
+                assert!(rt;
+                    status == u32::from(want.status) && lines.as_slice() == want.text.as_slice(),
+                    "of {line}"
+                );
+            }
+        }
+    }
     Ok(())
 }
