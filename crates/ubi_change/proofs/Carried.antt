@@ -27,6 +27,9 @@ rebuilt s (step.Program p page bytes ∷ xs) (also here rest) =
     ∙ ap (with_pages s.page (map line_of xs)) (drop-append_seam bytes (programmed xs))
     ∙ rebuilt s xs rest)
 
+pub rebuilt_within : (s : Sizes) (n : ℕ) (steps : List Step) → AllWithin s n steps → with_pages s.page (map line_of steps) (programmed steps) ≡ steps
+rebuilt_within s n steps within = rebuilt s steps (paged s n steps within)
+
 pub pages_carry : PagesCarry
 pages_carry s bs n steps k within =
     ap (λ xs. blocks_after s bs xs k) (rebuilt s (take k steps) (paged_take s k steps (paged s n steps within)))

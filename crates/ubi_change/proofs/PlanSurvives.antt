@@ -1,5 +1,5 @@
--- The law: the plan of an attached image, with no cause against it, survives every cut.
-use Rattle.ubi_change.proofs.Prelude.{◌≡◌, ◌≢◌, ◌*◌, ◌/◌, ◌<◌, ◌⊎◌, ◌∷◌, [], List, ap, arith, get_or, get_or-set_other, get_or-set_same, inl, inr, length, length-set, refl, subst, suc, sym, take, true, zero, ◌∙◌, ℕ, concat, cases_eq, set, first_chunks, div-mul-add, eqb-true, ltb-true, IsGeometry, Sizes, below_same_or_above, Image, IsWholeImage, block, eraseblocks, of_blocks, first_chunks-concat, length-concat, length-first_chunks, length-blank, AcceptsBlocks, AttachValue, changed, turn, AllFit, fits, only_clears, page_of, PlanSurvives, left, plan_of, blocks_after, block_after, step_done, target, Step}
+-- The law: the plan of an attached image, with no cause against it, survives every cut, and touches nothing that is avoided.
+use Rattle.ubi_change.proofs.Prelude.{◌≡◌, ◌≢◌, ◌*◌, ◌/◌, ◌<◌, ◌⊎◌, ◌∷◌, [], List, ap, arith, get_or, get_or-set_other, get_or-set_same, inl, inr, length, length-set, refl, subst, suc, sym, take, true, zero, ◌∙◌, ℕ, concat, cases_eq, set, first_chunks, div-mul-add, eqb-true, ltb-true, IsGeometry, Sizes, below_same_or_above, Image, IsWholeImage, block, eraseblocks, of_blocks, first_chunks-concat, length-concat, length-first_chunks, length-blank, AcceptsBlocks, AttachValue, avoiding, changed, turn, AllFit, fits, only_clears, page_of, PlanSurvives, left, plan_of, blocks_after, block_after, step_done, target, Step}
 use Rattle.std.proofs.Common.{◌==◌, ◌&&◌, nat_lt}
 use Rattle.std.specs.Prelude.{if◌then◌else◌}
 use Rattle.std.proofs.Math.Nat as nat
@@ -9,7 +9,8 @@ use Rattle.ubi_change.proofs.AttachedImage.{whole}
 use Rattle.ubi_change.proofs.PlanFits.{length-done, plan_fits}
 use Rattle.ubi_change.proofs.Premises.{left_of, right_of}
 use Rattle.ubi_change.proofs.Stepped.{length-written}
-use Rattle.ubi_change.proofs.PlanPremises.{IsShown, shown}
+use Rattle.ubi_change.proofs.AvoidedKept.{plan_avoids}
+use Rattle.ubi_change.proofs.PlanPremises.{IsShown, shown_avoiding}
 use Rattle.ubi_change.proofs.Attached.{Changing}
 
 -- ---- the same, of bytes
@@ -133,8 +134,9 @@ module _ (image : Image) (g : IsGeometry image.sizes) (a : AttachValue) (att : I
       ap (λ n. first_chunks size n (concat cs)) count ∙ first_chunks-concat size cs sized
 
 pub plan_survives_law : PlanSurvives
-plan_survives_law image a id lnum new v g of_image there allowed =
-    let att = shown image a of_image in
+plan_survives_law image av from id lnum new v g of_image blank there allowed =
+    let a = avoiding av from in
+    let att = shown_avoiding image av from of_image in
     let change : Changing = record {
       image = image;
       g = g;
@@ -149,12 +151,13 @@ plan_survives_law image a id lnum new v g of_image there allowed =
     } in
     let steps = of_blocks plan_of image a v.entry id lnum new in
     let cuts = survives_all change in (
+      plan_avoids image av from of_image blank g id lnum new v there allowed,
       cuts,
       λ bytes.
           let fit : of_blocks AllFit image steps = plan_fits change bytes in
           λ k few. record {
             whole = left_whole image g a att steps fit k;
-            accepted = subst (λ bs. AcceptsBlocks image.sizes bs (if nat_lt k (turn image.sizes steps new) then a.meaning
-                else changed a.meaning id lnum new)) (sym (left_cut image g a att steps fit k)) (cuts.each k few);
+            accepted = subst (λ bs. AcceptsBlocks image.sizes bs (if nat_lt k (turn image.sizes steps new) then from.meaning
+                else changed from.meaning id lnum new)) (sym (left_cut image g a att steps fit k)) (cuts.each k few);
           },
     )

@@ -6,7 +6,8 @@ use Rattle.ubi_change.specs.Laws.{PlanSurvives}
 
 -- of accepted images of one geometry, two mean the same exactly if their normalised images are equal byte for byte;
 -- normalising keeps the meaning and twice is once; an image has at most one meaning; it is refused exactly where a stated
--- fault stands, which is one cause; and an atomic change cut after any whole step means the old or the new
+-- fault stands, which is one cause, with its eraseblock if one is at fault; and an atomic change cut after any whole step means
+-- the old or the new, and touches nothing that it avoids, such as bad eraseblocks
 pub record Headline : Type 0 where
   pub one_meaning : OneMeaning
   pub normalising : Normalising

@@ -8,7 +8,8 @@ ghost use Rattle.ubi_commands.specs.PageLaws.{LeastTold};
 
 /// Of accepted images of one geometry, two mean the same exactly if their normalised images are equal byte for byte;
 /// normalising keeps the meaning and twice is once; an image has at most one meaning; it is refused exactly where a stated
-/// fault stands; and an atomic change cut after any whole step means the old or the new.
+/// fault stands, with its cause and its eraseblock, if one is at fault, named; and an atomic change cut after any whole step
+/// means the old or the new, and touches no bad eraseblock.
 pub fn headline()
     ensures { Headline }
 {}

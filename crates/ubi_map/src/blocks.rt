@@ -6,7 +6,7 @@ ghost use Rattle.ubi_map.specs.Letters.{header_letters};
 ghost use Rattle.ubi_map.specs.Map.{block_texts};
 ghost use Rattle.ubi_scan.specs.Image.{block};
 ghost use Rattle.ubi_scan.specs.Source.{Narrows, WhereHeld, blocks_in, blocks_of};
-ghost use Rattle.ubi_scan.specs.Stream.{after};
+ghost use Rattle.ubi_scan.specs.Stream.{NamesBlock, after};
 ghost use Rattle.ubi_volume.specs.Places.{IsReadFailure};
 
 use crate::headers::header_text;
@@ -32,6 +32,7 @@ pub fn block_text<S: BlockSource>(
     ensures form { IfOk result (λ text. AreHeaderLines geometry.now (string_bytes text)) }
     ensures lines { IfOk result (λ text. WhereHeld (S.agrees source.new) (λ bytes. string_bytes text ≡ block_lines geometry.now (block (blocks_of geometry.now bytes) p))) }
     ensures failed { IfErr result (IsReadFailure (blocks_in geometry.now (S.known source.old))) }
+    ensures named { IfErr result (NamesBlock geometry.now (S.failed_at source.new)) }
 {
     let (mut ec, mut vid) = ([0u8; 64], [0u8; 64]);
     prove!(geometry.peb_size() >= 64);
@@ -57,6 +58,7 @@ pub fn block_texts<S: BlockSource>(
     ensures narrows { Narrows (S.agrees source.old) (S.agrees source.new) }
     ensures blocks { IfOk result (λ texts. WhereHeld (S.agrees source.new) (λ bytes. map string_bytes texts.items ≡ block_texts geometry.now (blocks_of geometry.now bytes) count)) }
     ensures failed { IfErr result (IsReadFailure (blocks_in geometry.now (S.known source.old))) }
+    ensures named { IfErr result (NamesBlock geometry.now (S.failed_at source.new)) }
 {
     let mut texts = Vec::new(alloc);
     for p in 0..count {
@@ -85,6 +87,7 @@ pub fn header_letters<S: BlockSource>(
     ensures narrows { Narrows (S.agrees source.old) (S.agrees source.new) }
     ensures letters { IfOk result (λ letters. WhereHeld (S.agrees source.new) (λ bytes. string_bytes letters ≡ header_letters geometry.now (blocks_of geometry.now bytes) count)) }
     ensures failed { IfErr result (IsReadFailure (blocks_in geometry.now (S.known source.old))) }
+    ensures named { IfErr result (NamesBlock geometry.now (S.failed_at source.new)) }
 {
     let mut buffer = Vec::from_elem(alloc, 0u8, geometry.peb_size() as usize)?;
     let buffer = buffer.as_mut_slice();
