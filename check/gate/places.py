@@ -7,7 +7,9 @@ No clause can say from the outside that memory ran out, or that a read or a writ
 some size meets each contract. So this script looks at the source. A failure may be made in three ways: by `impl
 From<AllocError>`, which `?` uses on an allocation; from a failure of the same kind, in an arm of a `match`; and at one
 of the places in check/gate/places.txt, each of which is a call that reads or writes, or an arm with its reason there. A
-file of the system may be opened only at the places in there, too.
+file of the system may be opened, made, changed or removed only at the places in there, too. So are the calls that make
+the lines for a file that can't be read or written, and those that reserve memory by its size: one that reserves more
+than is needed meets each contract, and runs out of memory.
 
 A line of check/gate/places.txt is a file below crates/, a colon, and the text of a line of it, as often as it is found
 there.
@@ -25,7 +27,7 @@ from pathlib import Path
 ROOT = Path(__file__).resolve().parents[2]
 CRATES = (
     'ubi_words', 'ubi_media', 'ubi_config', 'ubi_scan', 'ubi_detect', 'ubi_files', 'ubi_table', 'ubi_volume',
-    'ubi_laid', 'ubi_change', 'ubi_compose', 'ubi_compare', 'ubi_json', 'ubi_map', 'ubi_commands', 'ubi_calls',
+    'ubi_laid', 'ubi_change', 'ubi_compose', 'ubi_compare', 'ubi_json', 'ubi_map', 'ubi_commands', 'ubi_calls', 'ubi_c',
     'ubi_tool',
 )
 LISTED = Path(__file__).resolve().with_name('places.txt')
@@ -33,14 +35,18 @@ LISTED = Path(__file__).resolve().with_name('places.txt')
 BY_HAND = ('crates/ubi_scan/proofs/trace/Trace/new/Proof.antt', 'crates/ubi_scan/proofs/trace/Trace/note/Proof.antt')
 # What a failure of each kind is called.
 KINDS = {
-    'memory': re.compile(r'\b\w+::(Memory|OutOfMemory)\b|\b(AllocError|NO_MEMORY)\b'),
+    'memory': re.compile(r'\b\w+::(Memory|OutOfMemory)\b|\b(AllocError|NO_MEMORY)\b|^(return )?3;?$'),
     'read': re.compile(r'\b\w+::(Read|Left|Right)\b'),
     'write': re.compile(r'\b\w+::Write\b'),
 }
-# What opens, makes or removes a file.
+# What opens, makes, changes or removes a file.
 OPENS = re.compile(
-    r'\bFile::\w+\(|\bfs::(open|write|copy|rename|create\w*|remove\w*)\('
-    r'|\bOpenOptions\b|\.(open_file|create_dir)\(')
+    r'\bFile::\w+\(|\bfs::(open|write|copy|rename|create\w*|remove\w*)\(|\bOpenOptions\b'
+    r'|\.(open_file|create_dir\w*|remove_\w+|rename|copy|set_permissions|set_len|hard_link|symlink)\(')
+# What makes the line of a file that fails, and what ends a file before its end.
+ANSWERS = re.compile(r'\b(unread_line|unwritten_line|unread_file)\(|\bOk\(0\)')
+# What reserves memory by its size.
+RESERVES = re.compile(r'\b(from_elem|with_capacity|reserve\w*)\(')
 # Lines that make nothing: those of types, contracts and imports.
 MAKES_NOTHING = re.compile(
     r'^(pub(\(crate\))? )?(use|fn|struct|enum|impl|trait|type|ghost|requires|ensures)\b'
@@ -78,7 +84,8 @@ def places():
     for crate in CRATES:
         for path in sorted((ROOT / 'crates' / crate / 'src').rglob('*.rt')):
             for text, from_memory in statements(path):
-                if OPENS.search(text) or makes_failure(text, from_memory):
+                looked_for = OPENS.search(text) or ANSWERS.search(text) or RESERVES.search(text)
+                if looked_for or makes_failure(text, from_memory):
                     found[f'{path.relative_to(ROOT / "crates")}: {text}'] += 1
     return found
 

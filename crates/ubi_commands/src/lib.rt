@@ -52,7 +52,7 @@ pub use lines::blocks_line;
 pub use list::run_list;
 pub use map::run_map;
 pub use normalise::run_normalise;
-pub use print::report;
+pub use print::{report, report_aside, writes_output};
 pub use readers::Reading;
 pub use rename::{run_rename, run_rename_from};
 pub use show::run_show;

@@ -7,15 +7,36 @@ ghost use Rattle.ubi_commands.specs.Printed.{IsReported, printed_text, status_of
 
 use std::alloc::AllocError;
 use std::io::Write;
-use ubi_files::{FAILED, Outcome};
+use std::str;
+use ubi_files::{FAILED, Outcome, STREAM};
 use ubi_volume::write_all;
 
 /// An error: the text wasn't printed whole.
 #[derive(Clone, Copy, Debug, PartialEq, Eq)]
 struct Unprinted;
 
+/// The option for the file that is written.
+const OUT: &str = "--out";
+
+/// The same, with the word for standard output.
+const OUT_STREAM: &str = "--out=-";
+
+/// The command that writes a folder.
+const UNPACK: &str = "unpack";
+
 /// What is printed if memory ran out.
 const OUT_OF_MEMORY: &[u8] = b"out of memory\n";
+
+/// What is printed for an answer, and its exit status.
+fn told(answer: &Result<Outcome, AllocError>) -> (&[u8], u8)
+    ensures text { result.0.now ≡ printed_text answer.now }
+    ensures status { result.1 ≡ status_of answer.now }
+{
+    match answer {
+        Ok(outcome) => (outcome.text.as_slice(), outcome.status),
+        Err(AllocError) => (OUT_OF_MEMORY, FAILED),
+    }
+}
 
 /// Prints what a command answered, or that memory ran out, and returns the exit status.
 ///
@@ -28,10 +49,7 @@ fn print<W: Write>(writer: &mut W, answer: &Result<Outcome, AllocError>) -> Resu
     ensures part { OnErr result ((n : ℕ) × (n < length (printed_text answer.now))
         × Appends (W.contents writer.old) (W.contents writer.new) (take n (printed_text answer.now))) }
 {
-    let (text, status) = match answer {
-        Ok(outcome) => (outcome.text.as_slice(), outcome.status),
-        Err(AllocError) => (OUT_OF_MEMORY, FAILED),
-    };
+    let (text, status) = told(answer);
     match write_all(writer, text) {
         Ok(()) => Ok(status),
         Err(_) => Err(Unprinted),
@@ -60,4 +78,38 @@ pub fn report<R: Eprint, W: Write>(
     ensures { IsReported (W.contents writer.old) (W.contents writer.new) answer.now result }
 {
     ended(rt, print(writer, answer))
+}
+
+/// Prints what a command answered to standard error, where standard output is the file that it writes, and returns the exit status of
+/// the answer.
+pub fn report_aside<R: Eprint>(rt: &R, answer: &Result<Outcome, AllocError>) -> u8
+    ensures { result ≡ status_of answer.now }
+{
+    let (text, status) = told(answer);
+    let _ = match str::from_utf8(text) {
+        Ok(lines) => rt.eprint(lines),
+        // What is printed is text.
+        Err(_) => rt.eprint(text.escape_ascii()),
+    };
+    status
+}
+
+/// Whether a word, with those behind it, names standard output for the file that is written.
+fn names_output(word: &str, behind: &[String]) -> bool {
+    word == OUT_STREAM || (word == OUT && !behind.is_empty() && behind[0].as_str() == STREAM)
+}
+
+/// Whether words, the program's name first, name standard output for the file that is written. `unpack` writes a folder.
+pub fn writes_output(words: &[String]) -> bool {
+    if words.len() > 1 && words[1].as_str() == UNPACK {
+        return false;
+    }
+    let mut rest = words;
+    'words: while !rest.is_empty() {
+        if names_output(rest[0].as_str(), &rest[1..]) {
+            return true;
+        }
+        rest = &rest[1..];
+    }
+    false
 }

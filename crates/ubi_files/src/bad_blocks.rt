@@ -162,11 +162,7 @@ fn mark_numbers(marks: &mut [bool], numbers: &[u32])
 /// # Errors
 ///
 /// Memory ran out.
-pub fn marks_by_number(
-    alloc: Global,
-    pebs: u32,
-    numbers: &[u32],
-) -> Result<Vec<bool>, AllocError>
+pub fn marks_by_number(alloc: Global, pebs: u32, numbers: &[u32]) -> Result<Vec<bool>, AllocError>
     ensures { IfOk result (λ marks. marks.items ≡ marks_by_number pebs numbers.now) }
 {
     if numbers.is_empty() {

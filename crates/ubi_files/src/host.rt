@@ -1,6 +1,6 @@
 //! The files of the system.
 
-ghost use Rattle.std.specs.Prelude.{◌≡◌, None};
+ghost use Rattle.std.specs.Prelude.{◌≡◌, None, true};
 
 use crate::disk::{Disk, OutputFile, WholeFile};
 use crate::file_row::SizedFile;
@@ -10,14 +10,17 @@ use crate::image_source::{is_flash, may_be_one, placed_at, placed_beside, refuse
 use crate::outcome::ToolError;
 use crate::read::{expected_len, open_whole};
 use crate::replaced::replace;
+use crate::standard::{STREAM, open_output, read_path, written_path};
 use std::alloc::Global;
 use std::fmt::Display;
 use std::fs::{File, Files};
 use std::io;
+use std::io::Write;
 use std::os::unix::fs::FileExt;
 
 /// The files of the system. Other programs may write to them, so nothing is known of what they hold. Where one can't be opened, read or
-/// written, standard error says why.
+/// written, standard error says why. The word `-` is standard input where a file is read, and standard output where one is written; a file
+/// of that name has the path `./-`.
 #[derive(Clone, Copy)]
 pub struct Host<'a, R> {
     rt: &'a R,
@@ -32,14 +35,40 @@ impl<'a, R> Host<'a, R> {
     }
 }
 
-/// Opens the file at a path anew.
+/// Opens the file at a path anew, or standard output.
 ///
 /// # Errors
 ///
-/// It can't be opened, or standard output is that file.
+/// It can't be opened, or it is the file of standard output by its own path.
 fn create<R: Files>(rt: &R, path: &str) -> io::Result<R::File> {
+    if path == STREAM {
+        return open_output(rt);
+    }
     refuse_printed(rt, path)?;
     File::create(rt, path)
+}
+
+/// Gives the file at a path other bytes, all at once, or writes them to standard output.
+///
+/// # Errors
+///
+/// It can't be opened or made, or a write failed.
+fn replace_all<R: Files>(rt: &R, alloc: Global, path: &str, bytes: &[u8]) -> io::Result<()> {
+    if path == STREAM {
+        return open_output(rt)?.write_all(bytes);
+    }
+    replace(rt, alloc, path, bytes)
+}
+
+/// Whether what is written for the second word may be written to what is read, or was written, for the first.
+fn may_be_written<R: Files>(rt: &R, word: &str, other: &str) -> bool
+    ensures { word.now ≡ other.now → result ≡ true }
+{
+    if word == other {
+        return true;
+    }
+    let out = written_path(other);
+    may_be_one(rt, read_path(word), out) || may_be_one(rt, written_path(word), out)
 }
 
 /// The result of work on a path; standard error says why it failed, if it did.
@@ -72,23 +101,26 @@ where
     ghost opens = { λ _ _. false };
 
     fn placed_at(&self, path: &str) -> Option<SizedFile<HostFile<'a, R::File, R>>> {
-        placed_at(self.rt, path)
+        placed_at(self.rt, read_path(path))
     }
 
     fn placed_beside(&self, path: &str, out: &str) -> Option<SizedFile<HostFile<'a, R::File, R>>> {
-        placed_beside(self.rt, path, out)
+        if path == out {
+            return None;
+        }
+        placed_beside(self.rt, read_path(path), written_path(out))
     }
 
     fn may_be_one(&self, path: &str, other: &str) -> bool {
-        may_be_one(self.rt, path, other)
+        may_be_written(self.rt, path, other)
     }
 
     fn is_flash(&self, path: &str) -> bool {
-        is_flash(self.rt, path)
+        is_flash(self.rt, read_path(path))
     }
 
     fn whole(&self, path: &str) -> Result<WholeFile<HostFile<'a, R::File, R>>, ToolError> {
-        let file = open_whole(self.rt, path)?;
+        let file = open_whole(self.rt, read_path(path))?;
         let expected = expected_len(&file);
         let reader = HostFile::new(file, self.rt);
         Ok(WholeFile { reader, expected })
@@ -111,7 +143,7 @@ where
     }
 
     fn replace(&mut self, alloc: Global, path: &str, bytes: &[u8]) -> io::Result<()> {
-        told(self.rt, path, replace(self.rt, alloc, path, bytes))
+        told(self.rt, path, replace_all(self.rt, alloc, path, bytes))
     }
 
     fn make_folder(&self, path: &str) -> io::Result<()> {

@@ -4,14 +4,12 @@ ghost use Rattle.std.specs.Prelude.{◌≡◌, ◌≢◌, IfSome, true};
 
 use crate::file_row::SizedFile;
 use crate::host_file::HostFile;
+use crate::standard::OUTPUT;
 use std::fs::{FileType, Files, Metadata};
 use std::io::ErrorKind;
 use std::os::unix::fs::{FileExt, FileTypeExt, MetadataExt};
 use std::{fs, io};
 use ubi_scan::file_len;
-
-/// The path of what is printed to.
-const STANDARD_OUTPUT: &str = "/dev/stdout";
 
 /// Whether two paths name one file, by what the system says of them: the device and the number of the file there, or
 /// which block device it is itself.
@@ -70,7 +68,7 @@ pub fn refuse_printed<R: Files>(rt: &R, path: &str) -> io::Result<()> {
 
 /// Whether standard output is the ordinary file at a path.
 fn is_printed_to<R: Files>(rt: &R, path: &str) -> bool {
-    match (fs::metadata(rt, STANDARD_OUTPUT), fs::metadata(rt, path)) {
+    match (fs::metadata(rt, OUTPUT), fs::metadata(rt, path)) {
         (Ok(printed), Ok(file)) => file.is_file() && are_one(&printed, &file),
         _ => false,
     }

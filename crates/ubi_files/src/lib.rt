@@ -27,6 +27,7 @@ mod part;
 mod progress;
 mod read;
 mod replaced;
+mod standard;
 mod view;
 mod whole_dump;
 
@@ -53,5 +54,6 @@ pub use pages::Pages;
 pub use part::Part;
 pub use progress::ProgressWriter;
 pub use read::read_limited;
+pub use standard::STREAM;
 pub use view::{FilePart, Misfit, WHOLE_FILE};
 pub use whole_dump::see_kept;

@@ -12,7 +12,7 @@ use std::io::{ErrorKind, IsTerminal, Write};
 use std::process::ExitCode;
 use std::rt::Env;
 use std::{env, io};
-use ubi_commands::{report, run_words};
+use ubi_commands::{report, report_aside, run_words, writes_output};
 use ubi_files::{Host, WRONG_WORDS};
 
 fn main(rt: HostRuntime) -> ExitCode {
@@ -22,7 +22,11 @@ fn main(rt: HostRuntime) -> ExitCode {
             let is_watched = rt.stderr().is_terminal();
             let mut disk = Host::new(&rt);
             let answer = run_words(&mut disk, rt.alloc(), words.as_slice(), is_watched);
-            report(&rt, &mut output, &answer)
+            if writes_output(words.as_slice()) {
+                report_aside(&rt, &answer)
+            } else {
+                report(&rt, &mut output, &answer)
+            }
         }
         Err(error) => unread_words(&rt, &mut output, &error),
     };
