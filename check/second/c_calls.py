@@ -18,17 +18,18 @@ out, with nothing or only first bytes written. If an image is refused, Python ha
 For --plans images it looks at plans alone, around bad eraseblocks: those of members, of the table, of nothing and ones
 that the image doesn't have, with blank eraseblocks kept or not. The program gets them by --bad and --blank.
 
-Python has to raise TypeError for what are no sizes, and MemoryError where a copy of the image doesn't fit in memory.
+The shared object has to export the calls and nothing else. Python has to raise TypeError for what are no sizes, and
+MemoryError where a copy of the image doesn't fit in memory.
 
 It also reads volumes of more than 2^31 and of more than 2^32 bytes, the former by Python, which takes 5 GB of memory.
 Then it runs c/examples/volumes.c and volumes.py on an image, which have to print and write the same as the program.
 
-By default there are 200 images of the seed 1, five with large eraseblocks, 500 for plans, and five for which allocations
-are refused.
-The library is the one that c/build.sh has put into c/out, or the one in the folder that --built names. With --asan
-c_caller.c is compiled with the checkers of addresses and of undefined behaviour, and linked with the archive. Without
---tool the program is built first, unless it is built already. The last line is 'N passed, M failed', and the exit
-status is 0 if none failed; an image that failed can be made again by giving its number to --first.
+By default there are 200 images of the seed 1, five with large eraseblocks, 500 for plans, and five for which
+allocations are refused. The library is the one that c/build.sh has put into c/out, or the one in the folder that
+--built names. With --asan c_caller.c is compiled with the checkers of addresses and of undefined behaviour, and linked
+with the archive. Without --tool the program is built first, unless it is built already. The last line is 'N passed, M
+failed', and the exit status is 0 if none failed; an image that failed can be made again by giving its number to
+--first.
 """
 import argparse
 import ctypes
@@ -419,6 +420,14 @@ except MemoryError as error:
 """
 
 
+def look_exports(made):
+    """The shared object exports the calls and nothing else."""
+    words = ["nm", "--dynamic", "--defined-only", "--format=posix", f"{made}/libubi.so"]
+    names = {line.split()[0] for line in subprocess.run(words, capture_output=True, check=True, text=True).stdout.splitlines()}
+    if names != {f"ubi_{name}" for name in ubi._CALLS}:
+        raise Failure(f"the shared object exports {sorted(names)}")
+
+
 def look_starved(tool, folder, made):
     """Lets memory end in a call of Python."""
     text, path = Path(folder) / "wide.txt", Path(folder) / "wide.img"
@@ -499,6 +508,7 @@ def main():
         looks = {
             "the images of the repository": lambda: look_data(rng, tool, folder, caller, library),
             "contents beyond 2^32 bytes": lambda: look_far(tool, folder, library),
+            "the exports": lambda: look_exports(words.built),
             "what Python refuses": lambda: look_wrong(library),
             "memory that ends under Python": lambda: look_starved(tool, folder, words.built),
             "the examples": lambda: look_examples(tool, folder, words.built, checkers),
