@@ -423,7 +423,8 @@ except MemoryError as error:
 def look_exports(made):
     """The shared object exports the calls and nothing else."""
     words = ["nm", "--dynamic", "--defined-only", "--format=posix", f"{made}/libubi.so"]
-    names = {line.split()[0] for line in subprocess.run(words, capture_output=True, check=True, text=True).stdout.splitlines()}
+    listed = subprocess.run(words, capture_output=True, check=True, text=True).stdout
+    names = {line.split()[0] for line in listed.splitlines()}
     if names != {f"ubi_{name}" for name in ubi._CALLS}:
         raise Failure(f"the shared object exports {sorted(names)}")
 

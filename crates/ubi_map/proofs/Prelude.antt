@@ -1,5 +1,5 @@
 -- The names that the proofs of this crate speak of, and where they come from.
-pub use Rattle.std.proofs.Common.{Bool, List, [], ap, append-nil, append_assoc, arith, below_more, codes, cond, false, map, not, refl, string_bytes, subst, suc, sym, take, true, zero, ℕ, ◌++◌, ◌+◌, ◌==◌, ◌∙◌, ◌∷◌, ◌≡◌, ◌≤◌}
+pub use Rattle.std.proofs.Common.{Bool, List, [], ap, append-nil, append_assoc, arith, below_more, codes, cond, false, map, not, refl, rules, string_bytes, subst, suc, sym, take, true, zero, ℕ, ◌++◌, ◌+◌, ◌==◌, ◌∙◌, ◌∷◌, ◌≡◌, ◌≤◌}
 pub use Rattle.std.proofs.lemmas.Grind.{common_steps}
 pub use Rattle.std.proofs.lemmas.List.{drop_min, map-append, take_min}
 pub use Rattle.std.proofs.lemmas.List.Folds.{list_all-append}
@@ -14,6 +14,7 @@ pub use Rattle.ubi_json.specs.Told.{refusal_data}
 pub use Rattle.ubi_json.specs.declared.list.ListedVolume.{ListedVolume}
 pub use Rattle.ubi_media.specs.Geometry.{Sizes}
 pub use Rattle.ubi_media.specs.declared.refusal.Refusal.{Refusal}
+pub use Rattle.ubi_scan.proofs.FailedReads.{names_part}
 pub use Rattle.ubi_scan.specs.Image.{block, ec, vid}
 pub use Rattle.ubi_scan.specs.Source.{Narrows, WhereHeld, blocks_of}
 pub use Rattle.ubi_volume.specs.Survey.{Seen}
