@@ -1,6 +1,7 @@
 pub mod AtOnce
 pub mod BuildReads
 pub mod BuiltInto
+pub mod ByteVectors
 pub mod CommandNames
 pub mod CommandWords
 pub mod Composed
@@ -15,8 +16,10 @@ pub mod FolderReads
 pub mod Found
 pub mod GatheredParts
 pub mod GeometryVectors
+pub mod GivenBytes
 pub mod GivenKey
 pub mod GivenWords
+pub mod Hexadecimals
 pub mod InFormat
 pub mod Into
 pub mod KeptPart
@@ -33,6 +36,7 @@ pub mod ShownLines
 pub mod ToldPlaces
 pub mod ToolVectors
 pub mod Unhelped
+pub mod UnitNumbers
 pub mod Unpacked
 pub mod Uses
 pub mod ViewVectors

@@ -1,5 +1,6 @@
 pub mod Build
 pub mod BuildLaws
+pub mod ByteNumbers
 pub mod Change
 pub mod Check
 pub mod CommandLine
