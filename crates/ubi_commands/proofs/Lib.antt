@@ -26,6 +26,7 @@ pub mod KeptPart
 pub mod Lacking
 pub mod LeastTold
 pub mod Levels
+pub mod LinesReadBack
 pub mod ListedLines
 pub mod MappedLines
 pub mod Normalised
@@ -38,6 +39,7 @@ pub mod ToolVectors
 pub mod Unhelped
 pub mod UnitNumbers
 pub mod Unpacked
+pub mod UntypedIsTyped
 pub mod Uses
 pub mod ViewVectors
 pub mod Walks
