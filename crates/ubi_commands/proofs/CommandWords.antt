@@ -1,5 +1,5 @@
 -- What the words of a command give.
-use Rattle.ubi_commands.proofs.Prelude.{◌≡◌, ◌∙◌, ◌<◌, ◌^◌, List, Some, ap, refl, subst, sym, ℕ, same_Some, Bor, Err, Ok, Result, is_some, ParsesUnsigned, digits_value, without_leading_plus, ReadsOne, first_value, one_text, one_of, rows_of, Found, first_value-rows, one_text-rows, HasBelow, HasNumber, HasText, IsOneOf, MayHaveBelow, MayHaveNumber, gives_word}
+use Rattle.ubi_commands.proofs.Prelude.{◌≡◌, ◌∙◌, ◌<◌, ◌^◌, List, Some, ap, refl, subst, sym, ℕ, same_Some, Bor, Err, Ok, Result, is_some, ParsesUnsigned, digits_value, without_leading_plus, ReadsOne, first_value, one_text, one_of, rows_of, Found, first_value-rows, one_text-rows, HasNumber, HasText, IsOneOf, MayHaveNumber, gives_word}
 use Rattle.std.proofs.Common.{None}
 use Rattle.std.proofs.Common.{Option, option_map}
 
@@ -17,13 +17,13 @@ pub is_given : (f : Found) (name : List ℕ) (text : Option (Bor (List ℕ))) �
 is_given f name None same = ap is_some (same ∙ first_value-rows f name)
 is_given f name (Some s) same = ap is_some (same ∙ first_value-rows f name)
 
--- and so is a number of so many bits, where they give one
-pub number_given : (E : Type 0) (G : List ℕ → Result ℕ E → Type 0) (bits : ℕ) (f : Found) (name : List ℕ) (number : Option ℕ)
-    → ((t : List ℕ) (r : Result ℕ E) → G t r → ParsesUnsigned bits 10 t r)
+-- and so is a number of 32 bits, where they give one
+pub number_given : (E : Type 0) (G : List ℕ → Result ℕ E → Type 0) (f : Found) (name : List ℕ) (number : Option ℕ)
+    → ((t : List ℕ) (r : Result ℕ E) → G t r → ParsesUnsigned 32 10 t r)
     → (one_text f name ≡ None → number ≡ None)
     → ((t : List ℕ) → one_text f name ≡ Some t → ReadsOne G t number)
-    → MayHaveBelow (2 ^ bits) (rows_of f) name number
-number_given E G bits f name number parses none value n = (there, back)
+    → MayHaveNumber (rows_of f) name number
+number_given E G f name number parses none value n = (there, back)
   where
     text : Option (List ℕ)
     text = one_text f name
@@ -31,16 +31,16 @@ number_given E G bits f name number parses none value n = (there, back)
     shown : option_map without_leading_plus (one_of name (rows_of f)) ≡ option_map without_leading_plus text
     shown = ap (option_map without_leading_plus) (sym (one_text-rows f name))
 
-    there : number ≡ Some n → HasBelow (2 ^ bits) (rows_of f) name n
+    there : number ≡ Some n → HasNumber (rows_of f) name n
     there is = go text refl
       where
-        go : (o : Option (List ℕ)) → text ≡ o → HasBelow (2 ^ bits) (rows_of f) name n
+        go : (o : Option (List ℕ)) → text ≡ o → HasNumber (rows_of f) name n
         go None e =
             let bad : Some n ≡ None = sym is ∙ none e in
             cc
         go (Some t) e =
             let read : ReadsOne G t (Some n) = subst (λ o. ReadsOne G t o) is (value t e) in
-            let parsed : ParsesUnsigned {E = E} bits 10 t (Ok n) = parses t (Ok n) read in (
+            let parsed : ParsesUnsigned {E = E} 32 10 t (Ok n) = parses t (Ok n) read in (
               without_leading_plus t,
               shown ∙ ap (option_map without_leading_plus) e,
               parsed.0.0,
@@ -48,15 +48,15 @@ number_given E G bits f name number parses none value n = (there, back)
               rw parsed.1 parsed.0.1,
             )
 
-    back : HasBelow (2 ^ bits) (rows_of f) name n → number ≡ Some n
+    back : HasNumber (rows_of f) name n → number ≡ Some n
     back has = go text refl
       where
         reads : (t : List ℕ) → without_leading_plus t ≡ has.0 → (o : Option ℕ) → ReadsOne G t o → o ≡ Some n
         reads t same (Some v) given =
-            let parsed : ParsesUnsigned {E = E} bits 10 t (Ok v) = parses t (Ok v) given in
+            let parsed : ParsesUnsigned {E = E} 32 10 t (Ok v) = parses t (Ok v) given in
             ap Some (parsed.1 ∙ ap (digits_value 10) same ∙ sym has.3)
         reads t same None given =
-            let small : digits_value 10 has.0 < 2 ^ bits = rw (← has.3) has.4 in
+            let small : digits_value 10 has.0 < 2 ^ 32 = rw (← has.3) has.4 in
             absurd (parses t (Err given.0) given.1 (rw same has.2, rw same small))
 
         go : (o : Option (List ℕ)) → text ≡ o → number ≡ Some n

@@ -1,5 +1,5 @@
 -- What the words of a request say: the volume that they name, what they list as bad, and what they keep.
-use Rattle.ubi_commands.proofs.Prelude.{◌≡◌, ◌∙◌, ◌&&◌, ◌||◌, Bool, List, Some, ap, ap₂, false, not, refl, subst, sym, true, true≢false, ℕ, Bor, ForSome, same_Some, find, is_some, option_and_then, option_map, slice_get, bytes_eq, without_leading_plus, Row, Text, first_of, one_of, is_block_list, Asks, AsksAsked, AsksBlank, AsksDump, AsksKey, AsksPlan, HasNumber, HasText, IsRequest, MayHaveText, command_name, gives_word, gives_no_geometry, HasOneVolume, Mean, finds, plans, reads_dump, Asked, Dump, Plan, Request, VolumeKey, reading_command, inl, inr, ◌⊎◌, AsksFormat, format_word, formats, Format, comparing_command, comparison_format}
+use Rattle.ubi_commands.proofs.Prelude.{◌≡◌, ◌∙◌, ◌&&◌, ◌||◌, Bool, List, Some, ap, ap₂, false, not, refl, subst, sym, true, true≢false, ℕ, Bor, ForSome, same_Some, find, is_some, option_and_then, option_map, slice_get, bytes_eq, without_leading_plus, Row, Text, first_of, one_of, is_block_list, Asks, AsksAsked, AsksBlank, AsksDump, AsksKey, AsksPlan, HasNumber, HasText, IsRequest, MayHaveText, command_name, gives_word, gives_no_geometry, HasOneVolume, Mean, finds, gives_bytes, gives_part, gives_sizes, plans, reads_dump, takes_geometry, takes_part, Asked, Dump, Plan, Request, VolumeKey, reading_command, inl, inr, ◌⊎◌, AsksFormat, format_word, formats, Format, comparing_command, comparison_format}
 use Rattle.std.proofs.Common.{None}
 use Rattle.std.proofs.Common.{Option, codes, unwrap_or}
 use Rattle.ubi_commands.specs.declared.format.Format.TheVariants as told
@@ -8,6 +8,8 @@ use Rattle.ubi_commands.specs.declared.asked.Asked.TheVariants as way
 use Rattle.ubi_commands.specs.declared.readers.Reading.TheVariants as reading
 use Rattle.ubi_commands.specs.declared.requests.Request.TheVariants as request
 use Rattle.ubi_commands.specs.declared.volume_key.VolumeKey.TheVariants as key
+use Rattle.ubi_words.specs.Words.{most_number}
+use Rattle.ubi_commands.proofs.GivenBytes.{bytes_are_text, maybe_bytes_pass, no_geometry_passes, numbers_pass, part_passes}
 use Rattle.ubi_commands.proofs.GivenWords.{found_row, number_in_row, text_in_row}
 use Rattle.ubi_commands.proofs.Lacking.{apart}
 use Rattle.ubi_commands.proofs.Uses.{EachRow}
@@ -42,7 +44,7 @@ text_given None some = absurd (some refl)
 text_given (Some t) some = refl
 
 -- a number that is given is a text
-pub number_is_text : (rows : List Row) (id : Text) (n : ℕ) → HasNumber rows id n → is_some (first_of id rows) ≡ true
+number_is_text : (rows : List Row) (id : Text) (n : ℕ) → HasNumber rows id n → is_some (first_of id rows) ≡ true
 number_is_text rows id n has = text_given (first_of id rows) (λ none. no_text_no_number rows id none n has)
 
 -- where no text is given, none is found
@@ -98,10 +100,25 @@ list_asked rows (way.Sought sought) asks = list_given rows sought.bad asks.1.2 a
 sizes_asked : (rows : List Row) (d : Asked) → AsksAsked rows d
     → ((gives_word rows (codes "peb") && gives_word rows (codes "page")) || gives_no_geometry rows) ≡ true
 sizes_asked rows (way.Given dump) asks =
-    let peb = number_is_text rows (codes "peb") dump.numbers.peb_size asks.0.0 in
-    let page = number_is_text rows (codes "page") dump.numbers.page asks.0.1 in
+    let peb = bytes_are_text most_number rows (codes "peb") dump.numbers.peb_size asks.0.0 in
+    let page = bytes_are_text most_number rows (codes "page") dump.numbers.page asks.0.1 in
     ap₂ (λ (a b : Bool). (a && b) || gives_no_geometry rows) peb page
 sizes_asked rows (way.Sought sought) asks = or_true _ _ asks.0
+
+-- what they give for numbers of bytes are such numbers
+sizes_pass : (rows : List Row) (d : Asked) → AsksAsked rows d
+    → gives_sizes rows ≡ true
+sizes_pass rows (way.Given dump) asks = numbers_pass rows dump.numbers asks.0
+sizes_pass rows (way.Sought sought) asks = (no_geometry_passes rows asks.0).0
+
+asked_part_passes : (rows : List Row) (d : Asked) → AsksAsked rows d
+    → gives_part rows ≡ true
+asked_part_passes rows (way.Given dump) asks = part_passes rows dump.part asks.1
+asked_part_passes rows (way.Sought sought) asks = part_passes rows sought.part asks.1.0
+
+oob_passes : (rows : List Row) (d : Asked) → AsksAsked rows d → gives_bytes most_number rows (codes "oob") ≡ true
+oob_passes rows (way.Given dump) asks = maybe_bytes_pass most_number rows (codes "oob") asks.2.0 asks.2.1
+oob_passes rows (way.Sought sought) asks = (no_geometry_passes rows asks.0).1
 
 -- and what they say of Blank eraseblocks is that they are kept
 blank_given : (rows : List Row) (keeps : Bool) → AsksBlank rows keeps → ForSome (first_of (codes "blank") rows) (λ word. word ≡ codes "keep")
@@ -125,6 +142,9 @@ request_means named r asked = record {
   blank = λ name words is planned. keeps r asked.1 asked.2 name words is planned;
   geometry = λ name words is found. sizes r asked.1 asked.2 name words is found;
   format = λ name words is holds. tells r asked.1 asked.2 name words is holds;
+  sizes = λ name words is takes. measured r asked.1 asked.2 name words is takes;
+  part = λ name words is takes. placed r asked.1 asked.2 name words is takes;
+  oob = λ name words is dumps. spared r asked.1 asked.2 name words is dumps;
 }
   where
     same : (a : Text) (rows : List Row) → named ≡ Some (a, rows) → (name : Text) (words : List Row) → named ≡ Some (name, words)
@@ -214,6 +234,70 @@ request_means named r asked = record {
     tells (request.Compare how d left right) at asks name words is holds =
         in_format (comparing_command how).name (comparison_format how) at asks.3 name words is
     tells _ at asks name words is holds = other formats _ refl at name words is holds
+
+    -- what is known of the rows of the command that was named
+    moved : (P : List Row → Bool) (a : Text) → named ≡ Some (a, asked.0) → P asked.0 ≡ true → (name : Text) (words : List Row)
+        → named ≡ Some (name, words) → P words ≡ true
+    moved P a at holds name words is = subst (λ (rows : List Row). P rows ≡ true) (same a asked.0 at name words is).1 holds
+
+    measured : (q : Request) → named ≡ Some (command_name q, asked.0) → Asks asked.0 q → (name : Text) (words : List Row)
+        → named ≡ Some (name, words) → takes_geometry name ≡ true → gives_sizes words ≡ true
+    measured (request.Tell d image what) at asks name words is holds =
+        moved gives_sizes (reading_command what).name at (sizes_pass asked.0 d asks.0) name words is
+    measured (request.Map d image page) at asks name words is holds = moved gives_sizes (codes "map") at (sizes_pass asked.0 d asks.0) name words is
+    measured (request.Extract d extract) at asks name words is holds =
+        moved gives_sizes (codes "extract") at (sizes_pass asked.0 d asks.0) name words is
+    measured (request.Unpack d paths) at asks name words is holds = moved gives_sizes (codes "unpack") at (sizes_pass asked.0 d asks.0) name words is
+    measured (request.Normalise d paths) at asks name words is holds =
+        moved gives_sizes (codes "normalise") at (sizes_pass asked.0 d asks.0) name words is
+    measured (request.Compare how d left right) at asks name words is holds =
+        moved gives_sizes (comparing_command how).name at (sizes_pass asked.0 d asks.0) name words is
+    measured (request.Compose n new) at asks name words is holds = moved gives_sizes (codes "compose") at (numbers_pass asked.0 n asks.0) name words is
+    measured (request.Build n new) at asks name words is holds = moved gives_sizes (codes "build") at (numbers_pass asked.0 n asks.0) name words is
+    measured (request.Change d change) at asks name words is holds =
+        moved gives_sizes (codes "change") at (numbers_pass asked.0 d.numbers asks.0.0) name words is
+    measured (request.Rename d rename) at asks name words is holds =
+        moved gives_sizes (codes "rename") at (numbers_pass asked.0 d.numbers asks.0.0) name words is
+    measured (request.Geometry part image f) at asks name words is holds = other takes_geometry (codes "geometry") refl at name words is holds
+
+    placed : (q : Request) → named ≡ Some (command_name q, asked.0) → Asks asked.0 q → (name : Text) (words : List Row)
+        → named ≡ Some (name, words) → takes_part name ≡ true → gives_part words ≡ true
+    placed (request.Geometry part image f) at asks name words is holds = moved gives_part (codes "geometry") at (part_passes asked.0 part asks.0) name words is
+    placed (request.Tell d image what) at asks name words is holds =
+        moved gives_part (reading_command what).name at (asked_part_passes asked.0 d asks.0) name words is
+    placed (request.Map d image page) at asks name words is holds = moved gives_part (codes "map") at (asked_part_passes asked.0 d asks.0) name words is
+    placed (request.Extract d extract) at asks name words is holds =
+        moved gives_part (codes "extract") at (asked_part_passes asked.0 d asks.0) name words is
+    placed (request.Unpack d paths) at asks name words is holds = moved gives_part (codes "unpack") at (asked_part_passes asked.0 d asks.0) name words is
+    placed (request.Normalise d paths) at asks name words is holds =
+        moved gives_part (codes "normalise") at (asked_part_passes asked.0 d asks.0) name words is
+    placed (request.Compare how d left right) at asks name words is holds =
+        moved gives_part (comparing_command how).name at (asked_part_passes asked.0 d asks.0) name words is
+    placed (request.Change d change) at asks name words is holds = moved gives_part (codes "change") at (part_passes asked.0 d.part asks.0.1) name words is
+    placed (request.Rename d rename) at asks name words is holds = moved gives_part (codes "rename") at (part_passes asked.0 d.part asks.0.1) name words is
+    placed (request.Compose n new) at asks name words is holds = other takes_part (codes "compose") refl at name words is holds
+    placed (request.Build n new) at asks name words is holds = other takes_part (codes "build") refl at name words is holds
+
+    has_oob : List Row → Bool
+    has_oob rows = gives_bytes most_number rows (codes "oob")
+
+    spared : (q : Request) → named ≡ Some (command_name q, asked.0) → Asks asked.0 q → (name : Text) (words : List Row)
+        → named ≡ Some (name, words) → reads_dump name ≡ true → gives_bytes most_number words (codes "oob") ≡ true
+    spared (request.Tell d image what) at asks name words is holds =
+        moved has_oob (reading_command what).name at (oob_passes asked.0 d asks.0) name words is
+    spared (request.Map d image page) at asks name words is holds = moved has_oob (codes "map") at (oob_passes asked.0 d asks.0) name words is
+    spared (request.Extract d extract) at asks name words is holds =
+        moved has_oob (codes "extract") at (oob_passes asked.0 d asks.0) name words is
+    spared (request.Unpack d paths) at asks name words is holds = moved has_oob (codes "unpack") at (oob_passes asked.0 d asks.0) name words is
+    spared (request.Normalise d paths) at asks name words is holds =
+        moved has_oob (codes "normalise") at (oob_passes asked.0 d asks.0) name words is
+    spared (request.Compare how d left right) at asks name words is holds =
+        moved has_oob (comparing_command how).name at (oob_passes asked.0 d asks.0) name words is
+    spared (request.Change d change) at asks name words is holds =
+        moved has_oob (codes "change") at (maybe_bytes_pass most_number asked.0 (codes "oob") asks.0.2.0 asks.0.2.1) name words is
+    spared (request.Rename d rename) at asks name words is holds =
+        moved has_oob (codes "rename") at (maybe_bytes_pass most_number asked.0 (codes "oob") asks.0.2.0 asks.0.2.1) name words is
+    spared _ at asks name words is holds = other reads_dump _ refl at name words is holds
 
 -- words that name just one volume name it by a number or by a text
 module _ (rows : List Row) (each : EachRow rows) where

@@ -1,5 +1,5 @@
 -- The request that words are, once the command line takes them.
-use Rattle.ubi_commands.proofs.Prelude.{◌≡◌, ◌∙◌, ◌&&◌, ◌||◌, ◌-◌, ◌<◌, ◌≤◌, ◌==◌, ◌^◌, ◌∷◌, [], ap, ap₂, Bool, List, Some, arith, cond, drop, false, lit<, lit≤, not, refl, subst, sym, true, true≢false, ℕ, Bor, option_and_then, option_map, pos, slice_get, unwrap_or, find, list_any, option_map_or, bytes_eq, IsNumeral, digits_value, starts_with_minus, without_leading_plus, eqb-true, ne_eqb, ints, same_Some, bytes_eq-Decides, digit_from_value, explicit_source, parser_of_value, without_minus, is_given, accepts, IsSignedIn, read_as, reading_of, Row, Rule, Text, first_of, is_empty, one_of, row_text, Reading, ValueParser, Accepts-accepts, accepts-Accepts, both, HasBelow, HasNumber, HasText, MayHaveBelow, MayHaveLong, MayHaveNumber}
+use Rattle.ubi_commands.proofs.Prelude.{◌≡◌, ◌∙◌, ◌&&◌, ◌||◌, ◌<◌, ◌==◌, ◌^◌, ◌∷◌, [], ap, ap₂, Bool, List, Some, arith, cond, drop, false, not, refl, subst, sym, true, true≢false, ℕ, Bor, option_and_then, option_map, pos, slice_get, unwrap_or, find, list_any, option_map_or, bytes_eq, IsNumeral, digits_value, starts_with_minus, without_leading_plus, eqb-true, ne_eqb, ints, same_Some, bytes_eq-Decides, digit_from_value, explicit_source, parser_of_value, without_minus, is_given, accepts, IsSignedIn, read_as, reading_of, Row, Rule, Text, first_of, is_empty, one_of, row_text, Reading, ValueParser, Accepts-accepts, accepts-Accepts, both, HasNumber, HasText, MayHaveNumber}
 use Rattle.std.proofs.Common.{None}
 use Rattle.std.proofs.Common.{Option}
 use Rattle.clap.specs.Values.{Accepts}
@@ -159,62 +159,55 @@ number_asked c rows id each e wants number = number_in_row rows id number (row_o
 
 -- ---- a number that may be left out
 
-module _ (limit : ℕ) (some : 0 < limit) (most : limit ≤ 2 ^ 64) where
-  -- a text that begins with no minus, of a number below the limit
-  abbrev plain_word : ValueParser
-  plain_word = parser.Unsigned 0 (limit - 1)
+-- a text that begins with no minus, of a number of 32 bits
+abbrev plain_word : ValueParser
+plain_word = parser.Unsigned 0 4294967295
 
-  has_text : (rows : List Row) (name t : Text) (n : ℕ) → one_of name rows ≡ Some t → HasBelow limit rows name n
-      → (Accepts false plain_word t) × (n ≡ digits_value 10 (without_leading_plus t))
-  has_text rows name t n is has =
-      let same : without_leading_plus t ≡ has.0 =
-      same_Some _ _ (sym (ap (option_map without_leading_plus) is) ∙ has.1) in
-      let small : digits_value 10 has.0 < limit = rw (← has.3) has.4 in
-      ((rw same has.2, rw same (omega arith), omega arith, rw same (omega arith)), has.3 ∙ sym (ap (digits_value 10) same))
-
-  pub below_in : (rows : List Row) (name : Text) → (number : Option ℕ) × MayHaveBelow limit rows name number
-  below_in rows name = by_text (one_of name rows) refl
-    where
-      by_test : (t : Text) (b : Bool) → one_of name rows ≡ Some t → accepts false plain_word t ≡ b
-          → (number : Option ℕ) × MayHaveBelow limit rows name number
-      by_test t true is passes =
-          let read : Accepts false plain_word t = accepts-Accepts false plain_word t passes in
-          let small : digits_value 10 (without_leading_plus t) < limit = omega (arith, read.3) in (
-            Some (digits_value 10 (without_leading_plus t)),
-            λ n. (
-              λ e. (
-                without_leading_plus t,
-                ap (option_map without_leading_plus) is,
-                read.0,
-                sym (same_Some _ _ e),
-                subst (λ x. x < limit) (same_Some _ _ e) small,
-              ),
-              λ has. ap (λ (x : ℕ). Some x) (sym (has_text rows name t n is has).1),
-            ),
-          )
-      by_test t false is passes = (
-        None,
-        λ n. (
-          λ e. absurd (cc),
-          λ has.
-              absurd (true≢false (sym (Accepts-accepts false plain_word t (has_text rows name t n is has).0) ∙ passes)),
-        ),
-      )
-
-      by_text : (o : Option Text) → one_of name rows ≡ o → (number : Option ℕ) × MayHaveBelow limit rows name number
-      by_text None is = (
-        None,
-        λ n. (
-          λ e. absurd (cc),
-          λ has.
-              let bad : None ≡ Some has.0 = sym (ap (option_map without_leading_plus) is) ∙ has.1 in
-              absurd (cc),
-        ),
-      )
-      by_text (Some t) is = by_test t (accepts false plain_word t) is refl
+has_text : (rows : List Row) (name t : Text) (n : ℕ) → one_of name rows ≡ Some t → HasNumber rows name n
+    → (Accepts false plain_word t) × (n ≡ digits_value 10 (without_leading_plus t))
+has_text rows name t n is has =
+    let same : without_leading_plus t ≡ has.0 =
+    same_Some _ _ (sym (ap (option_map without_leading_plus) is) ∙ has.1) in
+    let small : digits_value 10 has.0 < 2 ^ 32 = rw (← has.3) has.4 in
+    ((rw same has.2, rw same (omega arith), omega arith, rw same (omega arith)), has.3 ∙ sym (ap (digits_value 10) same))
 
 pub number_in : (rows : List Row) (name : Text) → (number : Option ℕ) × MayHaveNumber rows name number
-number_in rows name = below_in (2 ^ 32) (lit< tt) (lit≤ tt) rows name
+number_in rows name = by_text (one_of name rows) refl
+  where
+    by_test : (t : Text) (b : Bool) → one_of name rows ≡ Some t → accepts false plain_word t ≡ b
+        → (number : Option ℕ) × MayHaveNumber rows name number
+    by_test t true is passes =
+        let read : Accepts false plain_word t = accepts-Accepts false plain_word t passes in
+        let small : digits_value 10 (without_leading_plus t) < 2 ^ 32 = omega (arith, read.3) in (
+          Some (digits_value 10 (without_leading_plus t)),
+          λ n. (
+            λ e. (
+              without_leading_plus t,
+              ap (option_map without_leading_plus) is,
+              read.0,
+              sym (same_Some _ _ e),
+              subst (λ x. x < 2 ^ 32) (same_Some _ _ e) small,
+            ),
+            λ has. ap (λ (x : ℕ). Some x) (sym (has_text rows name t n is has).1),
+          ),
+        )
+    by_test t false is passes = (
+      None,
+      λ n. (
+        λ e. absurd (cc),
+        λ has.
+            absurd (true≢false (sym (Accepts-accepts false plain_word t (has_text rows name t n is has).0) ∙ passes)),
+      ),
+    )
 
-pub long_in : (rows : List Row) (name : Text) → (number : Option ℕ) × MayHaveLong rows name number
-long_in rows name = below_in (2 ^ 64) (lit< tt) (lit≤ tt) rows name
+    by_text : (o : Option Text) → one_of name rows ≡ o → (number : Option ℕ) × MayHaveNumber rows name number
+    by_text None is = (
+      None,
+      λ n. (
+        λ e. absurd (cc),
+        λ has.
+            let bad : None ≡ Some has.0 = sym (ap (option_map without_leading_plus) is) ∙ has.1 in
+            absurd (cc),
+      ),
+    )
+    by_text (Some t) is = by_test t (accepts false plain_word t) is refl

@@ -1,6 +1,6 @@
 -- Words that lack what a command needs are no request of it. Each list of cases names one of the commands that read an
 -- image, and one of those that compare two, so the last case is tried for each of the others.
-use Rattle.ubi_commands.proofs.Prelude.{◌≡◌, ◌∙◌, ◌∷◌, [], Bool, List, ap, false, refl, sym, true, true≢false, ℕ, list_any, bytes_eq, bytes_eq-Decides, Row, Text, AsksAsked, AsksChange, AsksDump, AsksExtract, AsksNewImage, AsksNumbers, AsksPaths, AsksRename, HasNumber, finds, plans, IsAskedBy, Asked, Change, Dump, Extract, NewImage, Paths, Rename, Request, Numbers, AsksFormat, comparison_format, formats, Format}
+use Rattle.ubi_commands.proofs.Prelude.{◌≡◌, ◌∙◌, ◌∷◌, [], Bool, List, ap, false, refl, sym, true, true≢false, ℕ, list_any, bytes_eq, bytes_eq-Decides, Row, Text, AsksAsked, AsksChange, AsksDump, AsksExtract, AsksNewImage, AsksNumbers, AsksPart, AsksPaths, AsksRename, HasNumber, finds, plans, IsAskedBy, Asked, Change, Dump, Extract, NewImage, Paths, Rename, Request, FilePart, Numbers, AsksFormat, comparison_format, formats, Format}
 use Rattle.std.proofs.Common.{codes}
 use Rattle.ubi_commands.specs.declared.comparison.Comparison.TheVariants as comparison
 use Rattle.ubi_commands.specs.declared.readers.Reading.TheVariants as reading
@@ -56,6 +56,12 @@ no_format name told rows none (request.Tell d image (reading.Geometry part f)) a
 no_format name told rows none (request.Tell d image (reading.Show block)) asked = other_test formats _ _ refl told asked.0
 no_format name told rows none (request.Compare how d left right) asked = none (comparison_format how) asked.1.3
 no_format name told rows none _ asked = other_test formats _ _ refl told asked.0
+
+pub no_part : (rows : List Row) → ((p : FilePart) → AsksPart rows p → ⊥) → (r : Request) → IsAskedBy (codes "geometry") rows r → ⊥
+no_part rows none (request.Geometry part image format) asked = none part asked.1.0
+no_part rows none (request.Tell d image (reading.List format)) asked = apart _ _ refl asked.0
+no_part rows none (request.Compare (comparison.Same format) d left right) asked = apart _ _ refl asked.0
+no_part rows none _ asked = apart _ _ refl asked.0
 
 pub no_block : (rows : List Row) → ((n : ℕ) → HasNumber rows (codes "block") n → ⊥) → (r : Request)
     → IsAskedBy (codes "show") rows r → ⊥

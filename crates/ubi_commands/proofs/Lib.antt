@@ -1,6 +1,7 @@
 pub mod AtOnce
 pub mod BuildReads
 pub mod BuiltInto
+pub mod ByteVectors
 pub mod CommandNames
 pub mod CommandWords
 pub mod Composed
@@ -15,14 +16,17 @@ pub mod FolderReads
 pub mod Found
 pub mod GatheredParts
 pub mod GeometryVectors
+pub mod GivenBytes
 pub mod GivenKey
 pub mod GivenWords
+pub mod Hexadecimals
 pub mod InFormat
 pub mod Into
 pub mod KeptPart
 pub mod Lacking
 pub mod LeastTold
 pub mod Levels
+pub mod LinesReadBack
 pub mod ListedLines
 pub mod MappedLines
 pub mod Normalised
@@ -33,7 +37,9 @@ pub mod ShownLines
 pub mod ToldPlaces
 pub mod ToolVectors
 pub mod Unhelped
+pub mod UnitNumbers
 pub mod Unpacked
+pub mod UntypedIsTyped
 pub mod Uses
 pub mod ViewVectors
 pub mod Walks

@@ -101,6 +101,8 @@ pub use Rattle.ubi_config.proofs.WrittenReads.{written_reads}
 pub use Rattle.ubi_config.specs.Config.{line_number, sections_of}
 unfoldable pub use Rattle.ubi_config.specs.Config.{first_config_fault}
 unfoldable pub use Rattle.ubi_config.specs.Records.{record_in}
+pub use Rattle.ubi_config.specs.Words.{is_no_digit, most_bytes}
+unfoldable pub use Rattle.ubi_config.specs.Words.{unit_named}
 pub use Rattle.ubi_config.specs.Written.{bytes_reserved, config_text, may_grow, volume_lines}
 unfoldable pub use Rattle.ubi_config.specs.Written.{left_out}
 pub use Rattle.ubi_config.specs.WrittenLaws.{AreVolumes, section_at, section_for, sections_at}
@@ -202,10 +204,11 @@ pub use Rattle.ubi_volume.specs.declared.places.Extent.{Extent}
 pub use Rattle.ubi_volume.specs.declared.places.PlaceContent.{PlaceContent}
 pub use Rattle.ubi_commands.specs.Build.{AreBesideOut, AreGathered, ArePartsOf, Builds, BuildsParts, HaveImage, IsNoVolume, IsSized, IsUngathered, IsUnreadLine, Sized, built, crowded, faulty, gathered, image_path, image_paths, len_of, no_image, no_path, no_record, numbered_parts, section_part, ungathered, unmade, unread, unwritten}
 pub use Rattle.ubi_commands.specs.BuildLaws.{AreTold, BuildReads, ReadsItsFile, file_of}
+pub use Rattle.ubi_commands.specs.ByteNumbers.{at_most, byte_number, bytes_in_units, bytes_within, decimal_number, hexadecimal_number, hexadecimal_value, unit_after, with_hexadecimal}
 pub use Rattle.ubi_commands.specs.Change.{Changes, ChangesFrom, CutMeans, HasPlan, IsChangeFault, not_blank_from, unplanned_from}
 pub use Rattle.ubi_commands.specs.Check.{state_line, surveyed, unsurveyed}
 unfoldable pub use Rattle.ubi_commands.specs.Check.{printed_states}
-pub use Rattle.ubi_commands.specs.CommandLine.{AsksAsked, AsksBlank, AsksChange, AsksDump, AsksExtract, AsksFormat, AsksKey, AsksNewImage, AsksNumbers, AsksPart, AsksPaths, AsksPlan, AsksRename, HasBelow, HasNumber, HasText, MayHaveBelow, MayHaveLong, MayHaveNumber, MayHaveText, gives_no_geometry, gives_word}
+pub use Rattle.ubi_commands.specs.CommandLine.{AsksAsked, AsksBlank, AsksChange, AsksDump, AsksExtract, AsksFormat, AsksKey, AsksNewImage, AsksNumbers, AsksPart, AsksPaths, AsksPlan, AsksRename, HasBytes, HasNumber, HasText, MayHaveBytes, MayHaveNumber, MayHaveText, gives_no_geometry, gives_word}
 pub use Rattle.ubi_commands.specs.Commands.{Asks, IsAllElse, IsAnswer, IsAnswerTo, IsRequest, Takes, command_name, comparing_command, reading_command, wrong_words}
 unfoldable pub use Rattle.ubi_commands.specs.Commands.{tool}
 pub use Rattle.ubi_commands.specs.Comparisons.{AnswersOf, ComparesOf, compared, compared_from, comparison_format, comparison_status, difference_line, differences_told, left_refused, left_refused_from, right_refused, right_refused_from, same_told}
@@ -229,7 +232,7 @@ pub use Rattle.ubi_commands.specs.Program.{IsDump, IsToldFirst, OfAsked, OfBoth,
 pub use Rattle.ubi_commands.specs.Reads.{format_of, reads}
 pub use Rattle.ubi_commands.specs.Rename.{CutIsNamed, HasRename, IsRenameFault, Renames, RenamesFrom, nameless_from}
 pub use Rattle.ubi_commands.specs.Show.{Shows, no_block, no_block_from, no_size, shown, shown_from}
-pub use Rattle.ubi_commands.specs.Tool.{HasOneVolume, Mean, finds, formats, plans, reads_dump}
+pub use Rattle.ubi_commands.specs.Tool.{HasOneVolume, Mean, finds, formats, gives_bytes, gives_part, gives_sizes, plans, reads_dump, takes_geometry, takes_part}
 pub use Rattle.ubi_commands.specs.Unpack.{AreUnpacked, AreUnpackedUntil, IsNewFile, IsUnpacked, Listed, Unpacks, UnpacksOf, all_described, config_path, described, file_byte, file_path, folder_config, listed, no_config, no_folder, unpacked, unpacked_line, unpacked_lines, unpacked_status}
 unfoldable pub use Rattle.ubi_commands.specs.Unpack.{file_name}
 pub use Rattle.ubi_commands.specs.declared.asked.Asked.{Asked}

@@ -1,8 +1,9 @@
 -- Which words the command line takes.
-use Rattle.ubi_commands.proofs.Prelude.{◌≡◌, ◌&&◌, ◌||◌, ◌∷◌, ◌∙◌, [], List, Some, ap, false, refl, subst, sym, true, true≢false, ForSome, same_Some, bytes_eq, fault_of, Row, Text, first_of, clap_on_literals, is_block_list, gives_word, gives_no_geometry, HasOneVolume, Mean, Takes, tool, inl, inr, ◌⊎◌}
+use Rattle.ubi_commands.proofs.Prelude.{◌≡◌, ◌&&◌, ◌||◌, ◌∷◌, ◌∙◌, [], List, Some, ap, false, refl, subst, sym, true, true≢false, ForSome, same_Some, bytes_eq, fault_of, Row, Text, first_of, clap_on_literals, is_block_list, gives_bytes, gives_part, gives_sizes, gives_word, gives_no_geometry, unit_named, HasOneVolume, Mean, Takes, tool, inl, inr, ◌⊎◌}
 use Rattle.std.proofs.Common.{None}
 use Rattle.std.proofs.Common.{Option, codes}
 use Rattle.clap.specs.declared.error.kind.ErrorKind.TheVariants as kind
+use Rattle.ubi_words.specs.Words.{most_number}
 use Rattle.ubi_commands.proofs.Lacking.{apart}
 
 -- another command than `extract` needs no volume
@@ -13,13 +14,14 @@ of_another named name rows is other behind same =
     absurd (apart name (codes "extract") other (ap (λ (e : Text × List Row). e.0) (same_Some _ _ both)))
 
 -- another command than `extract`, with a list of bad eraseblocks or none, with nothing but `keep` said of Blank ones, with the word of a
--- format or none, and with both sizes or nothing of a geometry
+-- format or none, with both sizes or nothing of a geometry, and with numbers of bytes
 means : (name : Text) (rows : List Row) → bytes_eq name (codes "extract") ≡ false
     → ForSome (first_of (codes "bad") rows) (λ list. is_block_list list ≡ true)
     → ForSome (first_of (codes "blank") rows) (λ word. word ≡ codes "keep")
     → ForSome (first_of (codes "format") rows) (λ word. (word ≡ codes "text") ⊎ (word ≡ codes "json"))
-    → ((gives_word rows (codes "peb") && gives_word rows (codes "page")) || gives_no_geometry rows) ≡ true → Mean (Some (name, rows))
-means name rows other listed kept told whole = record {
+    → ((gives_word rows (codes "peb") && gives_word rows (codes "page")) || gives_no_geometry rows) ≡ true
+    → gives_sizes rows ≡ true → gives_part rows ≡ true → gives_bytes most_number rows (codes "oob") ≡ true → Mean (Some (name, rows))
+means name rows other listed kept told whole sized placed spared = record {
   volume = of_another (Some (name, rows)) name rows refl other;
   list = λ named words is reads. subst (λ ws. ForSome (first_of (codes "bad") ws) (λ list. is_block_list list ≡ true)) (rows_of named words is) listed;
   blank = λ named words is plans. subst (λ ws. ForSome (first_of (codes "blank") ws) (λ word. word ≡ codes "keep")) (rows_of named words is) kept;
@@ -27,6 +29,9 @@ means name rows other listed kept told whole = record {
       subst (λ ws. ((gives_word ws (codes "peb") && gives_word ws (codes "page")) || gives_no_geometry ws) ≡ true) (rows_of named words is) whole;
   format = λ named words is tells.
       subst (λ ws. ForSome (first_of (codes "format") ws) (λ word. (word ≡ codes "text") ⊎ (word ≡ codes "json"))) (rows_of named words is) told;
+  sizes = λ named words is takes. subst (λ ws. gives_sizes ws ≡ true) (rows_of named words is) sized;
+  part = λ named words is takes. subst (λ ws. gives_part ws ≡ true) (rows_of named words is) placed;
+  oob = λ named words is reads. subst (λ ws. gives_bytes most_number ws (codes "oob") ≡ true) (rows_of named words is) spared;
 }
   where
     rows_of : (named : Text) (words : List Row) → ◌≡◌ {A = Option (Text × List Row)} (Some (name, rows)) (Some (named, words)) → rows ≡ words
@@ -49,7 +54,7 @@ words behind = codes "ubi_tool" ∷ codes "list" ∷ codes "a.img" ∷ codes "--
 
 taken : Takes (words (codes "--page=64" ∷ []))
 unfolding clap_on_literals tool
-taken = (refl, means (codes "list") _ refl (not_given _ _ refl) (not_given _ _ refl) (not_given _ _ refl) refl)
+taken = (refl, means (codes "list") _ refl (not_given _ _ refl) (not_given _ _ refl) (not_given _ _ refl) refl refl refl refl)
 
 -- a line of `extract`, with the options that name the volume
 abbrev extract_words : List Text → List Text
@@ -70,7 +75,7 @@ no_volume takes = let neither : false ≡ true = takes.1.volume _ refl in true�
 -- eraseblocks that are listed as bad, and a word that is no list
 bad_taken : Takes (words (codes "--page=64" ∷ codes "--bad=1,4-9" ∷ []))
 unfolding clap_on_literals tool
-bad_taken = (refl, means (codes "list") _ refl (given _ _ (codes "1,4-9") refl refl) (not_given _ _ refl) (not_given _ _ refl) refl)
+bad_taken = (refl, means (codes "list") _ refl (given _ _ (codes "1,4-9") refl refl) (not_given _ _ refl) (not_given _ _ refl) refl refl refl refl)
 
 no_list : Takes (words (codes "--page=64" ∷ codes "--bad=3,,4" ∷ [])) → ⊥
 unfolding clap_on_literals tool
@@ -87,11 +92,11 @@ of_list behind = codes "ubi_tool" ∷ codes "list" ∷ codes "a.img" ∷ behind
 
 nothing_taken : Takes (of_list [])
 unfolding clap_on_literals tool
-nothing_taken = (refl, means (codes "list") _ refl (not_given _ _ refl) (not_given _ _ refl) (not_given _ _ refl) refl)
+nothing_taken = (refl, means (codes "list") _ refl (not_given _ _ refl) (not_given _ _ refl) (not_given _ _ refl) refl refl refl refl)
 
 pebs_taken : Takes (of_list (codes "--pebs=32" ∷ codes "--start=64" ∷ codes "--bad=3" ∷ []))
 unfolding clap_on_literals tool
-pebs_taken = (refl, means (codes "list") _ refl (given _ _ (codes "3") refl refl) (not_given _ _ refl) (not_given _ _ refl) refl)
+pebs_taken = (refl, means (codes "list") _ refl (given _ _ (codes "3") refl refl) (not_given _ _ refl) (not_given _ _ refl) refl refl refl refl)
 
 oob_alone : Takes (of_list (codes "--oob=64" ∷ [])) → ⊥
 unfolding clap_on_literals tool
@@ -103,7 +108,8 @@ no_sizes : fault_of tool (codes "ubi_tool" ∷ codes "rename" ∷ codes "a.img" 
 unfolding clap_on_literals tool
 no_sizes = refl
 
-large_number : fault_of tool (words (codes "--page" ∷ codes "4294967296" ∷ [])) ≡ kind.ValueValidation ∷ []
+-- a number of eraseblocks that has no 32 bits is none for the command line
+large_number : fault_of tool (words (codes "--pebs" ∷ codes "4294967296" ∷ [])) ≡ kind.ValueValidation ∷ []
 unfolding clap_on_literals tool
 large_number = refl
 
@@ -119,16 +125,34 @@ help = refl
 options_taken : Takes (codes "ubi_tool" ∷ codes "list" ∷ codes "a.img" ∷ codes "--peb" ∷ codes "131072" ∷ codes "--page" ∷ codes "2048"
     ∷ codes "--vid" ∷ codes "2048" ∷ codes "--data" ∷ codes "4096" ∷ [])
 unfolding clap_on_literals tool
-options_taken = (refl, means (codes "list") _ refl (not_given _ _ refl) (not_given _ _ refl) (not_given _ _ refl) refl)
+options_taken = (refl, means (codes "list") _ refl (not_given _ _ refl) (not_given _ _ refl) (not_given _ _ refl) refl refl refl refl)
 
 -- a part of a file, with out-of-band bytes
 view_taken : Takes (words (codes "--page=64" ∷ codes "--start" ∷ codes "9223372036854775807" ∷ codes "--length=+00" ∷ codes "--oob=64" ∷ []))
 unfolding clap_on_literals tool
-view_taken = (refl, means (codes "list") _ refl (not_given _ _ refl) (not_given _ _ refl) (not_given _ _ refl) refl)
+view_taken = (refl, means (codes "list") _ refl (not_given _ _ refl) (not_given _ _ refl) (not_given _ _ refl) refl refl refl refl)
 
-far_start : fault_of tool (words (codes "--page=64" ∷ codes "--start" ∷ codes "9223372036854775808" ∷ [])) ≡ kind.ValueValidation ∷ []
+far_start : Takes (words (codes "--page=64" ∷ codes "--start" ∷ codes "9223372036854775808" ∷ [])) → ⊥
 unfolding clap_on_literals tool
-far_start = refl
+far_start takes = let far : false ≡ true = takes.1.part (codes "list") _ refl refl in true≢false (sym far)
+
+-- numbers of bytes with units, and in hexadecimal digits
+units_taken : Takes (of_list (codes "--peb=128KiB" ∷ codes "--page" ∷ codes "0x800" ∷ codes "--oob=64" ∷ codes "--start=4GiB" ∷ []))
+unfolding clap_on_literals tool unit_named
+units_taken = (refl, means (codes "list") _ refl (not_given _ _ refl) (not_given _ _ refl) (not_given _ _ refl) refl refl refl refl)
+
+-- a size that is too large, a word that is no number of bytes, and an empty one
+large_size : Takes (of_list (codes "--peb=4GiB" ∷ codes "--page=2KiB" ∷ [])) → ⊥
+unfolding clap_on_literals tool unit_named
+large_size takes = let large : false ≡ true = takes.1.sizes (codes "list") _ refl refl in true≢false (sym large)
+
+no_bytes : Takes (words (codes "--page=64" ∷ codes "--oob=1.5MiB" ∷ [])) → ⊥
+unfolding clap_on_literals tool unit_named
+no_bytes takes = let none : false ≡ true = takes.1.oob (codes "list") _ refl refl in true≢false (sym none)
+
+no_word_given : Takes (words (codes "--page=64" ∷ codes "--length=" ∷ [])) → ⊥
+unfolding clap_on_literals tool
+no_word_given takes = let none : false ≡ true = takes.1.part (codes "list") _ refl refl in true≢false (sym none)
 
 -- `geometry` takes the name of a file, and the part of it in which it looks
 abbrev of_geometry : List Text → List Text
@@ -136,11 +160,11 @@ of_geometry behind = codes "ubi_tool" ∷ codes "geometry" ∷ behind
 
 file_taken : Takes (of_geometry (codes "a.img" ∷ []))
 unfolding clap_on_literals tool
-file_taken = (refl, means (codes "geometry") _ refl (not_given _ _ refl) (not_given _ _ refl) (not_given _ _ refl) refl)
+file_taken = (refl, means (codes "geometry") _ refl (not_given _ _ refl) (not_given _ _ refl) (not_given _ _ refl) refl refl refl refl)
 
 part_taken : Takes (of_geometry (codes "a.img" ∷ codes "--start=512" ∷ codes "--length" ∷ codes "1024" ∷ []))
 unfolding clap_on_literals tool
-part_taken = (refl, means (codes "geometry") _ refl (not_given _ _ refl) (not_given _ _ refl) (not_given _ _ refl) refl)
+part_taken = (refl, means (codes "geometry") _ refl (not_given _ _ refl) (not_given _ _ refl) (not_given _ _ refl) refl refl refl refl)
 
 no_oob_taken : fault_of tool (of_geometry (codes "a.img" ∷ codes "--oob" ∷ codes "64" ∷ [])) ≡ kind.UnknownArgument ∷ []
 unfolding clap_on_literals tool
@@ -157,11 +181,11 @@ no_number_taken = refl
 -- the word of a format, and one that is none
 json_taken : Takes (of_geometry (codes "a.img" ∷ codes "--format" ∷ codes "json" ∷ []))
 unfolding clap_on_literals tool
-json_taken = (refl, means (codes "geometry") _ refl (not_given _ _ refl) (not_given _ _ refl) (given _ _ (codes "json") refl (inr refl)) refl)
+json_taken = (refl, means (codes "geometry") _ refl (not_given _ _ refl) (not_given _ _ refl) (given _ _ (codes "json") refl (inr refl)) refl refl refl refl)
 
 text_taken : Takes (of_list (codes "--format=text" ∷ []))
 unfolding clap_on_literals tool
-text_taken = (refl, means (codes "list") _ refl (not_given _ _ refl) (not_given _ _ refl) (given _ _ (codes "text") refl (inl refl)) refl)
+text_taken = (refl, means (codes "list") _ refl (not_given _ _ refl) (not_given _ _ refl) (given _ _ (codes "text") refl (inl refl)) refl refl refl refl)
 
 no_word : Takes (of_list (codes "--format=JSON" ∷ [])) → ⊥
 unfolding clap_on_literals tool

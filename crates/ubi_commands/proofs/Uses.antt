@@ -12,11 +12,10 @@ abbrev pub is_set : ArgAction → Bool
 is_set action.Set = true
 is_set _ = false
 
--- the names of the arguments that are numbers
+-- the names of the arguments that are numbers, and no texts for the command line
 abbrev pub is_number : Text → Bool
 is_number id = list_any (λ name. bytes_eq name id)
-    (codes "peb" ∷ codes "page" ∷ codes "vid" ∷ codes "data" ∷ codes "pebs" ∷ codes "oob" ∷ codes "block" ∷ codes "id" ∷ codes "spares"
-    ∷ codes "seq" ∷ codes "lnum" ∷ codes "stop" ∷ [])
+    (codes "pebs" ∷ codes "block" ∷ codes "id" ∷ codes "spares" ∷ codes "seq" ∷ codes "lnum" ∷ codes "stop" ∷ [])
 
 abbrev pub is_word : Option ValueParser → Bool
 is_word (Some (parser.Signed (pos low) (pos high))) = low == 0 && high == 4294967295

@@ -1,5 +1,5 @@
 -- Words that the command line takes are a request.
-use Rattle.ubi_commands.proofs.Prelude.{◌≡◌, ◌∙◌, ◌&&◌, ◌||◌, ◌∷◌, [], Bool, List, Some, ap, cond, false, refl, sym, subst, true, true≢false, ℕ, Bor, then_some, ForSome, is_some, option_and_then, option_map, slice_get, unwrap_or, find, list_all, bytes_eq, same_Some, bytes_eq-Decides, fault_of, level_fault, Shape, argument_words, label_of, subcommand_of, Row, Text, answers_to, first_of, nothing_held, rows_after, both, is_block_list, Asks, AsksAsked, AsksBlank, AsksDump, AsksNewImage, AsksNumbers, AsksPart, AsksPaths, AsksPlan, IsRequest, HasNumber, HasText, MayHaveNumber, MayHaveText, command_name, gives_word, gives_no_geometry, Mean, Takes, finds, plans, reads_dump, tool, Asked, Change, Dump, Extract, NewImage, Paths, Plan, Rename, Request, Sought, Numbers, FilePart, inl, inr, ◌⊎◌, AsksFormat, format_word, formats, Format}
+use Rattle.ubi_commands.proofs.Prelude.{◌≡◌, ◌∙◌, ◌&&◌, ◌||◌, ◌∷◌, [], Bool, List, Some, ap, cond, false, not, refl, sym, subst, true, true≢false, ℕ, Bor, then_some, ForSome, is_some, option_map, unwrap_or, find, list_all, list_any, bytes_eq, same_Some, bytes_eq-Decides, fault_of, level_fault, Shape, argument_words, label_of, subcommand_of, Row, Text, answers_to, first_of, nothing_held, rows_after, both, is_block_list, Asks, AsksAsked, AsksBlank, AsksDump, AsksNewImage, AsksNumbers, AsksPart, AsksPaths, AsksPlan, IsRequest, HasNumber, HasText, MayHaveNumber, MayHaveText, command_name, gives_word, gives_bytes, gives_no_geometry, most_bytes, takes_geometry, takes_part, Mean, Takes, finds, plans, reads_dump, tool, Asked, Change, Dump, Extract, NewImage, Paths, Plan, Rename, Request, Sought, Numbers, FilePart, inl, inr, ◌⊎◌, AsksFormat, format_word, formats, Format}
 use Rattle.std.proofs.Common.{None}
 use Rattle.std.proofs.Common.{Option, codes}
 use Rattle.ubi_commands.specs.declared.format.Format.TheVariants as told
@@ -9,7 +9,9 @@ use Rattle.ubi_commands.specs.declared.readers.Reading.TheVariants as reading
 use Rattle.ubi_commands.specs.declared.requests.Request.TheVariants as request
 use Rattle.ubi_commands.specs.declared.comparison.Comparison.TheVariants as comparison
 use Rattle.ubi_commands.proofs.GivenKey.{key_asked}
-use Rattle.ubi_commands.proofs.GivenWords.{found_row, long_in, needs, number_asked, number_in, number_in_row, text_asked}
+use Rattle.ubi_words.specs.Words.{most_number}
+use Rattle.ubi_commands.proofs.GivenBytes.{bytes_in, bytes_of_text}
+use Rattle.ubi_commands.proofs.GivenWords.{needs, number_asked, number_in, text_asked}
 use Rattle.ubi_commands.proofs.Uses.{is_number, takes_one}
 use Rattle.ubi_commands.proofs.Levels.{AreGiven, IsMet, leaf_given, met}
 
@@ -21,6 +23,16 @@ IsAsked name rows = (r : Request) × (command_name r ≡ name) × Asks rows r
 abbrev Needs : Shape → Text → Type 0
 Needs s id = needs s.rules id ≡ true
 
+-- a command that reads a dump takes a geometry and a part
+dump_takes : (name : Text) → reads_dump name ≡ true → (takes_geometry name ≡ true) × (takes_part name ≡ true)
+dump_takes name reads = go (bytes_eq name (codes "geometry")) refl
+  where
+    go : (b : Bool) → bytes_eq name (codes "geometry") ≡ b → (takes_geometry name ≡ true) × (takes_part name ≡ true)
+    go true is =
+        let bad : not (true || list_any (bytes_eq name) (codes "compose" ∷ codes "build" ∷ [])) ≡ true = rw is at reads in
+        absurd (true≢false (sym bad))
+    go false is = (ap not is, rw is at reads)
+
 module _ (s : Shape) (rows : List Row) (given : AreGiven s rows) where
   text : (id : Text) → Needs s id → (t : Bor Text) × HasText rows id t
   text id wants = text_asked s.rules rows id given.each given.needed wants
@@ -28,12 +40,18 @@ module _ (s : Shape) (rows : List Row) (given : AreGiven s rows) where
   number : (id : Text) → is_number id ≡ true → Needs s id → (n : ℕ) × HasNumber rows id n
   number id is wants = number_asked s.rules rows id given.each given.needed wants is
 
-  numbers : Needs s (codes "peb") → Needs s (codes "page") → (n : Numbers) × AsksNumbers rows n
-  numbers peb page =
-      let size = number (codes "peb") refl peb in
-      let page_size = number (codes "page") refl page in
-      let vid = number_in rows (codes "vid") in
-      let data_at = number_in rows (codes "data") in
+  -- the numbers of a geometry of which the two sizes are given
+  numbers_of : (name : Text) → takes_geometry name ≡ true → Mean (Some (name, rows)) → gives_word rows (codes "peb") ≡ true
+      → gives_word rows (codes "page") ≡ true → (n : Numbers) × AsksNumbers rows n
+  numbers_of name takes mean peb page =
+      let one = both (gives_bytes most_number rows (codes "peb")) _ (mean.sizes name rows refl takes) in
+      let two = both (gives_bytes most_number rows (codes "page")) _ one.1 in
+      let three = both (gives_bytes most_number rows (codes "vid")) _ two.1 in
+      let four = both (gives_bytes most_number rows (codes "data")) _ three.1 in
+      let size = bytes_of_text most_number rows (codes "peb") peb one.0 in
+      let page_size = bytes_of_text most_number rows (codes "page") page two.0 in
+      let vid = bytes_in most_number rows (codes "vid") three.0 in
+      let data_at = bytes_in most_number rows (codes "data") four.0 in
       let pebs = number_in rows (codes "pebs") in (
         record {
           peb_size = size.0;
@@ -45,6 +63,11 @@ module _ (s : Shape) (rows : List Row) (given : AreGiven s rows) where
         (size.1, page_size.1, vid.1, data_at.1, pebs.1),
       )
 
+  numbers : (name : Text) → takes_geometry name ≡ true → Mean (Some (name, rows)) → Needs s (codes "peb") → Needs s (codes "page")
+      → (n : Numbers) × AsksNumbers rows n
+  numbers name takes mean peb page =
+      numbers_of name takes mean (ap is_some (text (codes "peb") peb).1) (ap is_some (text (codes "page") page).1)
+
   -- a text that may be left out
   text_in : (id : Text) → (t : Option (Bor Text)) × MayHaveText rows id t
   text_in id = go (first_of id rows)
@@ -54,28 +77,31 @@ module _ (s : Shape) (rows : List Row) (given : AreGiven s rows) where
       go (Some t) = (Some (record { ref_ptr = (0, 0); now = t }), refl)
 
   -- the part of a file
-  part : (p : FilePart) × AsksPart rows p
-  part =
-      let start = long_in rows (codes "start") in
-      let len = long_in rows (codes "length") in
+  part : (name : Text) → takes_part name ≡ true → Mean (Some (name, rows)) → (p : FilePart) × AsksPart rows p
+  part name takes mean =
+      let one = both (gives_bytes most_bytes rows (codes "start")) _ (mean.part name rows refl takes) in
+      let two = both (gives_bytes most_bytes rows (codes "length")) _ one.1 in
+      let start = bytes_in most_bytes rows (codes "start") one.0 in
+      let len = bytes_in most_bytes rows (codes "length") two.0 in
       (record { start = unwrap_or start.0 0; length = len.0 }, (start.0, start.1, refl, len.1))
 
-  dump : (name : Text) → reads_dump name ≡ true → Mean (Some (name, rows)) → Needs s (codes "peb") → Needs s (codes "page")
+  -- a dump with these numbers
+  dump_of : (name : Text) → reads_dump name ≡ true → Mean (Some (name, rows)) → (n : Numbers) → AsksNumbers rows n
       → (d : Dump) × AsksDump rows d
-  dump name reads mean peb page =
-      let n = numbers peb page in
-      let oob = number_in rows (codes "oob") in
+  dump_of name reads mean n asks =
+      let p = part name (dump_takes name reads).1 mean in
+      let oob = bytes_in most_number rows (codes "oob") (mean.oob name rows refl reads) in
       let bad = text_in (codes "bad") in (
         record {
-          numbers = n.0;
-          part = part.0;
+          numbers = n;
+          part = p.0;
           oob = unwrap_or oob.0 0;
           bad = bad.0;
           counts_before = true;
         },
         (
-          n.1,
-          part.1,
+          asks,
+          p.1,
           (oob.0, oob.1, refl),
           bad.1,
           λ t is. mean.list name rows refl reads t.now (sym bad.1 ∙ ap (option_map (λ (x : Bor Text). x.now)) is),
@@ -83,14 +109,11 @@ module _ (s : Shape) (rows : List Row) (given : AreGiven s rows) where
         ),
       )
 
-  -- a number that is given
-  given_number : (id : Text) → is_number id ≡ true → gives_word rows id ≡ true → (n : ℕ) × HasNumber rows id n
-  given_number id is has = go (find (λ r. bytes_eq r.id id) rows) refl
-    where
-      go : (o : Option Row) → find (λ r. bytes_eq r.id id) rows ≡ o → (n : ℕ) × HasNumber rows id n
-      go (Some r) at = number_in_row rows id is (found_row id rows given.each r at)
-      go None at =
-          absurd (true≢false (sym has ∙ ap (λ (o : Option Row). is_some (option_and_then (λ (x : Row). slice_get x.values 0) o)) at))
+  dump : (name : Text) → reads_dump name ≡ true → Mean (Some (name, rows)) → Needs s (codes "peb") → Needs s (codes "page")
+      → (d : Dump) × AsksDump rows d
+  dump name reads mean peb page =
+      let n = numbers name (dump_takes name reads).0 mean peb page in
+      dump_of name reads mean n.0 n.1
 
   -- how a dump is read: by the sizes that are given, or by its headers
   asked_dump : (name : Text) → reads_dump name ≡ true → finds name ≡ true → Mean (Some (name, rows)) → (d : Asked) × AsksAsked rows d
@@ -110,28 +133,13 @@ module _ (s : Shape) (rows : List Row) (given : AreGiven s rows) where
           → (d : Asked) × AsksAsked rows d
       go true two h =
           let sizes = both _ _ two in
-          let peb = given_number (codes "peb") refl sizes.0 in
-          let page = given_number (codes "page") refl sizes.1 in
-          let vid = number_in rows (codes "vid") in
-          let data_at = number_in rows (codes "data") in
-          let oob = number_in rows (codes "oob") in
-          let dump : Dump = record {
-            numbers = record {
-              peb_size = peb.0;
-              page = page.0;
-              vid_offset = vid.0;
-              data_offset = data_at.0;
-              pebs = pebs.0;
-            };
-            part = part.0;
-            oob = unwrap_or oob.0 0;
-            bad = bad.0;
-            counts_before = true;
-          } in
-          (way.Given dump, ((peb.1, page.1, vid.1, data_at.1, pebs.1), part.1, (oob.0, oob.1, refl), bad.1, list, refl))
+          let n = numbers_of name (dump_takes name reads).0 mean sizes.0 sizes.1 in
+          let d = dump_of name reads mean n.0 n.1 in
+          (way.Given d.0, d.1)
       go false two h =
-          let sought : Sought = record { part = part.0; pebs = pebs.0; bad = bad.0 } in
-          (way.Sought sought, (h, (part.1, pebs.1, bad.1, list)))
+          let p = part name (dump_takes name reads).1 mean in
+          let sought : Sought = record { part = p.0; pebs = pebs.0; bad = bad.0 } in
+          (way.Sought sought, (h, (p.1, pebs.1, bad.1, list)))
 
   paths : Needs s (codes "IMAGE") → Needs s (codes "out") → (p : Paths) × AsksPaths rows p
   paths image out =
@@ -189,7 +197,8 @@ module _ (s : Shape) (rows : List Row) (given : AreGiven s rows) where
   geometry_asked mean image =
       let i = text (codes "IMAGE") image in
       let f = format (codes "geometry") refl mean in
-      (request.Geometry part.0 i.0 f.0, refl, (part.1, i.1, f.1))
+      let p = part (codes "geometry") refl mean in
+      (request.Geometry p.0 i.0 f.0, refl, (p.1, i.1, f.1))
 
   list_asked : Mean (Some (codes "list", rows)) → Needs s (codes "IMAGE") → IsAsked (codes "list") rows
   list_asked mean image =
@@ -236,17 +245,17 @@ module _ (s : Shape) (rows : List Row) (given : AreGiven s rows) where
       let p = paths image out in
       (request.Unpack n.0 p.0, refl, (n.1, p.1))
 
-  compose_asked : Needs s (codes "peb") → Needs s (codes "page") → Needs s (codes "SPEC") → Needs s (codes "out")
-      → IsAsked (codes "compose") rows
-  compose_asked peb page spec out =
-      let n = numbers peb page in
+  compose_asked : Mean (Some (codes "compose", rows)) → Needs s (codes "peb") → Needs s (codes "page") → Needs s (codes "SPEC")
+      → Needs s (codes "out") → IsAsked (codes "compose") rows
+  compose_asked mean peb page spec out =
+      let n = numbers (codes "compose") refl mean peb page in
       let new = new_image (codes "SPEC") spec out in
       (request.Compose n.0 new.0, refl, (n.1, new.1))
 
-  build_asked : Needs s (codes "peb") → Needs s (codes "page") → Needs s (codes "CONFIG") → Needs s (codes "out")
-      → IsAsked (codes "build") rows
-  build_asked peb page config out =
-      let n = numbers peb page in
+  build_asked : Mean (Some (codes "build", rows)) → Needs s (codes "peb") → Needs s (codes "page") → Needs s (codes "CONFIG")
+      → Needs s (codes "out") → IsAsked (codes "build") rows
+  build_asked mean peb page config out =
+      let n = numbers (codes "build") refl mean peb page in
       let new = new_image (codes "CONFIG") config out in
       (request.Build n.0 new.0, refl, (n.1, new.1))
 
@@ -357,8 +366,8 @@ each_asks =
     (also (asks_it _ refl refl refl (λ rows given mean. map_asked _ rows given mean refl))
     (also (asks_it _ refl refl refl (λ rows given mean. extract_asked _ rows given mean refl refl))
     (also (asks_it _ refl refl refl (λ rows given mean. unpack_asked _ rows given mean refl refl))
-    (also (asks_it _ refl refl refl (λ rows given mean. compose_asked _ rows given refl refl refl refl))
-    (also (asks_it _ refl refl refl (λ rows given mean. build_asked _ rows given refl refl refl refl))
+    (also (asks_it _ refl refl refl (λ rows given mean. compose_asked _ rows given mean refl refl refl refl))
+    (also (asks_it _ refl refl refl (λ rows given mean. build_asked _ rows given mean refl refl refl refl))
     (also (asks_it _ refl refl refl (λ rows given mean. normalise_asked _ rows given mean refl refl))
     (also (asks_it _ refl refl refl (λ rows given mean. same_asked _ rows given mean refl refl))
     (also (asks_it _ refl refl refl (λ rows given mean. diff_asked _ rows given mean refl refl))

@@ -2,10 +2,13 @@
 use Rattle.std.specs.Borrow.{Bor}
 use Rattle.std.specs.Bool.{then_some}
 use Rattle.std.specs.Option.{ForSome}
-use Rattle.std.specs.Prelude.{IsTrue, ◌≡◌, ◌↔◌, ◌<◌, ◌^◌, ◌&&◌, List, None, Option, Some, Bool, codes, is_some, not, option_map, true, unwrap_or, ℕ}
+use Rattle.std.specs.Prelude.{IsTrue, ◌≡◌, ◌↔◌, ◌<◌, ◌^◌, ◌&&◌, List, None, Option, Some, Bool, codes, is_some, not, option_and_then, option_map, true, unwrap_or, ℕ}
 use Rattle.std.specs.Str.Parse.{IsNumeral, digits_value, without_leading_plus}
 use Rattle.clap.specs.Walk.{Row, first_of, one_of}
 use Rattle.ubi_files.specs.BadBlocks.{is_block_list}
+use Rattle.ubi_config.specs.Words.{most_bytes}
+use Rattle.ubi_words.specs.Words.{most_number}
+use Rattle.ubi_commands.specs.ByteNumbers.{bytes_within}
 use Rattle.ubi_commands.specs.Formats.{format_word}
 use Rattle.ubi_commands.specs.declared.format.Format.{Format}
 use Rattle.ubi_commands.specs.declared.asked.Asked.{Asked}
@@ -31,52 +34,53 @@ HasText words name text = first_of name words ≡ Some text.now
 abbrev pub MayHaveText : List Row → List ℕ → Option (Bor (List ℕ)) → Type 0
 MayHaveText words name text = option_map (λ t. t.now) text ≡ first_of name words
 
--- the words give this number below a limit in decimal, where a plus may stand first
-abbrev pub HasBelow : ℕ → List Row → List ℕ → ℕ → Type 0
-HasBelow limit words name n = (digits : List ℕ)
-    × (option_map without_leading_plus (one_of name words) ≡ Some digits)
-    × IsNumeral 10 digits × (n ≡ digits_value 10 digits) × (n < limit)
-
--- this is the number below a limit that the words give, if they give one
-abbrev pub MayHaveBelow : ℕ → List Row → List ℕ → Option ℕ → Type 0
-MayHaveBelow limit words name number = (n : ℕ) → (number ≡ Some n) ↔ HasBelow limit words name n
-
--- the words give this number of 32 bits
+-- the words give this number of 32 bits in decimal, where a plus may stand first
 abbrev pub HasNumber : List Row → List ℕ → ℕ → Type 0
-HasNumber words name n = HasBelow (2 ^ 32) words name n
+HasNumber words name n = (digits : List ℕ)
+    × (option_map without_leading_plus (one_of name words) ≡ Some digits)
+    × IsNumeral 10 digits × (n ≡ digits_value 10 digits) × (n < 2 ^ 32)
 
 -- this is the number of 32 bits that the words give, if they give one
 abbrev pub MayHaveNumber : List Row → List ℕ → Option ℕ → Type 0
-MayHaveNumber words name number = MayHaveBelow (2 ^ 32) words name number
+MayHaveNumber words name number = (n : ℕ) → (number ≡ Some n) ↔ HasNumber words name n
 
 -- the words give this number of 32 bits; or they give none, and it is the default
 abbrev pub HasNumberOr : ℕ → List Row → List ℕ → ℕ → Type 0
 HasNumberOr default words name n = (number : Option ℕ) × MayHaveNumber words name number
     × (n ≡ unwrap_or number default)
 
--- this is the number of 64 bits that the words give, if they give one
-abbrev pub MayHaveLong : List Row → List ℕ → Option ℕ → Type 0
-MayHaveLong words name number = MayHaveBelow (2 ^ 64) words name number
+-- the words give this number of bytes, no more than the largest
+abbrev pub HasBytes : ℕ → List Row → List ℕ → ℕ → Type 0
+HasBytes largest words name n = option_and_then (bytes_within largest) (first_of name words) ≡ Some n
+
+-- this is the number of bytes that the words give, if they give anything; and then what they give is such a number
+abbrev pub MayHaveBytes : ℕ → List Row → List ℕ → Option ℕ → Type 0
+MayHaveBytes largest words name number = option_map (bytes_within largest) (first_of name words) ≡ option_map Some number
+
+-- the words give this number of bytes; or they give nothing, and it is the default
+abbrev pub HasBytesOr : ℕ → ℕ → List Row → List ℕ → ℕ → Type 0
+HasBytesOr default largest words name n = (number : Option ℕ) × MayHaveBytes largest words name number
+    × (n ≡ unwrap_or number default)
 
 -- the words give these numbers of a geometry
 abbrev pub AsksNumbers : List Row → Numbers → Type 0
-AsksNumbers words numbers = HasNumber words (codes "peb") numbers.peb_size
-    × HasNumber words (codes "page") numbers.page
-    × MayHaveNumber words (codes "vid") numbers.vid_offset
-    × MayHaveNumber words (codes "data") numbers.data_offset
+AsksNumbers words numbers = HasBytes most_number words (codes "peb") numbers.peb_size
+    × HasBytes most_number words (codes "page") numbers.page
+    × MayHaveBytes most_number words (codes "vid") numbers.vid_offset
+    × MayHaveBytes most_number words (codes "data") numbers.data_offset
     × MayHaveNumber words (codes "pebs") numbers.pebs
 
 -- the words give this part of a file: all of it from its beginning on, if they don't mention a part
 abbrev pub AsksPart : List Row → FilePart → Type 0
-AsksPart words part = (start : Option ℕ) × MayHaveLong words (codes "start") start × (part.start ≡ unwrap_or start 0)
-    × MayHaveLong words (codes "length") part.length
+AsksPart words part = (start : Option ℕ) × MayHaveBytes most_bytes words (codes "start") start × (part.start ≡ unwrap_or start 0)
+    × MayHaveBytes most_bytes words (codes "length") part.length
 
 -- the words give this dump: its numbers, its part of the file, how many out-of-band bytes a page has, which is none if they don't
 -- say, and the list of its bad eraseblocks, if there is one
 abbrev pub AsksDump : List Row → Dump → Type 0
 AsksDump words dump = AsksNumbers words dump.numbers
     × AsksPart words dump.part
-    × HasNumberOr 0 words (codes "oob") dump.oob
+    × HasBytesOr 0 most_number words (codes "oob") dump.oob
     × MayHaveText words (codes "bad") dump.bad
     × ForSome dump.bad (λ list. is_block_list list.now ≡ true)
     × IsTrue dump.counts_before

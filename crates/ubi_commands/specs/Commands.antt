@@ -259,8 +259,8 @@ abbrev pub IsRequest : Option (Text × List Row) → Request → Type 0
 IsRequest named r = (words : List Row) × (named ≡ Some (command_name r, words)) × Asks words r
 
 -- the command line takes the words, the program's name first: they have no fault, they ask for no help, those of `extract` name one
--- volume, what lists bad eraseblocks is a list, `--blank` has the word `keep`, a geometry is whole or left out, and `--format` has the
--- word `text` or `json`
+-- volume, what lists bad eraseblocks is a list, `--blank` has the word `keep`, a geometry is whole or left out, `--format` has the
+-- word `text` or `json`, and what is given for a number of bytes is one
 abbrev pub Takes : List Text → Type 0
 Takes words = (fault_of tool words ≡ []) × Mean (subcommand_of tool words)
 

@@ -1,5 +1,6 @@
 pub mod Build
 pub mod BuildLaws
+pub mod ByteNumbers
 pub mod Change
 pub mod Check
 pub mod CommandLine
@@ -19,6 +20,7 @@ pub mod Map
 pub mod Normalise
 pub mod PageLaws
 pub mod Plan
+pub mod PlanLaws
 pub mod Printed
 pub mod Program
 pub mod Reads
@@ -26,5 +28,6 @@ pub mod Rename
 pub mod Show
 pub mod Tool
 pub mod Unpack
+pub mod UntypedLaws
 pub mod FolderLaws
 pub mod inner

@@ -2,15 +2,22 @@
 
 ghost use Rattle.std.specs.Option.{ForSome};
 ghost use Rattle.std.specs.Prelude.{◌≡◌, ◌↔◌, IsTrue, true};
+ghost use Rattle.ubi_config.specs.Words.{most_bytes};
 ghost use Rattle.ubi_files.specs.BadBlocks.{is_block_list};
-ghost use Rattle.ubi_commands.specs.CommandLine.{AsksAsked, AsksBlank, AsksChange, AsksDump, AsksExtract, AsksFormat, AsksKey, AsksNewImage, AsksNumbers, AsksPart, AsksPaths, AsksPlan, AsksRename, AsksSought, HasNumber, HasText, MayHaveLong, MayHaveNumber, MayHaveText, gives_word, gives_no_geometry};
+ghost use Rattle.ubi_words.specs.Words.{most_number};
+ghost use Rattle.ubi_commands.specs.ByteNumbers.{bytes_within};
+ghost use Rattle.ubi_commands.specs.CommandLine.{AsksAsked, AsksBlank, AsksChange, AsksDump, AsksExtract, AsksFormat, AsksKey, AsksNewImage, AsksNumbers, AsksPart, AsksPaths, AsksPlan, AsksRename, AsksSought, HasBytes, HasNumber, HasText, MayHaveBytes, MayHaveNumber, MayHaveText, gives_word, gives_no_geometry};
 ghost use Rattle.ubi_commands.specs.inner.CommandLine.{IsOneOf};
 ghost use Rattle.ubi_commands.specs.inner.CommandLine.{words_in};
 
+use crate::byte_numbers::bytes_within;
 use crate::format::Format;
 use crate::volume_key::VolumeKey;
 use clap::ArgMatches;
 use ubi_files::{Dump, FilePart, Numbers, is_block_list};
+
+/// The last place in a file that an option can give, which has 63 bits.
+const MOST_BYTES: u64 = 0x7FFF_FFFF_FFFF_FFFF;
 
 /// The one word that `--blank` takes.
 const KEEP: &str = "keep";
@@ -204,8 +211,8 @@ pub fn format_of(matches: &ArgMatches<'_>) -> Option<Format>
     }
 }
 
-/// How a dump is read: as the words say, or if they give no geometry, as its own headers show. `None` if they give half a geometry, or
-/// if the list of its bad eraseblocks isn't a list.
+/// How a dump is read: as the words say, or if they give no geometry, as its own headers show. `None` if they give half a geometry, if
+/// the list of its bad eraseblocks isn't a list, or if what they give for a number of bytes isn't one.
 pub fn asked_of<'a>(matches: &'a ArgMatches<'_>) -> Option<Asked<'a>>
     ensures { IsOneOf (AsksAsked (words_in matches.now)) result }
 {
@@ -228,13 +235,14 @@ pub fn gives_no_geometry(matches: &ArgMatches<'_>) -> bool
 }
 
 /// Whether the words give anything under a name.
-fn gives(matches: &ArgMatches<'_>, name: &str) -> bool
+pub fn gives(matches: &ArgMatches<'_>, name: &str) -> bool
     ensures { result ≡ gives_word (words_in matches.now) name.now }
 {
     matches.get_str(name).is_some()
 }
 
-/// A dump without a geometry in the words. `None` if the list of its bad eraseblocks isn't a list.
+/// A dump without a geometry in the words. `None` if the list of its bad eraseblocks isn't a list, or if what they give for its part isn't
+/// a number of bytes.
 fn sought_of<'a>(matches: &'a ArgMatches<'_>) -> Option<Sought<'a>>
     ensures { IsOneOf (AsksSought (words_in matches.now)) result }
 {
@@ -243,13 +251,14 @@ fn sought_of<'a>(matches: &'a ArgMatches<'_>) -> Option<Sought<'a>>
         return None;
     }
     Some(Sought {
-        part: part_of(matches),
+        part: part_of(matches)?,
         pebs: number_of(matches, "pebs"),
         bad,
     })
 }
 
-/// A dump with its geometry in the words. `None` if the list of its bad eraseblocks isn't a list.
+/// A dump with its geometry in the words. `None` if they lack a size, if the list of its bad eraseblocks isn't a list, or if what they give
+/// for a number of bytes isn't one.
 pub fn dump_of<'a>(matches: &'a ArgMatches<'_>) -> Option<Dump<'a>>
     ensures { IsOneOf (AsksDump (words_in matches.now)) result }
 {
@@ -260,21 +269,21 @@ pub fn dump_of<'a>(matches: &'a ArgMatches<'_>) -> Option<Dump<'a>>
     }
     Some(Dump {
         numbers,
-        part: part_of(matches),
-        oob: number_of(matches, "oob").unwrap_or(0),
+        part: part_of(matches)?,
+        oob: may_size_of(matches, "oob")?.unwrap_or(0),
         bad,
         counts_before: true,
     })
 }
 
-/// The part of a file.
-pub fn part_of(matches: &ArgMatches<'_>) -> FilePart
-    ensures { AsksPart (words_in matches.now) result }
+/// The part of a file. `None` if what the words give for it isn't a number of bytes.
+pub fn part_of(matches: &ArgMatches<'_>) -> Option<FilePart>
+    ensures { IsOneOf (AsksPart (words_in matches.now)) result }
 {
-    FilePart {
-        start: long_of(matches, "start").unwrap_or(0),
-        length: long_of(matches, "length"),
-    }
+    Some(FilePart {
+        start: may_place_of(matches, "start")?.unwrap_or(0),
+        length: may_place_of(matches, "length")?,
+    })
 }
 
 /// Whether a word, if there is one, is a list of eraseblocks.
@@ -287,16 +296,25 @@ pub fn are_listed(word: Option<&str>) -> bool
     }
 }
 
+/// The numbers of a geometry. `None` if the words lack a size, or if what they give for a number of bytes isn't one.
 pub fn numbers_of(matches: &ArgMatches<'_>) -> Option<Numbers>
     ensures { IsOneOf (AsksNumbers (words_in matches.now)) result }
 {
     Some(Numbers {
-        peb_size: number_of(matches, "peb")?,
-        page: number_of(matches, "page")?,
-        vid_offset: number_of(matches, "vid"),
-        data_offset: number_of(matches, "data"),
+        peb_size: size_of(matches, "peb")?,
+        page: size_of(matches, "page")?,
+        vid_offset: may_size_of(matches, "vid")?,
+        data_offset: may_size_of(matches, "data")?,
         pebs: number_of(matches, "pebs"),
     })
+}
+
+/// Whether what the words give for numbers of bytes are such numbers.
+pub fn are_bytes(matches: &ArgMatches<'_>) -> bool {
+    let are_sizes = ["peb", "page", "vid", "data", "oob"]
+        .iter()
+        .all(|name| may_size_of(matches, name).is_some());
+    are_sizes && part_of(matches).is_some()
 }
 
 /// The text that a word gives.
@@ -321,9 +339,37 @@ pub fn number_of(matches: &ArgMatches<'_>, name: &str) -> Option<u32>
     matches.get_one::<u32>(name)
 }
 
-/// The place in a file that an option gives, or a number of its bytes.
-fn long_of(matches: &ArgMatches<'_>, name: &str) -> Option<u64>
-    ensures { MayHaveLong (words_in matches.now) name.now result }
+/// The number of bytes, of 32 bits, that a word stands for. `None` if it stands for none, or for a greater one.
+fn size_in(word: &str) -> Option<u32>
+    ensures { result ≡ bytes_within most_number word.now }
 {
-    matches.get_one::<u64>(name)
+    let bytes = bytes_within(u64::from(u32::MAX), word.as_bytes())?;
+    Some(bytes as u32)
+}
+
+/// The number of bytes, of 32 bits, that an option gives. `None` if it gives none.
+fn size_of(matches: &ArgMatches<'_>, name: &str) -> Option<u32>
+    ensures { IsOneOf (HasBytes most_number (words_in matches.now) name.now) result }
+{
+    size_in(may_text_of(matches, name)?)
+}
+
+/// The number of bytes, of 32 bits, that an option gives, if it is there. `None` if it is there and gives none.
+fn may_size_of(matches: &ArgMatches<'_>, name: &str) -> Option<Option<u32>>
+    ensures { IsOneOf (MayHaveBytes most_number (words_in matches.now) name.now) result }
+{
+    match may_text_of(matches, name) {
+        Some(word) => Some(Some(size_in(word)?)),
+        None => Some(None),
+    }
+}
+
+/// The place in a file that an option gives, or a number of its bytes, of 63 bits, if it is there. `None` if it is there and gives none.
+fn may_place_of(matches: &ArgMatches<'_>, name: &str) -> Option<Option<u64>>
+    ensures { IsOneOf (MayHaveBytes most_bytes (words_in matches.now) name.now) result }
+{
+    match may_text_of(matches, name) {
+        Some(word) => Some(Some(bytes_within(MOST_BYTES, word.as_bytes())?)),
+        None => Some(None),
+    }
 }

@@ -9,8 +9,7 @@ ghost use Rattle.ubi_commands.specs.Commands.{tool as whole};
 ghost use Rattle.ubi_commands.specs.inner.CommandLine.{bare_tool, command_row, rule, telling_tool, with_commands, with_rows};
 
 use self::Need::{Needed, Optional};
-use self::Takes::{Long, Measure, Number, Text, Word, WordFor};
-use clap::builder::ValueParser;
+use self::Takes::{Bytes, Count, Number, Size, Text, Word, WordFor};
 use clap::{Arg, Command, value_parser};
 use std::alloc::{AllocError, Global};
 
@@ -23,11 +22,17 @@ const ABOUT: &str = "Reads raw NAND dumps that hold UBI volumes";
 const EXAMPLES: &str = "Examples, for eraseblocks of 128 KiB with pages of 2 KiB:
   ubi_tool list dump.img
   ubi_tool extract dump.img --name rootfs --out rootfs.bin
-  ubi_tool list chip.img --peb 131072 --page 2048 --vid 512 --data 2048 --start 1048576
-  ubi_tool compose spec.txt --out new.img --peb 131072 --page 2048
+  ubi_tool list chip.img --peb 128KiB --page 2KiB --vid 512 --data 2KiB --start 1MiB
+  ubi_tool compose spec.txt --out new.img --peb 128KiB --page 2KiB
+
+A number of bytes may have a unit, KiB, MiB or GiB, as in 128KiB, or be hexadecimal,
+as in 0x20000.
 
 Exit status: 0 done; 1 refused, different, a file that fails, or out of memory;
 2 bad arguments, help, or an invalid geometry.";
+
+/// What stands above the options of a geometry in the help.
+const GEOMETRY: &str = "Geometry";
 
 /// A command.
 struct CommandRow {
@@ -147,42 +152,42 @@ const NEW_IMAGE: &[Argument] = &[OUT, SPARES, SEQ];
 /// What a plan does with its steps.
 const PLAN: &[Argument] = &[STOP, BLANK, PAGES];
 
-const PEB: Argument = Argument(Needed, "peb", Measure, "Eraseblock size in bytes");
+const PEB: Argument = Argument(Needed, "peb", Size, "Eraseblock size in bytes");
 
-const PAGE: Argument = Argument(Needed, "page", Measure, "Page size in bytes");
+const PAGE: Argument = Argument(Needed, "page", Size, "Page size in bytes");
 
 const FOUND_PEB: Argument = Argument(
     Optional,
     "peb",
-    Measure,
+    Size,
     "Eraseblock size in bytes [default: what the dump's headers say]",
 );
 
 const FOUND_PAGE: Argument = Argument(
     Optional,
     "page",
-    Measure,
+    Size,
     "Page size in bytes [default: what the dump's headers say]",
 );
 
 const VID: Argument = Argument(
     Optional,
     "vid",
-    Measure,
+    Size,
     "Offset of the VID header in an eraseblock [default: one page]",
 );
 
 const DATA: Argument = Argument(
     Optional,
     "data",
-    Measure,
+    Size,
     "Offset of the data in an eraseblock [default: two pages]",
 );
 
 const PEBS: Argument = Argument(
     Optional,
     "pebs",
-    Measure,
+    Count,
     "Number of eraseblocks of the device [default: 1048576]",
 );
 
@@ -191,21 +196,21 @@ const IMAGE: Argument = Argument(Needed, "IMAGE", Word, "Raw dump");
 const START: Argument = Argument(
     Optional,
     "start",
-    Long,
+    Bytes,
     "Offset of the image in the file in bytes [default: 0]",
 );
 
 const LENGTH: Argument = Argument(
     Optional,
     "length",
-    Long,
+    Bytes,
     "Length of the image in bytes [default: up to the end of the file]",
 );
 
 const OOB: Argument = Argument(
     Optional,
     "oob",
-    Number("N"),
+    Bytes,
     "Out-of-band bytes after each page [default: 0]",
 );
 
@@ -347,10 +352,12 @@ enum Takes {
     Text(&'static str),
     /// An option, and a number of 32 bits.
     Number(&'static str),
-    /// An option, and a place in a file or a number of its bytes: a number of 63 bits.
-    Long,
-    /// An option, and a number of the geometry, of 32 bits. The help lists these below the others.
-    Measure,
+    /// An option, and a number of bytes, which is a text here.
+    Bytes,
+    /// An option, and a number of bytes of the geometry. The help lists these below the others.
+    Size,
+    /// An option, and another number of the geometry, of 32 bits.
+    Count,
 }
 
 /// The whole command line. Reading words uses up a command line, so each call makes a new one.
@@ -441,12 +448,10 @@ fn arg_of<'a>(alloc: Global, row: &'static Argument) -> Arg<'a>
             .long(name)
             .value_name(called)
             .value_parser(value_parser!(u32)),
-        Long => arg
-            .long(name)
-            .value_name("N")
-            .value_parser(ValueParser::signed(0, i64::MAX)),
-        Measure => {
-            let arg = arg.long(name).value_name("N").help_heading("Geometry");
+        Bytes => arg.long(name).value_name("N"),
+        Size => arg.long(name).value_name("N").help_heading(GEOMETRY),
+        Count => {
+            let arg = arg.long(name).value_name("N").help_heading(GEOMETRY);
             arg.value_parser(value_parser!(u32))
         }
     }

@@ -5,6 +5,8 @@ ghost use Rattle.ubi_commands.specs.FolderLaws.{BuildsTheImage, FolderConfigRead
 ghost use Rattle.ubi_commands.specs.Headline.{Headline};
 ghost use Rattle.ubi_commands.specs.Laws.{ListsComposed, OneComposed};
 ghost use Rattle.ubi_commands.specs.PageLaws.{LeastTold};
+ghost use Rattle.ubi_commands.specs.PlanLaws.{LinesReadBack};
+ghost use Rattle.ubi_commands.specs.UntypedLaws.{UntypedIsTyped};
 
 /// Of accepted images of one geometry, two mean the same exactly if their normalised images are equal byte for byte;
 /// normalising keeps the meaning and twice is once; an image has at most one meaning; it is refused exactly where a stated
@@ -49,4 +51,15 @@ pub fn builds_the_image()
 /// for the page, and the same normal image.
 pub fn least_told()
     ensures { LeastTold }
+{}
+
+/// The printed lines of a plan, with the pages that its steps program, are read as its steps, line by line.
+pub fn lines_read_back()
+    ensures { LinesReadBack }
+{}
+
+/// With no number of a geometry typed, a command that reads one image answers what it answers with the numbers typed of what is found first
+/// in its file, which `geometry` prints first; or nothing is found there, or several images that are apart.
+pub fn untyped_is_typed()
+    ensures { UntypedIsTyped }
 {}

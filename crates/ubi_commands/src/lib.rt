@@ -7,6 +7,7 @@
 
 mod asked;
 mod build;
+mod byte_numbers;
 mod change;
 mod check;
 mod command_line;

@@ -1,9 +1,9 @@
 //! Printing what a command answered.
 
 ghost use Rattle.std.specs.Io.KnownBytes.{Appends};
-ghost use Rattle.std.specs.Prelude.{◌≡◌, ℕ, ◌<◌, IfOk, OnErr, OnOk, length, take};
+ghost use Rattle.std.specs.Prelude.{◌≡◌, ℕ, ◌<◌, IfOk, OnErr, OnOk, length, map, string_bytes, take};
 ghost use Rattle.std.specs.Result.{result_unwrap_or};
-ghost use Rattle.ubi_commands.specs.Printed.{IsReported, printed_text, status_of};
+ghost use Rattle.ubi_commands.specs.Printed.{IsReported, any_names_output, are_of_unpack, begins_with_stream, names_output, printed_text, status_of, writes_output};
 
 use std::alloc::AllocError;
 use std::io::Write;
@@ -94,16 +94,31 @@ pub fn report_aside<R: Eprint>(rt: &R, answer: &Result<Outcome, AllocError>) -> 
     status
 }
 
-/// Whether a word, with those behind it, names standard output for the file that is written.
-fn names_output(word: &str, behind: &[String]) -> bool {
-    word == OUT_STREAM || (word == OUT && !behind.is_empty() && behind[0].as_str() == STREAM)
+/// Whether the first of some words is the one for standard output.
+fn begins_with_stream(words: &[String]) -> bool
+    ensures { result ≡ begins_with_stream (map (λ word. string_bytes word) words.now) }
+{
+    !words.is_empty() && words[0].as_str() == STREAM
 }
 
-/// Whether words, the program's name first, name standard output for the file that is written. `unpack` writes a folder.
-pub fn writes_output(words: &[String]) -> bool {
-    if words.len() > 1 && words[1].as_str() == UNPACK {
-        return false;
-    }
+/// Whether a word, with those behind it, names standard output for the file that is written.
+fn names_output(word: &str, behind: &[String]) -> bool
+    ensures { result ≡ names_output word.now (map (λ word. string_bytes word) behind.now) }
+{
+    word == OUT_STREAM || (word == OUT && begins_with_stream(behind))
+}
+
+/// Whether words, the program's name first, are of `unpack`.
+fn are_of_unpack(words: &[String]) -> bool
+    ensures { result ≡ are_of_unpack (map (λ word. string_bytes word) words.now) }
+{
+    words.len() > 1 && words[1].as_str() == UNPACK
+}
+
+/// Whether one of some words names standard output for the file that is written.
+fn any_names_output(words: &[String]) -> bool
+    ensures { result ≡ any_names_output (map (λ word. string_bytes word) words.now) }
+{
     let mut rest = words;
     'words: while !rest.is_empty() {
         if names_output(rest[0].as_str(), &rest[1..]) {
@@ -112,4 +127,11 @@ pub fn writes_output(words: &[String]) -> bool {
         rest = &rest[1..];
     }
     false
+}
+
+/// Whether words, the program's name first, name standard output for the file that is written. `unpack` writes a folder.
+pub fn writes_output(words: &[String]) -> bool
+    ensures { result ≡ writes_output (map (λ word. string_bytes word) words.now) }
+{
+    !are_of_unpack(words) && any_names_output(words)
 }

@@ -8,9 +8,9 @@ ghost use Rattle.ubi_files.specs.Disk.{AllStay};
 ghost use Rattle.ubi_commands.specs.inner.CommandLine.{IsAskedBy, words_in};
 
 use crate::asked::{
-    Asked, Change, Extract, NewImage, Paths, Rename, are_listed, asked_of, blank_of, dump_of,
-    format_of, gives_no_geometry, leb_change, may_text_of, new_image, number_of, numbers_of,
-    part_of, paths_of, text_of, volume_extract, volume_rename,
+    Asked, Change, Extract, NewImage, Paths, Rename, are_bytes, are_listed, asked_of, blank_of,
+    dump_of, format_of, gives, gives_no_geometry, leb_change, may_text_of, new_image, number_of,
+    numbers_of, part_of, paths_of, text_of, volume_extract, volume_rename,
 };
 use crate::build::build_file;
 use crate::comparison::{Comparison, compare_files};
@@ -26,7 +26,18 @@ use clap::ArgMatches;
 use std::alloc::{AllocError, Global};
 use ubi_files::{Disk, Dump, FilePart, Numbers, Outcome};
 
-const ONE_VOLUME: &str = "error: either '--id <N>' or '--name <NAME>' names the volume, and not both
+const NO_VOLUME: &str = "error: either '--id <N>' or '--name <NAME>' has to be given
+
+For more information, try '--help'.
+";
+
+const TWO_VOLUMES: &str = "error: either '--id <N>' or '--name <NAME>' names the volume, and not both
+
+For more information, try '--help'.
+";
+
+const BAD_BYTES: &str =
+    "error: '--peb', '--page', '--vid', '--data' and '--oob' take a number of bytes below 4GiB, and '--start' and '--length' one below 2^63, as 131072, 128KiB or 0x20000
 
 For more information, try '--help'.
 ";
@@ -133,9 +144,11 @@ pub fn why_unasked(matches: &ArgMatches<'_>) -> &'static str {
         Some((_, words)) if !are_listed(words.get_str("bad")) => BAD_LIST,
         Some((_, words)) if blank_of(words).is_none() => BAD_BLANK,
         Some((_, words)) if format_of(words).is_none() => BAD_FORMAT,
+        Some((_, words)) if !are_bytes(words) => BAD_BYTES,
         Some((_, words)) if numbers_of(words).is_none() && !gives_no_geometry(words) =>
             HALF_GEOMETRY,
-        _ => ONE_VOLUME,
+        Some((_, words)) if gives(words, "id") && gives(words, "name") => TWO_VOLUMES,
+        _ => NO_VOLUME,
     }
 }
 
@@ -166,7 +179,7 @@ fn geometry_of<'a>(matches: &'a ArgMatches<'_>) -> Option<Request<'a>>
     ensures { IsOneOf (IsAskedBy (codes "geometry") (words_in matches.now)) result }
 {
     Some(Request::Geometry {
-        part: part_of(matches),
+        part: part_of(matches)?,
         image: text_of(matches, "IMAGE")?,
         format: format_of(matches)?,
     })

@@ -1,7 +1,8 @@
 //! The config of ubinize, an ini file. It has a section for each volume, which says what the volume is and which file
 //! holds its contents. What is read here means the same to ubinize; the rest is refused, with its line.
 //!
-//! [`parse_config`] gives the sections of a text, and [`Section::record`] the record of a section's volume.
+//! [`parse_config`] gives the sections of a text, and [`Section::record`] the record of a section's volume. [`digits_before`] and
+//! [`unit_named`] read a size with a unit, for those who take such sizes elsewhere.
 //!
 //! A caller, proved from the contracts alone (`crates/ubi_uses`):
 //!
@@ -40,4 +41,5 @@ pub use key::Key;
 pub use section::Section;
 pub use text::Text;
 pub use volume::{ConfigVolume, LeftOut};
+pub use words::{digits_before, unit_named};
 pub use written::write_config;

@@ -81,9 +81,9 @@ fn gap_before(rest: &[u8]) -> usize
     unit_place(rest).unwrap_or(rest.len())
 }
 
-/// How many bytes a unit is.
+/// How many bytes a unit is: `KiB`, `MiB` or `GiB`. `None` if it is none of these.
 #[tactic(auto, unfolding(crate::specs::Words::unit_named))]
-fn unit_named(name: &[u8]) -> Option<u64>
+pub fn unit_named(name: &[u8]) -> Option<u64>
     ensures { result ≡ unit_named name.now }
 {
     if name == b"KiB".as_slice() {
@@ -129,7 +129,7 @@ fn digits_place(word: &[u8]) -> Option<usize>
 
 /// How many decimal digits stand before the first byte that isn't one.
 #[tactic(auto, using(crate::proofs::FirstPlace::first_or_end))]
-fn digits_before(word: &[u8]) -> usize
+pub fn digits_before(word: &[u8]) -> usize
     ensures value { result ≡ position_or_len is_no_digit word.now }
     ensures within { result ≤ length word.now }
 {

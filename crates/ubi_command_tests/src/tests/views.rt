@@ -342,7 +342,7 @@ static WRONG: [&str; 17] = [
     "list a.img --start 1 --start 2",
     "list a.img --start 9223372036854775808",
     "list a.img --length 9223372036854775808",
-    "list a.img --length 0x10",
+    "list a.img --length 0x",
     "list a.img --length",
     "list a.img --oob 4294967296",
     "list a.img --oob 1.5",
@@ -362,6 +362,31 @@ fn takes_no_word_that_is_no_view(rt: HostRuntime) -> Result<(), Fail> {
     Ok(())
 }
 
+/// The numbers of a chip's dump as they may be written: the image begins 64 KiB into the file, and each page has 64 bytes after it.
+static SIZES: [&str; 5] = [
+    "--peb 131072 --page 2048 --vid 2048 --data 4096 --oob 64 --start 65536 --length 540672",
+    "--peb 128KiB --page 2KiB --vid 2KiB --data 4KiB --oob 64 --start 64KiB --length 528KiB",
+    "--peb 0x20000 --page 0x800 --vid 0x800 --data 0x1000 --oob 0x40 --start 0x10000 --length 0x84000",
+    "--peb=+0128KiB --page=+2KiB --oob=+064 --start 0x00010000 --length=0540672",
+    "--peb 0x0000000020000 --page 2048 --data 00004KiB --oob 64 --start +64KiB",
+];
+
+#[test]
+fn takes_numbers_of_bytes_with_units(rt: HostRuntime) -> Result<(), Fail> {
+    let alloc = rt.alloc();
+    let image = Contents::Chip(PAGES, 524_288).bytes(alloc)?;
+    let file = Lay(65_536, 64, 0).file(alloc, image.as_slice(), 2048)?;
+    let files: (&[u8], &[u8]) = (file.as_slice(), &[]);
+    let first = format!(in alloc; "list a.img --pebs 64 {}", SIZES[0])?;
+    let want = run_over(alloc, files, Broken::Nothing, first.as_str())?;
+    for words in SIZES {
+        let line = format!(in alloc; "list a.img --pebs 64 {words}")?;
+        let answer = run_over(alloc, files, Broken::Nothing, line.as_str())?;
+        assert!(rt; are_one(&answer, &want) && want.0.status == 0, "of {line}");
+    }
+    Ok(())
+}
+
 /// Numbers as they may be written.
 #[test]
 fn takes_numbers_with_a_plus_and_zeros(rt: HostRuntime) -> Result<(), Fail> {
@@ -374,6 +399,8 @@ fn takes_numbers_with_a_plus_and_zeros(rt: HostRuntime) -> Result<(), Fail> {
         "--start=+0 --length=+3584",
         "--start 0000 --length 0000000000000000000000000003584",
         "--oob=+00",
+        "--length 0xe00 --start 0x0",
+        "--peb 0x200 --page 0x40 --vid 0x40 --data 0x080",
     ] {
         let line = format!(in alloc; "check a.img {words}")?;
         let answer = run_over(alloc, files, Broken::Nothing, line.as_str())?;

@@ -30,10 +30,11 @@ fn assert_answers(
 }
 
 /// Lines that name no command or ask for help, with what is shown.
-static NO_COMMAND: [(&str, &str); 25] = [
+static NO_COMMAND: [(&str, &str); 26] = [
     ("", "requires a subcommand"),
     ("--help", "Usage: ubi_tool"),
     ("--help", "  ubi_tool list dump.img\n"),
+    ("--help", "A number of bytes may have a unit"),
     (
         "--help",
         "  geometry   Prints the geometry that the headers of a dump give and where the image lies, as options of the other commands\n",
@@ -75,7 +76,7 @@ static MISSING: [(&str, &str); 41] = [
     ("same a b --vid 64 --page 64", "are given together"),
     ("extract a --id 0 --out b --page 64", "are given together"),
     ("unpack a --out b --peb 512 --oob 3", "are given together"),
-    ("extract a --out b", "and not both"),
+    ("extract a --out b", "has to be given"),
     ("list a --bad x", "'--bad <LIST>'"),
     ("list a --bad x --peb 512", "'--bad <LIST>'"),
     ("compose a --out b --peb 512", "--page <N>"),
@@ -92,7 +93,10 @@ static MISSING: [(&str, &str); 41] = [
     ("compose a --peb 512 --page 64", "--out <FILE>"),
     ("compose --out b --peb 512 --page 64", "<SPEC>"),
     ("extract a --peb 512 --page 64 --out b", "--id <N>"),
-    ("extract a --peb 512 --page 64 --out b", "--name <NAME>"),
+    (
+        "extract a --peb 512 --page 64 --out b",
+        "'--name <NAME>' has to be given",
+    ),
     (
         "extract a --peb 512 --page 64 --id 0 --name a --out b",
         "and not both",
@@ -137,19 +141,17 @@ static MISSING: [(&str, &str); 41] = [
 ];
 
 /// Lines with words that can't be read.
-static UNREAD: [(&str, &str); 17] = [
+static UNREAD: [(&str, &str); 18] = [
     ("geometry a --peb 512", "unexpected argument '--peb'"),
     ("geometry a --page 64", "unexpected argument '--page'"),
     ("geometry a b", "unexpected argument 'b'"),
-    (
-        "normalise a --out b --peb 4294967296 --page 64",
-        "invalid value",
-    ),
+    ("normalise a --out b --pebs 4294967296", "invalid value"),
     (
         "normalise a --out b --peb -1 --page 64",
         "unexpected argument",
     ),
-    ("normalise a --out b --peb 512 --page x", "invalid value"),
+    ("normalise a --out b --pebs 1KiB", "invalid value"),
+    ("show a --block 0x1", "invalid value"),
     (
         "compose a --out b --spares x --peb 512 --page 64",
         "'--spares <N>'",
@@ -200,9 +202,52 @@ fn shows_what_is_wrong_missing_or_unread(rt: HostRuntime) -> Result<(), Fail> {
     Ok(())
 }
 
+/// Lines with words that are no numbers of bytes, or too large ones for their options.
+static NO_BYTES: [&str; 31] = [
+    "list a --peb 4294967296 --page 64",
+    "list a --peb 4GiB --page 64",
+    "list a --peb 512 --page 4294967296",
+    "list a --peb 512 --page 64 --vid 0x100000000",
+    "list a --peb 512 --page 64 --data 4194304KiB",
+    "list a --peb 512 --page 64 --oob 4096MiB",
+    "list a --start 9223372036854775808",
+    "list a --start 8589934592GiB",
+    "list a --length 0x8000000000000000",
+    "list a --length 99999999999999999999999999999999999999999999KiB",
+    "list a --start 0xfffffffffffffffffffffffffffffffffffffffff",
+    "check a --peb 0x --page 64",
+    "show a --block 0 --peb 512 --page KiB",
+    "map a --peb 512 --page 64 --vid 1.5MiB",
+    "unpack a --out b --peb 512 --page 64 --data=-1",
+    "normalise a --out b --peb 512 --page 64 --oob=",
+    "same a b --start 128kib",
+    "diff a b --length 0X10",
+    "geometry a --start +0x10",
+    "geometry a --length 0x10KiB",
+    "geometry a --start=-0",
+    "extract a --id 0 --out b --start 128K",
+    "extract a --id 0 --out b --length 1KiBs",
+    "compose a --out b --peb 512 --page 64x",
+    "compose a --out b --peb ++512 --page 64",
+    "build a --out b --peb 512 --page 64 --vid x",
+    "build a --out b --peb= --page 64",
+    "change a --peb 512 --page 64 --id 0 --lnum 0 --from b --out c --oob 0x4g",
+    "change a --peb 512 --page 64 --id 0 --lnum 0 --from b --out c --start 1TiB",
+    "rename a --peb 512 --page 64 --id 0 --name b --out c --data MiB1",
+    "list a --vid x",
+];
+
+#[test]
+fn takes_no_word_that_is_no_number_of_bytes(rt: HostRuntime) -> Result<(), Fail> {
+    for line in NO_BYTES {
+        assert_answers(&rt, rt.alloc(), line, ("", 2), "take a number of bytes")?;
+    }
+    Ok(())
+}
+
 /// Lines that are answered before any image is read, with the answers: of the numbers the first limit that they break,
 /// and of what is left out its default. A path that begins with a hyphen follows `--`.
-static ANSWERED: [(&str, &str, u8); 37] = [
+static ANSWERED: [(&str, &str, u8); 45] = [
     ("geometry a", "cannot read a\n", 1),
     ("geometry -- -a", "cannot read -a\n", 1),
     (
@@ -323,6 +368,38 @@ static ANSWERED: [(&str, &str, u8); 37] = [
     ),
     ("same a b", "cannot read a\n", 1),
     ("check --page 0064 --peb +512 a", "cannot read a\n", 1),
+    (
+        "list a --peb 128KiB --page 2KiB --vid 2KiB --data 4KiB",
+        "cannot read a\n",
+        1,
+    ),
+    (
+        "list a --peb 0x20000 --page 0x800 --vid 0x800 --data 0x1000",
+        "cannot read a\n",
+        1,
+    ),
+    (
+        "list a --peb 0xFFFFFFFF --page 64",
+        "refused G2 PebSize\n",
+        2,
+    ),
+    ("list a --peb 3GiB --page 64", "refused G2 PebSize\n", 2),
+    ("list a --peb 1KiB --page 65", "refused G1 Page\n", 2),
+    (
+        "check a --start 4GiB --length 0x7fffffffffffffff",
+        "cannot read a\n",
+        1,
+    ),
+    (
+        "geometry a --start 8589934591GiB --length +01MiB",
+        "cannot read a\n",
+        1,
+    ),
+    (
+        "list a --peb 512 --page 64 --oob 4294967295",
+        "cannot read a\n",
+        1,
+    ),
     ("check --peb 512 --page 64 -- -a", "cannot read -a\n", 1),
 ];
 

@@ -29,9 +29,9 @@ with_taken name (takes.WordFor called) r = record r { value_names = 1 }
 with_taken name (takes.Text called) r = record r { long = Some name; value_names = 1 }
 with_taken name (takes.Number called) r =
     record r { long = Some name; value_names = 1; parser = Some (parser.Signed (pos 0) (pos 4294967295)) }
-with_taken name takes.Long r =
-    record r { long = Some name; value_names = 1; parser = Some (parser.Signed (pos 0) (pos 9223372036854775807)) }
-with_taken name takes.Measure r =
+with_taken name takes.Bytes r = record r { long = Some name; value_names = 1 }
+with_taken name takes.Size r = record r { long = Some name; value_names = 1 }
+with_taken name takes.Count r =
     record r { long = Some name; value_names = 1; parser = Some (parser.Signed (pos 0) (pos 4294967295)) }
 
 -- the rule of an argument's row

@@ -4,7 +4,7 @@ use Rattle.ubi_commands.proofs.asked.number_of.Goals as goal
 
 pub returns-clause-whole : goal.returns-clause-whole
 returns-clause-whole c =
-    number_given _ (λ t r. ParsesUnsigned 32 10 t r × ExplainsUnsignedError 10 t r × HasUnsignedDigitsIfOk t r) 32
+    number_given _ (λ t r. ParsesUnsigned 32 10 t r × ExplainsUnsignedError 10 t r × HasUnsignedDigitsIfOk t r)
     (found_of c.args.matches.now) c.args.name.now c.get_one.result (λ t r gives. gives.0)
     c.get_one.ensures.none c.get_one.ensures.value
 
