@@ -3,7 +3,7 @@ use Rattle.ubi_map.proofs.blocks.block_text.Goals as goal
 
 pub returns-in_err-read_part-clause-named : goal.returns-in_err-read_part-clause-named
 returns-in_err-read_part-clause-named g c =
-    names_part c.args.geometry.now c.args.p 0 _ c.from_residual.result (omega (arith, c.if-prove.true)) (search rules) (search rules)
+    names_part c.args.geometry.now c.args.p 0 _ c.from_residual.result (omega (arith, c.if-prove.false)) (search rules) (search rules)
 
 pub returns-in_err-read_part-2-clause-named : goal.returns-in_err-read_part-2-clause-named
 returns-in_err-read_part-2-clause-named g c =
