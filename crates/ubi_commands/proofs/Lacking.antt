@@ -59,6 +59,7 @@ no_format name told rows none _ asked = other_test formats _ _ refl told asked.0
 
 pub no_part : (rows : List Row) → ((p : FilePart) → AsksPart rows p → ⊥) → (r : Request) → IsAskedBy (codes "geometry") rows r → ⊥
 no_part rows none (request.Geometry part image format) asked = none part asked.1.0
+no_part rows none (request.Tell d image (reading.Geometry part f)) asked = absurd asked.1.2
 no_part rows none (request.Tell d image (reading.List format)) asked = apart _ _ refl asked.0
 no_part rows none (request.Compare (comparison.Same format) d left right) asked = apart _ _ refl asked.0
 no_part rows none _ asked = apart _ _ refl asked.0

@@ -4,7 +4,8 @@ use Rattle.std.proofs.Common.{fold, rules}
 use Rattle.std.specs.Char.{is_ascii_digit}
 use Rattle.std.specs.List.{slice_split}
 use Rattle.std.specs.Prelude.{filter_map, option_map}
-use Rattle.std.proofs.lemmas.Fmt.{IsNumeralModel, digits_decimal, digits_value-decimal, numerals_by_fold}
+use Rattle.std.proofs.lemmas.Fmt.{digits_decimal, digits_value-decimal}
+use Rattle.std.proofs.lemmas.Str.Parse.{IsNumeralModel, numerals_by_fold}
 use Rattle.clap.proofs.CutLemmas.{Lacks, after_first-at, before_first-at, slice_split-at}
 use Rattle.ubi_words.specs.Words.{decimal_value, with_digit}
 use Rattle.ubi_change.specs.Fitting.{FitsBlock}
@@ -41,9 +42,9 @@ digits_apart c low (d ∷ ds) ys h rest =
     ∙ digits_apart c low ds ys (tail_true (is_ascii_digit d) (list_all is_ascii_digit ds) h) rest
 
 lacks : (c : ℕ) (xs : List ℕ) → apart c xs ≡ true → Lacks c xs
-lacks c [] h i within = absurd (omega arith)
+lacks c [] h i within same = absurd (omega arith)
 lacks c (x ∷ xs) h zero within same = let first = head_true (not (x == c)) (apart c xs) h in grind (arith, nat_tests)
-lacks c (x ∷ xs) h (suc i) within = lacks c xs (tail_true (not (x == c)) (apart c xs) h) i (omega arith)
+lacks c (x ∷ xs) h (suc i) within same = lacks c xs (tail_true (not (x == c)) (apart c xs) h) i (omega arith) same
 
 module _ (n : ℕ) (small : n < 2 ^ 64) where
   digits : list_all is_ascii_digit (decimal n) ≡ true
@@ -61,11 +62,19 @@ data IsSmall : Step → Type 0 where
   erase : {p : ℕ} → p < 2 ^ 64 → IsSmall (step.Erase p)
   program : {p page : ℕ} {bytes : List ℕ} → p < 2 ^ 64 → page < 2 ^ 64 → IsSmall (step.Program p page bytes)
 
+-- the words of a program, from their end on
+program_words : (p page : ℕ) (bytes : List ℕ)
+    → step_words (step.Program p page bytes) ≡ codes "program block=" ++ (decimal p ++ (codes " page=" ++ decimal page))
+program_words p page bytes =
+    append_assoc (codes "program block=" ++ decimal p) (codes " page=") (decimal page)
+    ∙ append_assoc (codes "program block=") (decimal p) (codes " page=" ++ decimal page)
+
 words_apart : (next : Step) → IsSmall next → apart 10 (step_words next) ≡ true
 words_apart (step.Erase p) (erase small) =
     ap (apart 10) (sym (append-nil (decimal p))) ∙ number_apart p small 10 (omega arith) [] refl
 words_apart (step.Program p page bytes) (program small few) =
-    number_apart p small 10 (omega arith) (codes " page=" ++ decimal page)
+    ap (apart 10) (program_words p page bytes)
+    ∙ number_apart p small 10 (omega arith) (codes " page=" ++ decimal page)
     (ap (apart 10) (sym (append-nil (decimal page))) ∙ number_apart page few 10 (omega arith) [] refl)
 
 line_read : (next : Step) → IsSmall next → step_of_line (step_words next) ≡ Some (line_of next)
@@ -73,7 +82,8 @@ line_read (step.Erase p) (erase small) = ap (λ n. Some (step.Erase n)) (value p
 line_read (step.Program p page bytes) (program small few) =
     let none = lacks 32 (decimal p) (ap (apart 32) (sym (append-nil (decimal p))) ∙ number_apart p small 32 (omega arith) [] refl) in
     let rest = codes "page=" ++ decimal page in
-    ap₂ (λ (front back : List ℕ). option_map (λ (number : List ℕ). step.Program (decimal_value front) (decimal_value number) []) (behind (codes "page=") back))
+    ap step_of_line (program_words p page bytes)
+    ∙ ap₂ (λ (front back : List ℕ). option_map (λ (number : List ℕ). step.Program (decimal_value front) (decimal_value number) []) (behind (codes "page=") back))
     (before_first-at 32 (decimal p) rest none) (after_first-at 32 (decimal p) rest none)
     ∙ ap₂ (λ (n k : ℕ). Some (step.Program n k [])) (value p small) (value page few)
 
@@ -95,7 +105,7 @@ small_within s n g few (step.Program p page bytes) inside fits =
 pub lines_read_back : LinesReadBack
 lines_read_back s n steps g few within many =
     ap (λ lines. with_pages s.page lines (programmed steps))
-    (ap (λ text. steps_read text) (sym (append_assoc (codes "steps ") (decimal (length steps)) (10 ∷ flat_map step_line steps)))
+    (ap (λ text. steps_read text) (append_assoc (codes "steps " ++ decimal (length steps)) (codes "\n") (flat_map step_line steps))
     ∙ ap (filter_map step_of_line) (slice_split-at 10 (codes "steps " ++ decimal (length steps)) (flat_map step_line steps)
     (lacks 10 (codes "steps " ++ decimal (length steps)) (ap (apart 10) (sym (append-nil (decimal (length steps)))) ∙ number_apart (length steps) many 10 (omega arith) [] refl)))
     ∙ lines_read steps (λ k next e. let h = within k next e in small_within s n g few next h.0 h.1))

@@ -67,7 +67,7 @@ module _ (d : Files) (path : List ℕ) (sought : Sought) where
 
   with_kept : (P : Detected → Type 0) (Q : Type 0) → Q → Either P → Either (λ told. P told × Q)
   with_kept P Q q (inl none) = inl none
-  with_kept P Q q (inr (told, first, p)) = inr (told, first, p, q)
+  with_kept P Q q (inr (told, first, p)) = inr (told, first, (p, q))
 
 pub untyped_is_typed : UntypedIsTyped
 untyped_is_typed d e (request.Tell dump image what) sought o = λ h. formatted d image.now sought (format_of what) e (reads what) o h
