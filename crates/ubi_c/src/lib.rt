@@ -13,7 +13,7 @@ ghost use Rattle.ubi_commands.specs.declared.comparison.Comparison.TheVariants a
 ghost use Rattle.ubi_commands.specs.declared.format.Format.TheVariants as format;
 ghost use Rattle.ubi_calls.specs.Calls.{Fills, FillsBoth, Streams, Under, printed};
 ghost use Rattle.ubi_calls.specs.Contents.{Normal, ReadsContents};
-ghost use Rattle.ubi_calls.specs.Edits.{PlansChange, PlansRename, avoided, image_without};
+ghost use Rattle.ubi_calls.specs.Edits.{PlansChange, PlansRename, image_without, spared};
 
 use std::alloc::Global;
 use ubi_calls::DeviceSizes;
@@ -159,7 +159,7 @@ pub extern "C" fn ubi_change(
     pages: &mut [u8],
     pages_len: &mut usize,
 ) -> u32
-    ensures { FillsBoth (λ programmed. Under sizes.now (λ s. PlansChange (image_without s bad.now image.now) (avoided s bad.now keep_blank) id lnum new.now programmed)) out.old out.new len.new pages.old pages.new pages_len.new result }
+    ensures { FillsBoth (λ programmed. Under sizes.now (λ s. PlansChange (image_without s bad.now image.now) (spared s bad.now keep_blank) id lnum new.now programmed)) out.old out.new len.new pages.old pages.new pages_len.new result }
 {
     ubi_calls::change(
         alloc, sizes, image, bad, keep_blank, id, lnum, new, out, len, pages, pages_len,
@@ -181,7 +181,7 @@ pub extern "C" fn ubi_rename(
     pages: &mut [u8],
     pages_len: &mut usize,
 ) -> u32
-    ensures { FillsBoth (λ programmed. Under sizes.now (λ s. PlansRename (image_without s bad.now image.now) (avoided s bad.now keep_blank) id name.now programmed)) out.old out.new len.new pages.old pages.new pages_len.new result }
+    ensures { FillsBoth (λ programmed. Under sizes.now (λ s. PlansRename (image_without s bad.now image.now) (spared s bad.now keep_blank) id name.now programmed)) out.old out.new len.new pages.old pages.new pages_len.new result }
 {
     ubi_calls::rename(
         alloc, sizes, image, bad, keep_blank, id, name, out, len, pages, pages_len,

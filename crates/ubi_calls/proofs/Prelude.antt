@@ -5,7 +5,7 @@ pub use Rattle.std.proofs.lemmas.List.{drop-drop, drop_all, get_or-drop, get_or-
 pub use Rattle.std.proofs.lemmas.Nat.{div-mul-add}
 pub use Rattle.std.proofs.lemmas.Result.{IfOk-at_ok, IfOk-weaker}
 pub use Rattle.std.proofs.lemmas.Slice.{drop-put_mid}
-pub use Rattle.std.specs.Prelude.{Err, IfErr, IfOk, None, Ok, Option, Result, if◌then◌else◌}
+pub use Rattle.std.specs.Prelude.{Err, IfErr, IfOk, None, Ok, Option, Result, if◌then◌else◌, slice_range}
 pub use Rattle.std.specs.declared.alloc.AllocError.{AllocError}
 pub use Rattle.ubi_change.specs.Avoided.{Avoided, IsNotBlank, ReadBlank}
 pub use Rattle.ubi_change.specs.Pages.{programmed}
@@ -19,21 +19,21 @@ pub use Rattle.ubi_commands.specs.Rename.{RenamesFrom}
 pub use Rattle.ubi_commands.specs.declared.volume_key.VolumeKey.TheVariants.{Id}
 unfoldable pub use Rattle.ubi_compose.specs.Normal.{normal_bytes}
 pub use Rattle.ubi_compose.specs.Streamed.{IsNormalisedTo}
-pub use Rattle.ubi_files.proofs.MaskedBytes.{get_or-masked, length-masked, masked_none}
+pub use Rattle.ubi_files.proofs.MaskedBytes.{get_or-masked, length-masked}
 pub use Rattle.ubi_files.specs.AfterRun.{after_run}
 pub use Rattle.ubi_files.specs.Answer.{Gives, says}
-pub use Rattle.ubi_files.specs.BadBlocks.{marks_by_number, masked}
+pub use Rattle.ubi_files.specs.BadBlocks.{masked}
 pub use Rattle.ubi_files.specs.Lines.{geometry_line}
 pub use Rattle.ubi_files.specs.Views.{whole_file}
 pub use Rattle.ubi_files.specs.declared.outcome.Outcome.{Outcome}
 pub use Rattle.ubi_files.specs.declared.outcome.ToolError.{ToolError}
-pub use Rattle.ubi_media.specs.Ec.{ec_reading}
+unfoldable pub use Rattle.ubi_media.specs.Ec.{ec_reading}
 pub use Rattle.ubi_media.specs.Fields.{blank}
 pub use Rattle.ubi_media.specs.Geometry.{IsGeometry, Sizes}
 unfoldable pub use Rattle.ubi_media.specs.Limits.{first_broken}
 pub use Rattle.ubi_media.specs.declared.geometry.GeometryError.{GeometryError}
-pub use Rattle.ubi_scan.proofs.InMemory.{still}
 pub use Rattle.ubi_scan.proofs.Chunks.{length-first_chunks}
+pub use Rattle.ubi_scan.proofs.InMemory.{still}
 pub use Rattle.ubi_scan.proofs.Parts.{blank_ec}
 pub use Rattle.ubi_scan.proofs.ReadParts.{part_of_block}
 pub use Rattle.ubi_scan.specs.Image.{Image, block, ec, image_of, of_blocks}
@@ -45,10 +45,10 @@ pub use Rattle.ubi_volume.specs.Places.{ArePlaces, ArePlacesOf, Placed}
 pub use Rattle.ubi_volume.specs.Reading.{read_volume, volume_len}
 pub use Rattle.ubi_calls.specs.Calls.{Fills, FillsBoth, MayTell, Streams, Under, bad_limit, both, ended, filled, named_sizes, neither, no_memory, printed, put_into, uncounted, under}
 pub use Rattle.ubi_calls.specs.Contents.{Normal, ReadsContents, no_normal, normal, read, refused, unread}
-pub use Rattle.ubi_calls.specs.Edits.{PlansChange, PlansRename, avoided, image_without}
+pub use Rattle.ubi_calls.specs.Edits.{PlansChange, PlansRename}
 pub use Rattle.ubi_calls.specs.declared.numbers.DeviceSizes.{DeviceSizes}
 pub use Rattle.ubi_calls.specs.declared.streams.Content.{Content}
 pub use Rattle.ubi_calls.specs.inner.Asking.{answers}
-pub use Rattle.ubi_calls.specs.inner.Editing.{HandsPlan, edit_plan, given_pages, spared_plan}
+pub use Rattle.ubi_calls.specs.inner.Editing.{HandsPlan, given_pages, spared_plan}
 pub use Rattle.ubi_calls.specs.inner.Handing.{HandsOver, Leaves}
 pub use Rattle.ubi_calls.specs.inner.Streaming.{IsUnwritten, Writes, said, wanted, wrote}

@@ -19,8 +19,8 @@ use Rattle.ubi_commands.specs.Plan.{plan_lines}
 use Rattle.ubi_commands.specs.Rename.{rename_line}
 
 -- what a plan for a chip avoids: its bad eraseblocks, by their numbers, and Blank ones if they are kept
-abbrev pub avoided : Sizes → List ℕ → Bool → Avoided
-avoided s bad keeps_blank = record { marks = marks_by_number s.pebs bad; blank = keeps_blank }
+abbrev pub spared : Sizes → List ℕ → Bool → Avoided
+spared s bad keeps_blank = record { marks = marks_by_number s.pebs bad; blank = keeps_blank }
 
 -- the image of these bytes, in which bad eraseblocks read 0xFF
 abbrev pub image_without : Sizes → List ℕ → List ℕ → Image

@@ -4,7 +4,7 @@ ghost use Rattle.std.specs.Prelude.{◌≡◌, ◌≢◌, [], IfErr, IfOk, Ok};
 ghost use Rattle.ubi_scan.specs.Image.{image_of, of_blocks};
 ghost use Rattle.ubi_change.specs.Avoided.{ReadBlank};
 ghost use Rattle.ubi_calls.specs.Calls.{FillsBoth, Under};
-ghost use Rattle.ubi_calls.specs.Edits.{PlansChange, PlansRename, avoided, image_without};
+ghost use Rattle.ubi_calls.specs.Edits.{PlansChange, PlansRename, image_without, spared};
 ghost use Rattle.ubi_calls.specs.inner.Editing.{HandsPlan, edit_plan, given_pages, spared_plan};
 
 use crate::answer::{NO_MEMORY, hand, limit_outcome, put_all};
@@ -258,7 +258,7 @@ pub fn change(
     pages: &mut [u8],
     pages_len: &mut usize,
 ) -> u32
-    ensures { FillsBoth (λ programmed. Under sizes.now (λ s. PlansChange (image_without s bad.now image.now) (avoided s bad.now keeps_blank) id lnum new.now programmed)) out.old out.new len.new pages.old pages.new pages_len.new result }
+    ensures { FillsBoth (λ programmed. Under sizes.now (λ s. PlansChange (image_without s bad.now image.now) (spared s bad.now keeps_blank) id lnum new.now programmed)) out.old out.new len.new pages.old pages.new pages_len.new result }
 {
     let edit = Edit::Change(NewBytes {
         id,
@@ -285,7 +285,7 @@ pub fn rename(
     pages: &mut [u8],
     pages_len: &mut usize,
 ) -> u32
-    ensures { FillsBoth (λ programmed. Under sizes.now (λ s. PlansRename (image_without s bad.now image.now) (avoided s bad.now keeps_blank) id word.now programmed)) out.old out.new len.new pages.old pages.new pages_len.new result }
+    ensures { FillsBoth (λ programmed. Under sizes.now (λ s. PlansRename (image_without s bad.now image.now) (spared s bad.now keeps_blank) id word.now programmed)) out.old out.new len.new pages.old pages.new pages_len.new result }
 {
     let spared = Spared { bad, keeps_blank };
     Edit::Rename(id, word).tell(alloc, sizes, image, &spared, out, len, pages, pages_len)

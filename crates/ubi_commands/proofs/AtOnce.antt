@@ -1,6 +1,5 @@
 -- How work ends whose output gets all of its bytes at once.
-use Rattle.ubi_commands.proofs.Prelude.{◌≡◌, ◌≢◌, ◌∙◌, ℕ, List, Bool, ap, if◌then◌else◌, refl, sym, subst, ForSome, IfSome, Option, codes, Gives, says, Files, Holds, OthersStay, Receives, Stays, full_of, fresh, file_line, WritesInto, WritesPlan, planned, written, Outcome, FinishesAtOnce, Replaces, both_written, no_first_pages, no_last_image, not_replaced, output_unwritten, pages_unwritten, replaced, undone, Plan, Some, Bor}
-use Rattle.std.proofs.Common.{None}
+use Rattle.ubi_commands.proofs.Prelude.{◌≡◌, ◌≢◌, ◌∙◌, ℕ, List, Bool, ap, if◌then◌else◌, refl, sym, subst, ForSome, IfSome, Option, codes, Gives, says, Files, Holds, OthersStay, Receives, Stays, full_of, fresh, file_line, WritesInto, WritesPlan, planned, written, Outcome, FinishesAtOnce, Replaces, both_written, no_first_pages, no_last_image, not_replaced, output_unwritten, pages_unwritten, replaced, undone, Plan, Some, Bor, None}
 use Rattle.ubi_commands.specs.Program.{unwritten}
 
 -- a file was given its bytes, or wasn't

@@ -1,5 +1,6 @@
 -- How a build into a file ends.
-use Rattle.ubi_commands.proofs.Prelude.{None, Agreed, All, AllByRecursion, AllStay, AllocError, Answers, AreAnswers, AreBesideOut, AreGathered, BuildError, Builds, BuildsParts, CanBuild, Contains, Err, Files, ForSome, HaveImage, HaveMeaning, IfErr, IfOk, IfSome, IsBuildError, IsKept, IsNotBegun, IsOk, IsSome, IsToldOf, IsUnreadLine, List, Ok, OnErr, Option, Outcome, Part, Parts, Result, Section, Sizes, Source, WhereNotBegun, Wrote, [], ap, arith, built, contents_of, crowded, first_config_fault, fresh, gathered, get_or, image_built, image_paths, inl, inr, known_after, known_by, length, numbered_parts, refl, row_bytes, sections_of, subst, suc, sym, unread, unwritten, zero, ℕ, ◌<◌, ◌∙◌, ◌∷◌, ◌≡◌, ◌⊎◌}
+use Rattle.ubi_commands.proofs.Prelude.{Agreed, All, AllByRecursion, AllStay, AllocError, Answers, AreAnswers, AreBesideOut, AreGathered, BuildError, Builds, BuildsParts, CanBuild, Contains, Err, Files, ForSome, HaveImage, HaveMeaning, IfErr, IfOk, IfSome, IsBuildError, IsKept, IsNotBegun, IsOk, IsSome, IsToldOf, IsUnreadLine, List, Ok, OnErr, Option, Outcome, Part, Parts, Result, Section, Sizes, Source, WhereNotBegun, Wrote, [], ap, arith, built, contents_of, crowded, first_config_fault, fresh, gathered, get_or, image_built, image_paths, inl, inr, known_after, known_by, length, numbered_parts, refl, row_bytes, sections_of, subst, suc, sym, unread, unwritten, zero, ℕ, ◌<◌, ◌∙◌, ◌∷◌, ◌≡◌, ◌⊎◌}
+use Rattle.std.specs.Prelude.{None}
 use Rattle.ubi_compose.specs.declared.errors.BuildError.TheVariants as build
 use Rattle.ubi_commands.proofs.Outcomes.{holds_received}
 

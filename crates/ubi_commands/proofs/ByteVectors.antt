@@ -1,8 +1,6 @@
 -- Numbers of bytes, on literals.
-use Rattle.ubi_commands.proofs.Prelude.{◌≡◌, Some, refl, byte_number, bytes_within, most_bytes, unit_named}
-use Rattle.std.proofs.Common.{None}
+use Rattle.ubi_commands.proofs.Prelude.{◌≡◌, Some, refl, byte_number, bytes_within, most_bytes, unit_named, None, most_number}
 use Rattle.std.proofs.Common.{codes}
-use Rattle.ubi_words.specs.Words.{most_number}
 
 -- ---- decimal digits
 

@@ -1,5 +1,6 @@
 -- The image after the first steps of a plan: what was written of it, and what it means.
-use Rattle.ubi_commands.proofs.Prelude.{◌≡◌, ℕ, zero, suc, ◌/◌, ◌<◌, ◌≤◌, List, [], ◌∷◌, length, take, arith, ap, sym, subst, ◌∙◌, Option, fold, if◌then◌else◌, slice_get, concat, take_all, IsGeometry, Sizes, AllWithin, blocks_after, after_text, step_done, Step, blocks-cut, length-cut, Image, IsWholeImage, IsWholeSize, eraseblocks, image_of, Agreed, Source, blocks_of, StreamError, AcceptsBlocks, Meant, First, IsWroteError, Wanted, Wrote, error_as, CutAccepts, IsCutAfter, cut_text, steps_done, nat_lt, None}
+use Rattle.ubi_commands.proofs.Prelude.{◌≡◌, ℕ, zero, suc, ◌/◌, ◌<◌, ◌≤◌, List, [], ◌∷◌, length, take, arith, ap, sym, subst, ◌∙◌, Option, fold, if◌then◌else◌, slice_get, concat, take_all, IsGeometry, Sizes, AllWithin, blocks_after, after_text, step_done, Step, blocks-cut, length-cut, Image, IsWholeImage, IsWholeSize, eraseblocks, image_of, Agreed, Source, blocks_of, StreamError, AcceptsBlocks, Meant, First, IsWroteError, Wanted, Wrote, error_as, CutAccepts, IsCutAfter, cut_text, steps_done, nat_lt}
+use Rattle.std.specs.Prelude.{None}
 use Rattle.std.specs.Prelude.{Some}
 use Rattle.ubi_scan.specs.declared.errors.StreamError.TheVariants as stream
 

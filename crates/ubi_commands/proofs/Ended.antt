@@ -1,5 +1,6 @@
 -- How work that reads a source, and perhaps writes a file meanwhile, ends.
-use Rattle.ubi_commands.proofs.Prelude.{◌≡◌, ℕ, List, ap, arith, refl, subst, sym, ◌∙◌, IfOk-at_ok, IfOk, IfSome, IsSome, Option, is_some, MatchResult, Result, Ok, Err, codes, AllocError, Sizes, first_broken, Agreed, Narrows, Source, holds, known_by, memory, IsTold, after_left, after_right, after_run, outcome, read_failed, Gives, says, IsEnded, IsUnreadSide, Works, answered, left_failed, no_read, no_source, no_write, right_failed, unopened, Files, IsJudgedOf, Fits, FitsWhole, seen, file_line, sizes_of, IsOpened, OpenImage, IsRead, IsUnseen, OfRead, OfReadDumps, Unread, OfFile, WhereRead, cannot_read, file, no_file, places, unreadable, whole, Dump, Outcome, SidesError, ToolError, None}
+use Rattle.ubi_commands.proofs.Prelude.{◌≡◌, ℕ, List, ap, arith, refl, subst, sym, ◌∙◌, IfOk-at_ok, IfOk, IfSome, IsSome, Option, is_some, MatchResult, Result, Ok, Err, codes, AllocError, Sizes, first_broken, Agreed, Narrows, Source, holds, known_by, memory, IsTold, after_left, after_right, after_run, outcome, read_failed, Gives, says, IsEnded, IsUnreadSide, Works, answered, left_failed, no_read, no_source, no_write, right_failed, unopened, Files, IsJudgedOf, Fits, FitsWhole, seen, file_line, sizes_of, IsOpened, OpenImage, IsRead, IsUnseen, OfRead, OfReadDumps, Unread, OfFile, WhereRead, cannot_read, file, no_file, places, unreadable, whole, Dump, Outcome, SidesError, ToolError}
+use Rattle.std.specs.Prelude.{None}
 use Rattle.std.specs.Prelude.{Bool, Some, true}
 use Rattle.ubi_commands.specs.inner.Ended.{done}
 use Rattle.ubi_files.specs.declared.open_image.OpenImage.TheVariants as image

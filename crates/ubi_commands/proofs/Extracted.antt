@@ -1,5 +1,6 @@
 -- What was extracted if the command did its work, or if a write failed.
-use Rattle.ubi_commands.proofs.Prelude.{◌≡◌, ℕ, List, ap, refl, length, sym, zero-add, ◌∙◌, subst, arith, IfErr-at_err, option_map_or, IfErr, IfOk, Option, Result, Ok, Err, result_map_both, Sizes, Image, image_of, Records, Meant, records_of, read_volume, volume_len, ReadError, take_all, Appends, Agreed, Source, WhereHeld, read_text, ArePlaces, Placed, All, First, NotAll, Wanted, Wrote, HasGot, Gives, says, Extracts, HasFirst, HasTextIn, IsExtractError, IsExtractFault, ReadsVolume, accepted, read, read_key, number_in, bytes_line, Outcome, ToolError, VolumeKey, None, HasVolumeText}
+use Rattle.ubi_commands.proofs.Prelude.{◌≡◌, ℕ, List, ap, refl, length, sym, zero-add, ◌∙◌, subst, arith, IfErr-at_err, option_map_or, IfErr, IfOk, Option, Result, Ok, Err, result_map_both, Sizes, Image, image_of, Records, Meant, records_of, read_volume, volume_len, ReadError, take_all, Appends, Agreed, Source, WhereHeld, read_text, ArePlaces, Placed, All, First, NotAll, Wanted, Wrote, HasGot, Gives, says, Extracts, HasFirst, HasTextIn, IsExtractError, IsExtractFault, ReadsVolume, accepted, read, read_key, number_in, bytes_line, Outcome, ToolError, VolumeKey, HasVolumeText}
+use Rattle.std.specs.Prelude.{None}
 use Rattle.std.specs.Prelude.{Some}
 use Rattle.ubi_volume.specs.declared.errors.ReadError.TheVariants as error
 use Rattle.ubi_commands.specs.Extract.{refused, unread}

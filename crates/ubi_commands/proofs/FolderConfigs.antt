@@ -1,5 +1,6 @@
 -- The volumes that the config of a folder describes.
-use Rattle.ubi_commands.proofs.Prelude.{None, All-map, AreRecords, List, Listed, ReadError, Records, Result, Sizes, [], all_described, ap, described, entries, get_or, length, listed_at, map-append, rec_fault, subst, take, take_more, ℕ, ◌++◌, ◌+◌, ◌<◌, ◌∙◌, ◌∷◌, ◌≡◌}
+use Rattle.ubi_commands.proofs.Prelude.{All-map, AreRecords, List, Listed, ReadError, Records, Result, Sizes, [], all_described, ap, described, entries, get_or, length, listed_at, map-append, rec_fault, subst, take, take_more, ℕ, ◌++◌, ◌+◌, ◌<◌, ◌∙◌, ◌∷◌, ◌≡◌}
+use Rattle.std.specs.Prelude.{None}
 use Rattle.std.specs.Prelude.{All}
 
 -- one volume more

@@ -1,5 +1,6 @@
 -- How a dump without a geometry in the words is found.
-use Rattle.ubi_commands.proofs.Prelude.{◌≡◌, ◌≢◌, ◌∙◌, ◌⊎◌, ◌∷◌, [], List, inl, inr, refl, subst, sym, ℕ, ForSome, IsSomeAnd, Err, IfErr, Ok, OnErr, Option, Result, codes, slice_index_or, first_broken, AreDetectedOf, AreImages, AreImagesBeside, Agreed, FilePart, Images, IsFalse, Narrows, WhereHeld, holds, is_split, memory, Detected, Gives, says, Files, file_line, sizes_of, IsToldFirst, IsUnseen, Tells, TellsNothing, cannot_read, unreadable, Works, answered, no_source, Unread, Outcome, Dump, Tells-weaker, None}
+use Rattle.ubi_commands.proofs.Prelude.{◌≡◌, ◌≢◌, ◌∙◌, ◌⊎◌, ◌∷◌, [], List, inl, inr, refl, subst, sym, ℕ, ForSome, IsSomeAnd, Err, IfErr, Ok, OnErr, Option, Result, codes, slice_index_or, first_broken, AreDetectedOf, AreImages, AreImagesBeside, Agreed, FilePart, Images, IsFalse, Narrows, WhereHeld, holds, is_split, memory, Detected, Gives, says, Files, file_line, sizes_of, IsToldFirst, IsUnseen, Tells, TellsNothing, cannot_read, unreadable, Works, answered, no_source, Unread, Outcome, Dump, Tells-weaker}
+use Rattle.std.specs.Prelude.{None}
 use Rattle.std.specs.Prelude.{Some}
 
 -- what is told where something fails is told of what is less

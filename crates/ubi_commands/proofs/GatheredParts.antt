@@ -1,5 +1,6 @@
 -- What the sections of a config give.
-use Rattle.ubi_commands.proofs.Prelude.{◌≡◌, ℕ, ◌+◌, ◌<◌, ◌^◌, List, [], ◌∷◌, ◌++◌, get_or, length, map, take, zero, suc, ap, arith, refl, subst, sym, ◌∙◌, map-append, take_more, filter_map-append, sum_by-append, AllByRecursion, cons_option, Contains, IfSome, MatchOption, Option, option_map, sum_by, unwrap_or, Sizes, Section, all_append, Part, AreBesideOut, ArePartsOf, IsNoVolume, IsSized, IsUngathered, IsUnreadLine, Sized, image_path, image_paths, len_of, section_part, Files, AreSoFar, IsFoundFile, Outcome, IsSectionPart, sum_cons, None, as_list}
+use Rattle.ubi_commands.proofs.Prelude.{◌≡◌, ℕ, ◌+◌, ◌<◌, ◌^◌, List, [], ◌∷◌, ◌++◌, get_or, length, map, take, zero, suc, ap, arith, refl, subst, sym, ◌∙◌, map-append, take_more, filter_map-append, sum_by-append, AllByRecursion, cons_option, Contains, IfSome, MatchOption, Option, option_map, sum_by, unwrap_or, Sizes, Section, all_append, Part, AreBesideOut, ArePartsOf, IsNoVolume, IsSized, IsUngathered, IsUnreadLine, Sized, image_path, image_paths, len_of, section_part, Files, AreSoFar, IsFoundFile, Outcome, IsSectionPart, sum_cons, as_list}
+use Rattle.std.specs.Prelude.{None}
 use Rattle.std.specs.Prelude.{◌≢◌, Some}
 
 -- an element stays in a longer list

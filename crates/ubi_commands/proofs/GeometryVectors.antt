@@ -1,6 +1,5 @@
 -- The lines of what is found in files, and of why nothing is, on literals.
-use Rattle.ubi_commands.proofs.Prelude.{◌≡◌, [], ◌∷◌, Some, refl, digits, Sizes, first_broken, options, options_lines, sizes_options, undetected_line, greatest_numbers, whole_file}
-use Rattle.std.proofs.Common.{None}
+use Rattle.ubi_commands.proofs.Prelude.{◌≡◌, [], ◌∷◌, Some, refl, digits, Sizes, first_broken, options, options_lines, sizes_options, undetected_line, greatest_numbers, whole_file, None}
 use Rattle.std.proofs.Common.{codes}
 use Rattle.ubi_detect.specs.declared.detect.Undetected.TheVariants as cause
 use Rattle.ubi_files.specs.Numbers as numbers

@@ -1,7 +1,5 @@
 -- Numbers of bytes that the words of a command give.
-use Rattle.ubi_commands.proofs.Prelude.{◌≡◌, ◌&&◌, ◌∷◌, [], Bool, List, Some, ap, false, not, refl, sym, true, true≢false, ℕ, is_some, list_all, option_and_then, option_map, option_map_or, same_Some, both, Row, Text, first_of, bytes_within, most_bytes, AsksNumbers, AsksPart, HasBytes, MayHaveBytes, FilePart, Numbers, gives_bytes, gives_no_geometry, gives_part, gives_sizes, gives_word}
-use Rattle.ubi_words.specs.Words.{most_number}
-use Rattle.std.proofs.Common.{None}
+use Rattle.ubi_commands.proofs.Prelude.{◌≡◌, ◌&&◌, ◌∷◌, [], Bool, List, Some, ap, false, not, refl, sym, true, true≢false, ℕ, is_some, list_all, option_and_then, option_map, option_map_or, same_Some, both, Row, Text, first_of, bytes_within, most_bytes, AsksNumbers, AsksPart, HasBytes, MayHaveBytes, FilePart, Numbers, gives_bytes, gives_no_geometry, gives_part, gives_sizes, gives_word, most_number, None}
 use Rattle.std.proofs.Common.{Option, codes}
 
 module _ (largest : ℕ) (rows : List Row) (id : Text) where
@@ -99,7 +97,7 @@ no_geometry_passes rows none =
     let vid = both _ _ data_at.0 in
     let sizes = both _ _ vid.0 in (
       each_of_four (gives_bytes most_number rows) (codes "peb") (codes "page") (codes "vid") (codes "data")
-      (nothing_passes most_number rows (codes "peb") sizes.0) (nothing_passes most_number rows (codes "page") sizes.1)
-      (nothing_passes most_number rows (codes "vid") vid.1) (nothing_passes most_number rows (codes "data") data_at.1),
+          (nothing_passes most_number rows (codes "peb") sizes.0) (nothing_passes most_number rows (codes "page") sizes.1)
+          (nothing_passes most_number rows (codes "vid") vid.1) (nothing_passes most_number rows (codes "data") data_at.1),
       nothing_passes most_number rows (codes "oob") oob.1,
     )

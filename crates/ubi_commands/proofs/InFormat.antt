@@ -1,5 +1,6 @@
 -- What is answered in a format for work over a file, or over two.
-use Rattle.ubi_commands.proofs.Prelude.{◌≡◌, ◌∙◌, ap, List, Result, Ok, Err, IfOk, IfErr, IfSome, AllocError, IfOk-at_ok, inl, inr, subst, sym, ℕ, ◌⊎◌, first_broken, Narrows, holds, known_by, memory, after_run, IsJudgedOf, Fits, FitsWhole, seen, sizes_of, IsRead, ToolError, Sizes, Agreed, Source, Files, IsUnseen, file, no_file, places, whole, Tells, Dump, Unread, Outcome, IsUnreadOfAsked, IsUnreadOfBoth, OfAskedIn, OfBoth, OfBothIn, OfReadBoth, WhereRead, alike, no_left, no_right, unlike, OfFileIn, OfRead, OfReadAsked, failed, OfAsked, of_dump, untold, Asked, Format, IsLineIn, IsToldIn, its_own, printed, None}
+use Rattle.ubi_commands.proofs.Prelude.{◌≡◌, ◌∙◌, ap, List, Result, Ok, Err, IfOk, IfErr, IfSome, AllocError, IfOk-at_ok, inl, inr, subst, sym, ℕ, ◌⊎◌, first_broken, Narrows, holds, known_by, memory, after_run, IsJudgedOf, Fits, FitsWhole, seen, sizes_of, IsRead, ToolError, Sizes, Agreed, Source, Files, IsUnseen, file, no_file, places, whole, Tells, Dump, Unread, Outcome, IsUnreadOfAsked, IsUnreadOfBoth, OfAskedIn, OfBoth, OfBothIn, OfReadBoth, WhereRead, alike, no_left, no_right, unlike, OfFileIn, OfRead, OfReadAsked, failed, OfAsked, of_dump, untold, Asked, Format, IsLineIn, IsToldIn, its_own, printed}
+use Rattle.std.specs.Prelude.{None}
 use Rattle.ubi_commands.proofs.Ended.{OfFile-weaker, read_at_places, read_by_bytes}
 use Rattle.ubi_commands.specs.InFormat.{answered}
 use Rattle.ubi_commands.specs.declared.format.Format.TheVariants as way

@@ -1,5 +1,6 @@
 -- How work that reads a source, and writes a file meanwhile, ends.
-use Rattle.ubi_commands.proofs.Prelude.{◌≡◌, ◌≢◌, ℕ, List, ap, refl, subst, sym, ◌∙◌, IfOk-at_ok, ForSome, IfOk, IsSome, MatchResult, OnErr, Option, Result, Ok, Err, codes, is_some, AllocError, Source, WhereNotDone, after_run, Gives, says, AllStay, Files, Holds, IsKept, IsLeft, fresh, IsEnded, Works, contents_of, file_line, WritesInto, Outcome, ToolError, None}
+use Rattle.ubi_commands.proofs.Prelude.{◌≡◌, ◌≢◌, ℕ, List, ap, refl, subst, sym, ◌∙◌, IfOk-at_ok, ForSome, IfOk, IsSome, MatchResult, OnErr, Option, Result, Ok, Err, codes, is_some, AllocError, Source, WhereNotDone, after_run, Gives, says, AllStay, Files, Holds, IsKept, IsLeft, fresh, IsEnded, Works, contents_of, file_line, WritesInto, Outcome, ToolError}
+use Rattle.std.specs.Prelude.{None}
 use Rattle.std.specs.Prelude.{Some, true}
 use Rattle.ubi_commands.specs.Program as program
 use Rattle.ubi_files.specs.declared.outcome.ToolError.TheVariants as tool

@@ -1,5 +1,6 @@
 -- What is kept of a file that was read whole to find how it is read.
-use Rattle.ubi_commands.proofs.Prelude.{◌≡◌, ◌∙◌, ℕ, ◌+◌, ◌-◌, ◌*◌, ◌≤◌, Bool, List, ap, arith, drop, false, length, refl, take, true, ltb-false, drop-drop, drop-take, length-drop, length-take, take-take, option_map_or, IfSome, Option, option_map, unwrap_or, Sizes, seen_of, holds, Detected, Files, IsJudgedOf, FitsWhole, as_read, greatest_dump, misfit_of, seen, told_dump, viewed, whole_len, sizes_of, IsToldFirst, misfit, part_of, Sought, FilePart, masked_none, pages_none, None, IsPartOf}
+use Rattle.ubi_commands.proofs.Prelude.{◌≡◌, ◌∙◌, ℕ, ◌+◌, ◌-◌, ◌*◌, ◌≤◌, Bool, List, ap, arith, drop, false, length, refl, take, true, ltb-false, drop-drop, drop-take, length-drop, length-take, take-take, option_map_or, IfSome, Option, option_map, unwrap_or, Sizes, seen_of, holds, Detected, Files, IsJudgedOf, FitsWhole, as_read, greatest_dump, misfit_of, seen, told_dump, viewed, whole_len, sizes_of, IsToldFirst, misfit, part_of, Sought, FilePart, masked_none, pages_none, IsPartOf}
+use Rattle.std.specs.Prelude.{None}
 use Rattle.std.proofs.Common.{if◌then◌else◌}
 use Rattle.std.specs.Prelude.{Some}
 use Rattle.ubi_commands.proofs.ToldPlaces.{told_inside}

@@ -1,20 +1,7 @@
 -- The printed lines of a plan are read as its steps.
-use Rattle.ubi_commands.proofs.Prelude.{◌≡◌, ◌∙◌, ◌==◌, ◌&&◌, ◌<◌, ◌≤◌, ◌^◌, ℕ, zero, suc, Bool, true, false, not, List, [], ◌∷◌, ◌++◌, Some, ap, ap₂, append-nil, append_assoc, arith, codes, decimal, flat_map, length, list_all, map, nat_tests, refl, slice_get, sym, IsGeometry, Sizes, AllWithin, programmed, Step, plan_lines, step_line}
-use Rattle.std.proofs.Common.{fold, rules}
-use Rattle.std.specs.Char.{is_ascii_digit}
-use Rattle.std.specs.List.{slice_split}
-use Rattle.std.specs.Prelude.{filter_map, option_map}
-use Rattle.std.proofs.lemmas.Fmt.{digits_decimal, digits_value-decimal}
-use Rattle.std.proofs.lemmas.Str.Parse.{IsNumeralModel, numerals_by_fold}
-use Rattle.clap.proofs.CutLemmas.{Lacks, after_first-at, before_first-at, slice_split-at}
-use Rattle.ubi_words.specs.Words.{decimal_value, with_digit}
-use Rattle.ubi_change.specs.Fitting.{FitsBlock}
-use Rattle.ubi_change.specs.Pages.{line_of, with_pages}
-use Rattle.ubi_change.specs.Steps.{target}
+use Rattle.ubi_commands.proofs.Prelude.{◌≡◌, ◌∙◌, ◌==◌, ◌&&◌, ◌<◌, ◌≤◌, ◌^◌, ℕ, zero, suc, Bool, true, false, not, List, [], ◌∷◌, ◌++◌, Some, ap, ap₂, append-nil, append_assoc, arith, codes, decimal, flat_map, length, list_all, map, nat_tests, refl, slice_get, sym, IsGeometry, Sizes, programmed, Step, step_line, rules, is_ascii_digit, slice_split, filter_map, option_map, digits_decimal, digits_value-decimal, IsNumeralModel, numerals_by_fold, Lacks, after_first-at, before_first-at, slice_split-at, decimal_value, with_digit, FitsBlock, line_of, with_pages, target, rebuilt_within, step_words, LinesReadBack, behind, step_of_line, steps_read}
+use Rattle.std.proofs.Common.{fold}
 use Rattle.ubi_change.specs.declared.step.Step.TheVariants as step
-use Rattle.ubi_change.proofs.Carried.{rebuilt_within}
-use Rattle.ubi_commands.specs.Plan.{step_words}
-use Rattle.ubi_commands.specs.PlanLaws.{LinesReadBack, behind, step_of_line, steps_read}
 
 -- ---- the digits of a number
 own : IsNumeralModel (λ ds. list_all is_ascii_digit ds ≡ true) decimal_value

@@ -1,5 +1,6 @@
 -- The lines of the volumes of an image, by their places.
-use Rattle.ubi_commands.proofs.Prelude.{◌≡◌, ℕ, ◌+◌, ◌<◌, List, [], ◌∷◌, ◌++◌, length, take, get_or, append-nil, append_assoc, ap, sym, ◌∙◌, arith, codes, decimal, flat_map, flat_map-append, take_all, take_more, Sizes, VolumeRecord, image_of, AmountIs, ArePlaces, Placed, Amount, Volume, count, volume_at, list_lines, record_line, sizes_line, volume_line, map, subst, suc, zero, map-append, All-append, rec_fault, json_line, list_data, listed_data, listed_volume, ListedVolume, None}
+use Rattle.ubi_commands.proofs.Prelude.{◌≡◌, ℕ, ◌+◌, ◌<◌, List, [], ◌∷◌, ◌++◌, length, take, get_or, append-nil, append_assoc, ap, sym, ◌∙◌, arith, codes, decimal, flat_map, flat_map-append, take_all, take_more, Sizes, VolumeRecord, image_of, AmountIs, ArePlaces, Placed, Amount, Volume, count, volume_at, list_lines, record_line, sizes_line, volume_line, map, subst, suc, zero, map-append, All-append, rec_fault, json_line, list_data, listed_data, listed_volume, ListedVolume}
+use Rattle.std.specs.Prelude.{None}
 use Rattle.std.specs.FinMap as finite
 use Rattle.std.specs.Prelude.{All}
 use Rattle.ubi_volume.specs.declared.content.Content.TheVariants as content

@@ -1,5 +1,6 @@
 -- What lies where in a source, whatever it may hold.
-use Rattle.ubi_commands.proofs.Prelude.{◌≡◌, ◌∙◌, ℕ, ◌++◌, List, None, Some, ap, inl, inr, map, subst, sym, length, Sizes, Refusal, IsLengthFault, IsWholeSize, image_of, Agreed, IsSource, Source, Narrows, blocks_in, blocks_of, Gives, says, refusal_line, Outcome, refuses, Files, WritesFile, kept, lost, entries, survey_narrowed, Refuses, ArePlacesError, IsSurvey, Seen, listed_volume, ListedVolume, header_letters, rows, block_texts, refused_page_data, surveyed_data, page_of, IsPageOf, Maps, MapsFrom, PicturesInto, accepted_page, mapped_from, no_blocks, no_blocks_from, no_page, pictured, refused_map, refused_map_from, refused_page, unpictured, IsPageBy, by_cause, by_meaning}
+use Rattle.ubi_commands.proofs.Prelude.{◌≡◌, ◌∙◌, ℕ, ◌++◌, List, Some, ap, inl, inr, map, subst, sym, length, Sizes, Refusal, IsLengthFault, IsWholeSize, image_of, Agreed, IsSource, Source, Narrows, blocks_in, blocks_of, Gives, says, refusal_line, Outcome, refuses, Files, WritesFile, kept, lost, entries, survey_narrowed, Refuses, ArePlacesError, IsSurvey, Seen, listed_volume, ListedVolume, header_letters, rows, block_texts, refused_page_data, surveyed_data, page_of, IsPageOf, Maps, MapsFrom, PicturesInto, accepted_page, mapped_from, no_blocks, no_blocks_from, no_page, pictured, refused_map, refused_map_from, refused_page, unpictured, IsPageBy, by_cause, by_meaning}
+use Rattle.std.specs.Prelude.{None}
 use Rattle.ubi_scan.specs.declared.errors.StreamError.TheVariants as stream
 use Rattle.ubi_commands.proofs.ShownLines.{count, whole}
 

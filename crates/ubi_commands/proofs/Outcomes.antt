@@ -1,6 +1,6 @@
 -- What outcomes say.
-use Rattle.ubi_commands.proofs.Prelude.{AllocError, Appends, ComesTo, Composes, ComposesInto, ComposesOf, Err, Files, ForSome, Global, HasRoom, Holds, IfOk, IsKept, IsSome, IsTextOf, List, MatchResult, Meant, Memory, None, Numbers, OfText, Ok, Option, OthersStay, Outcome, Receives, Result, Sizes, Some, Tells, Told, Unread, Vec, WritesFile, ap, contents_of, first_broken, fits, fresh, length, option_map, refl, sizes_of, subst, sym, text_limit, ℕ, ◌∙◌, ◌≡◌, ◌≤◌}
-use Rattle.std.proofs.Common.{None}
+use Rattle.ubi_commands.proofs.Prelude.{AllocError, Appends, ComesTo, Composes, ComposesInto, ComposesOf, Err, Files, ForSome, Global, HasRoom, Holds, IfOk, IsKept, IsSome, IsTextOf, List, MatchResult, Meant, Memory, Numbers, OfText, Ok, Option, OthersStay, Outcome, Receives, Result, Sizes, Some, Tells, Told, Unread, Vec, WritesFile, ap, contents_of, first_broken, fits, fresh, length, option_map, refl, sizes_of, subst, sym, text_limit, ℕ, ◌∙◌, ◌≡◌, ◌≤◌, None}
+use Rattle.std.specs.Prelude.{None}
 use Rattle.ubi_commands.specs.Compose.{crowded, described, unmade, unread}
 use Rattle.ubi_commands.specs.Compose as compose
 use Rattle.ubi_commands.specs.Program as program

@@ -1,6 +1,5 @@
 -- How a plan over a file, which may write its pages to a second one, ends.
-use Rattle.ubi_commands.proofs.Prelude.{◌≡◌, ◌≢◌, ◌∙◌, ◌⊎◌, inl, inr, ℕ, Bool, List, Some, ap, false, not, refl, subst, sym, true, true≢false, Bor, Appends, IfSome, codes, Sizes, Agreed, Source, Gives, says, Files, Holds, OthersStay, Receives, Stays, fresh, file_line, OfFile, WritesInto, WritesPlan, bad_limit, cannot_read, file, no_file, no_pages, places, planned, unfit, unfit_whole, unreadable, whole, written, Outcome, Dump}
-use Rattle.std.proofs.Common.{None}
+use Rattle.ubi_commands.proofs.Prelude.{◌≡◌, ◌≢◌, ◌∙◌, ◌⊎◌, inl, inr, ℕ, Bool, List, Some, ap, false, not, refl, subst, sym, true, true≢false, Bor, Appends, IfSome, codes, Sizes, Agreed, Source, Gives, says, Files, Holds, OthersStay, Receives, Stays, fresh, file_line, OfFile, WritesInto, WritesPlan, bad_limit, cannot_read, file, no_file, no_pages, places, planned, unfit, unfit_whole, unreadable, whole, written, Outcome, Dump, None}
 use Rattle.std.proofs.Common.{Option}
 use Rattle.ubi_commands.specs.Program.{unwritten}
 

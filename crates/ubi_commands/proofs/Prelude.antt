@@ -1,32 +1,34 @@
 -- The names that the proofs of this crate speak of, and where they come from.
-pub use Rattle.std.proofs.Common.{Bool, Less, List, Some, [], ap, append-nil, append_assoc, ap₂, arith, cond, drop, false, get_or, inl, inr, length, lit<, lit≤, map, not, refl, string_bytes, subst, suc, sym, take, true, true≢false, vec_items, zero, zero-add, ℕ, ◌&&◌, ◌*◌, ◌++◌, ◌+◌, ◌-◌, ◌/◌, ◌<◌, ◌==◌, ◌^◌, ◌||◌, ◌↔◌, ◌∙◌, ◌∷◌, ◌≡◌, ◌≢◌, ◌≤◌, ◌⊎◌}
+pub use Rattle.std.proofs.Common.{Bool, Less, List, None, Some, [], ap, append-nil, append_assoc, ap₂, arith, cond, drop, false, get_or, inl, inr, length, map, not, refl, rules, string_bytes, subst, suc, sym, take, true, true≢false, vec_items, zero, zero-add, ℕ, ◌&&◌, ◌*◌, ◌++◌, ◌+◌, ◌-◌, ◌/◌, ◌<◌, ◌==◌, ◌^◌, ◌||◌, ◌↔◌, ◌∙◌, ◌∷◌, ◌≡◌, ◌≢◌, ◌≤◌, ◌⊎◌}
 pub use Rattle.std.proofs.KnownBytes.{Keeps-refl}
-pub use Rattle.std.proofs.Math.Nat.{mod-add-div'}
+pub use Rattle.std.proofs.Math.Nat.{mod-add-div', mul-le-mul_left}
 pub use Rattle.std.proofs.Math.Seq.{drop-append-add}
 pub use Rattle.std.proofs.lemmas.Bool.{eqb-true, false≢true, ltb-false, ne_eqb}
 pub use Rattle.std.proofs.lemmas.Bool.Decides.{nat_tests}
 pub use Rattle.std.proofs.lemmas.Cmp.{nat_cmp_total, ranked}
+pub use Rattle.std.proofs.lemmas.Fmt.{digits_decimal, digits_value-decimal}
 pub use Rattle.std.proofs.lemmas.Grind.{common_steps, flat_map-append}
 pub use Rattle.std.proofs.lemmas.Int.{ints}
-pub use Rattle.std.proofs.lemmas.List.{drop-drop, drop-take, length-append, length-drop, length-take, map-append, take-append-le, take-take, take_all, take_more}
+pub use Rattle.std.proofs.lemmas.List.{at_drop_more, drop-drop, drop-take, length-append, length-drop, length-take, map-append, take-append-le, take-take, take_all, take_more}
 pub use Rattle.std.proofs.lemmas.List.Elements.{All-append, All-map, filter_map-append}
 pub use Rattle.std.proofs.lemmas.List.Folds.{list_all_more}
 pub use Rattle.std.proofs.lemmas.List.Sums.{fold_more, sum_by-append}
 pub use Rattle.std.proofs.lemmas.Option.{get_or_from_slice_get, same_Some, slice_get_cases, slice_get_read, slice_get_within}
 pub use Rattle.std.proofs.lemmas.Result.{IfErr-at_err, IfErr-weaker, IfOk-at_ok, IfOk-weaker, err_from_is_err_and}
 pub use Rattle.std.proofs.lemmas.Slice.Eq.{bytes_eq-Decides}
-pub use Rattle.std.proofs.lemmas.Str.Parse.{digit_from_value}
+pub use Rattle.std.proofs.lemmas.Str.Parse.{IsNumeralModel, digit_from_value, numerals_by_fold}
 pub use Rattle.std.specs.Bool.{then_some}
 pub use Rattle.std.specs.Borrow.{Bor}
+pub use Rattle.std.specs.Char.{digit_value, is_ascii_digit, is_digit}
 pub use Rattle.std.specs.FinMap.{entries, get, nat_cmp-IsAntisymmetric}
 unfoldable pub use Rattle.std.specs.Fmt.{digits}
 pub use Rattle.std.specs.Io.KnownBytes.{Appends}
-pub use Rattle.std.specs.List.{AllByRecursion, concat, cons_option, find, flat_map, list_all, list_any}
+pub use Rattle.std.specs.List.{AllByRecursion, concat, cons_option, find, flat_map, list_all, list_any, position_or_len, slice_split}
 unfoldable pub use Rattle.std.specs.List.{IsDistinct}
 pub use Rattle.std.specs.Option.{ForSome, IsSomeAnd, option_map_or}
 pub use Rattle.std.specs.Ordering.{nat_cmp}
 unfoldable pub use Rattle.std.specs.Path.{path_with_file_name}
-pub use Rattle.std.specs.Prelude.{Contains, Err, IfErr, IfOk, IfSome, IsErr, IsFalse, IsOk, IsSome, IsTrue, MatchOption, MatchResult, None, Ok, OnErr, OnOk, Option, Result, codes, decimal, fold, if◌then◌else◌, is_ok, is_some, nat_lt, option_and_then, option_map, pos, slice_get, slice_index_or, sum_by, unwrap_or}
+pub use Rattle.std.specs.Prelude.{Contains, Err, IfErr, IfOk, IfSome, IsErr, IsFalse, IsOk, IsSome, IsTrue, MatchOption, MatchResult, Ok, OnErr, OnOk, Option, Result, codes, decimal, filter_map, fold, if◌then◌else◌, is_ok, is_some, nat_le, nat_lt, option_and_then, option_map, pos, slice_get, slice_index_or, sum_by, unwrap_or}
 pub use Rattle.std.specs.Result.{result_map_both}
 pub use Rattle.std.specs.Str.{bytes_eq}
 unfoldable pub use Rattle.std.specs.Str.{chars}
@@ -34,6 +36,7 @@ pub use Rattle.std.specs.Str.Parse.{ExplainsUnsignedError, HasUnsignedDigitsIfOk
 pub use Rattle.std.specs.declared.alloc.AllocError.{AllocError}
 pub use Rattle.std.specs.declared.alloc.Global.{Global}
 pub use Rattle.std.specs.declared.vec.Vec.{Vec}
+pub use Rattle.clap.proofs.CutLemmas.{Lacks, after_first-at, before_first-at, slice_split-at}
 unfoldable pub use Rattle.clap.proofs.OnLiterals.{clap_on_literals}
 pub use Rattle.clap.proofs.ValueTestLemmas.{Accepts-accepts, accepts-Accepts}
 pub use Rattle.clap.proofs.WalkLemmas.{both, first_value-rows, one_text-rows}
@@ -61,17 +64,18 @@ pub use Rattle.clap.specs.declared.error.kind.ErrorKind.TheVariants.{DisplayHelp
 pub use Rattle.clap.specs.declared.parser.matches.ArgMatches.{ArgMatches}
 pub use Rattle.clap.specs.declared.parser.matches.Found.{Found}
 pub use Rattle.clap.specs.declared.parser.matches.ValueSource.TheVariants.{CommandLine}
+pub use Rattle.ubi_change.proofs.Carried.{rebuilt_within}
 pub use Rattle.ubi_change.proofs.CutSizes.{blocks-cut, length-cut}
 pub use Rattle.ubi_change.proofs.PlanSurvives.{plan_survives_law}
 pub use Rattle.ubi_change.specs.Avoided.{Avoided, nothing}
 pub use Rattle.ubi_change.specs.Cuts.{changed, turn}
-pub use Rattle.ubi_change.specs.Fitting.{AllWithin}
-pub use Rattle.ubi_change.specs.Pages.{programmed}
+pub use Rattle.ubi_change.specs.Fitting.{AllWithin, FitsBlock}
+pub use Rattle.ubi_change.specs.Pages.{line_of, programmed, with_pages}
 pub use Rattle.ubi_change.specs.Planned.{IsChangeError, PlanFactsOfSource}
 pub use Rattle.ubi_change.specs.RenamePlan.{renamed_pages}
 pub use Rattle.ubi_change.specs.RenamePlanned.{IsPlannedRename, IsRenameError}
 pub use Rattle.ubi_change.specs.Renamed.{renamed}
-pub use Rattle.ubi_change.specs.Steps.{after_text, blocks_after, step_done}
+pub use Rattle.ubi_change.specs.Steps.{after_text, blocks_after, step_done, target}
 pub use Rattle.ubi_change.specs.declared.step.Step.{Step}
 pub use Rattle.ubi_compare.proofs.Refusals.{refuses}
 pub use Rattle.ubi_compare.specs.declared.difference.Difference.{Difference}
@@ -151,6 +155,7 @@ pub use Rattle.ubi_files.specs.declared.view.FilePart.{FilePart}
 pub use Rattle.ubi_json.specs.Differences.{are_none}
 pub use Rattle.ubi_json.specs.Line.{json_line}
 pub use Rattle.ubi_json.specs.List.{list_data, listed_data, listed_volume}
+pub use Rattle.ubi_json.specs.Told.{error_data}
 pub use Rattle.ubi_json.specs.declared.list.ListedVolume.{ListedVolume}
 pub use Rattle.ubi_laid.proofs.Lists.{all_append, all_from}
 pub use Rattle.ubi_map.specs.Headers.{block_lines}
@@ -202,9 +207,10 @@ pub use Rattle.ubi_volume.specs.declared.errors.MeaningCause.{MeaningCause}
 pub use Rattle.ubi_volume.specs.declared.errors.ReadError.{ReadError}
 pub use Rattle.ubi_volume.specs.declared.places.Extent.{Extent}
 pub use Rattle.ubi_volume.specs.declared.places.PlaceContent.{PlaceContent}
+pub use Rattle.ubi_words.specs.Words.{decimal_value, most_number, with_digit}
 pub use Rattle.ubi_commands.specs.Build.{AreBesideOut, AreGathered, ArePartsOf, Builds, BuildsParts, HaveImage, IsNoVolume, IsSized, IsUngathered, IsUnreadLine, Sized, built, crowded, faulty, gathered, image_path, image_paths, len_of, no_image, no_path, no_record, numbered_parts, section_part, ungathered, unmade, unread, unwritten}
 pub use Rattle.ubi_commands.specs.BuildLaws.{AreTold, BuildReads, ReadsItsFile, file_of}
-pub use Rattle.ubi_commands.specs.ByteNumbers.{at_most, byte_number, bytes_in_units, bytes_within, decimal_number, hexadecimal_number, hexadecimal_value, unit_after, with_hexadecimal}
+pub use Rattle.ubi_commands.specs.ByteNumbers.{at_most, byte_number, bytes_within, decimal_number, hexadecimal_value, unit_after, with_hexadecimal}
 pub use Rattle.ubi_commands.specs.Change.{Changes, ChangesFrom, CutMeans, HasPlan, IsChangeFault, not_blank_from, unplanned_from}
 pub use Rattle.ubi_commands.specs.Check.{state_line, surveyed, unsurveyed}
 unfoldable pub use Rattle.ubi_commands.specs.Check.{printed_states}
@@ -224,17 +230,20 @@ pub use Rattle.ubi_commands.specs.Lines.{blocks_line, bytes_line, no_block_line,
 unfoldable pub use Rattle.ubi_commands.specs.Lines.{layout_words}
 pub use Rattle.ubi_commands.specs.List.{Lists, list_lines, record_line, unlisted, volume_line}
 unfoldable pub use Rattle.ubi_commands.specs.List.{room_words, sizes_line}
-pub use Rattle.ubi_commands.specs.Map.{IsPageOf, Maps, MapsFrom, PicturesInto, accepted_page, mapped, mapped_from, no_blocks, no_blocks_from, no_page, pictured, refused_map, refused_map_from, refused_page, unpictured}
+pub use Rattle.ubi_commands.specs.Map.{IsPageOf, Maps, MapsFrom, MapsOf, PicturesInto, PicturesOf, accepted_page, mapped, mapped_from, no_blocks, no_blocks_from, no_page, pictured, refused_map, refused_map_from, refused_page, unpictured}
 pub use Rattle.ubi_commands.specs.Normalise.{HasMeaning, IsNormaliseError, Normalises, wrote_nothing}
 pub use Rattle.ubi_commands.specs.PageLaws.{AreOfFirst, LeastTold}
-pub use Rattle.ubi_commands.specs.Plan.{CutAccepts, IsCarryFault, cut_bytes, cut_text, plan_answer, plan_lines, step_line, steps_done}
-pub use Rattle.ubi_commands.specs.Program.{IsDump, IsToldFirst, OfAsked, OfBoth, OfText, TellsNothing, WritesInto, WritesPlan, alike, avoided, given, is_split, no_first_pages, no_geometry, no_last_image, no_left, no_list, no_pages, no_right, no_sizes, no_text, of_dump, off_grid, on_grid, planned, several, text_limit, told, told_dump, unlike, untold, with_list, written}
+pub use Rattle.ubi_commands.specs.Plan.{CutAccepts, IsCarryFault, cut_bytes, cut_text, plan_answer, plan_lines, step_line, step_words, steps_done}
+pub use Rattle.ubi_commands.specs.PlanLaws.{LinesReadBack, behind, step_of_line, steps_read}
+pub use Rattle.ubi_commands.specs.Printed.{any_names_output}
+pub use Rattle.ubi_commands.specs.Program.{IsDump, IsToldFirst, OfAsked, OfBoth, OfText, TellFirst, TellsNothing, WritesInto, WritesPlan, alike, avoided, given, is_split, no_first_pages, no_geometry, no_last_image, no_left, no_list, no_pages, no_right, no_sizes, no_text, of_dump, off_grid, on_grid, planned, several, text_limit, told, told_dump, unlike, untold, with_list, written}
 pub use Rattle.ubi_commands.specs.Reads.{format_of, reads}
 pub use Rattle.ubi_commands.specs.Rename.{CutIsNamed, HasRename, IsRenameFault, Renames, RenamesFrom, nameless_from}
 pub use Rattle.ubi_commands.specs.Show.{Shows, no_block, no_block_from, no_size, shown, shown_from}
 pub use Rattle.ubi_commands.specs.Tool.{HasOneVolume, Mean, finds, formats, gives_bytes, gives_part, gives_sizes, plans, reads_dump, takes_geometry, takes_part}
 pub use Rattle.ubi_commands.specs.Unpack.{AreUnpacked, AreUnpackedUntil, IsNewFile, IsUnpacked, Listed, Unpacks, UnpacksOf, all_described, config_path, described, file_byte, file_path, folder_config, listed, no_config, no_folder, unpacked, unpacked_line, unpacked_lines, unpacked_status}
 unfoldable pub use Rattle.ubi_commands.specs.Unpack.{file_name}
+pub use Rattle.ubi_commands.specs.UntypedLaws.{FindsNothing, UntypedIsTyped}
 pub use Rattle.ubi_commands.specs.declared.asked.Asked.{Asked}
 pub use Rattle.ubi_commands.specs.declared.asked.Change.{Change}
 pub use Rattle.ubi_commands.specs.declared.asked.Extract.{Extract}

@@ -1,11 +1,6 @@
 -- Numbers with units: a unit is some bytes, so a number of units is no less than the number.
-use Rattle.ubi_commands.proofs.Prelude.{◌≡◌, ℕ, ◌≤◌, ◌<◌, ◌*◌, ◌==◌, Bool, List, Some, true, false, arith, refl, sym, IfSome, codes, if◌then◌else◌, length, option_and_then, option_map, then_some, at_most, unit_after, unit_named}
-use Rattle.std.proofs.Common.{None}
+use Rattle.ubi_commands.proofs.Prelude.{◌≡◌, ℕ, ◌≤◌, ◌<◌, ◌*◌, ◌==◌, Bool, List, Some, true, false, arith, refl, IfSome, codes, if◌then◌else◌, length, option_and_then, option_map, then_some, at_most, unit_after, unit_named, None, mul-le-mul_left, nat_tests, nat_le, same_bytes}
 use Rattle.std.proofs.Common.{Option}
-use Rattle.std.proofs.Math.Nat.{mul-le-mul_left}
-use Rattle.std.proofs.lemmas.Bool.Decides.{nat_tests}
-use Rattle.std.specs.Prelude.{nat_le}
-use Rattle.ubi_media.specs.Fields.{same_bytes}
 use Rattle.ubi_commands.proofs.Hexadecimals.{none_beyond}
 
 pub named_unit_some : (name : List ℕ) → IfSome (unit_named name) (λ unit. 1 ≤ unit)

@@ -1,22 +1,11 @@
 -- With nothing typed a command answers what it answers with the numbers typed of what is found first.
-use Rattle.ubi_commands.proofs.Prelude.{inl, inr, ℕ, List, None, Some, Sizes, Agreed, Source, Files, Gives, Outcome, says}
+use Rattle.ubi_commands.proofs.Prelude.{inl, inr, ℕ, List, Some, Sizes, Agreed, Source, Files, Gives, Outcome, says, Detected, Dump, json_line, error_data, OfAskedIn, OfRead, MapsOf, PicturesInto, PicturesOf, IsDump, OfAsked, TellFirst, told_dump, format_of, reads, FindsNothing, UntypedIsTyped, Asked, Sought, Format}
+use Rattle.std.specs.Prelude.{None}
 use Rattle.std.specs.Prelude.{◌⊎◌}
-use Rattle.ubi_detect.specs.declared.detect.Detected.{Detected}
-use Rattle.ubi_files.specs.declared.dump.Dump.{Dump}
-use Rattle.ubi_json.specs.Line.{json_line}
-use Rattle.ubi_json.specs.Told.{error_data}
 use Rattle.ubi_commands.specs.InFormat as in_format
-use Rattle.ubi_commands.specs.InFormat.{OfAskedIn, OfRead}
 use Rattle.ubi_commands.specs.Map as map
-use Rattle.ubi_commands.specs.Map.{MapsOf, PicturesInto, PicturesOf}
 use Rattle.ubi_commands.specs.Program as program
-use Rattle.ubi_commands.specs.Program.{IsDump, OfAsked, TellFirst, told_dump}
-use Rattle.ubi_commands.specs.Reads.{format_of, reads}
-use Rattle.ubi_commands.specs.UntypedLaws.{FindsNothing, UntypedIsTyped}
-use Rattle.ubi_commands.specs.declared.asked.Asked.{Asked}
 use Rattle.ubi_commands.specs.declared.asked.Asked.TheVariants as asked
-use Rattle.ubi_commands.specs.declared.asked.Sought.{Sought}
-use Rattle.ubi_commands.specs.declared.format.Format.{Format}
 use Rattle.ubi_commands.specs.declared.format.Format.TheVariants as format
 use Rattle.ubi_commands.specs.declared.requests.Request.TheVariants as request
 

@@ -1,6 +1,5 @@
 -- What is seen of files, on literals.
-use Rattle.ubi_commands.proofs.Prelude.{true, blocks_before, ◌≡◌, ◌∷◌, [], List, Some, refl, ℕ, Bor, Detected, as_read, misfit_of, told_dump, viewed, whole_len, misfit, pages_of, part_of, Dump, Sought, FilePart}
-use Rattle.std.proofs.Common.{None}
+use Rattle.ubi_commands.proofs.Prelude.{true, blocks_before, ◌≡◌, ◌∷◌, [], List, Some, refl, ℕ, Bor, Detected, as_read, misfit_of, told_dump, viewed, whole_len, misfit, pages_of, part_of, Dump, Sought, FilePart, None}
 use Rattle.std.proofs.Common.{Option, codes}
 use Rattle.ubi_files.specs.declared.view.Misfit.TheVariants as why
 

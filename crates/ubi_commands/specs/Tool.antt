@@ -128,8 +128,8 @@ abbrev pub takes_geometry : Text → Bool
 takes_geometry name = not (bytes_eq name (codes "geometry"))
 
 -- in the words of such a command its sizes and offsets are numbers of bytes
-abbrev pub HasSizes : Option (Text × List Row) → Type 0
-HasSizes named = (name : Text) (words : List Row) → named ≡ Some (name, words) → takes_geometry name ≡ true
+abbrev pub HasByteSizes : Option (Text × List Row) → Type 0
+HasByteSizes named = (name : Text) (words : List Row) → named ≡ Some (name, words) → takes_geometry name ≡ true
     → gives_sizes words ≡ true
 
 -- the commands that read a part of an image file: all but two
@@ -153,6 +153,6 @@ pub record Mean (named : Option (Text × List Row)) : Type 0 where
   pub blank : HasBlankWord named
   pub geometry : HasGeometryOrNone named
   pub format : HasFormatWord named
-  pub sizes : HasSizes named
+  pub sizes : HasByteSizes named
   pub part : HasPart named
   pub oob : HasOob named

@@ -31,7 +31,8 @@ const NO_VOLUME: &str = "error: either '--id <N>' or '--name <NAME>' has to be g
 For more information, try '--help'.
 ";
 
-const TWO_VOLUMES: &str = "error: either '--id <N>' or '--name <NAME>' names the volume, and not both
+const TWO_VOLUMES: &str =
+    "error: either '--id <N>' or '--name <NAME>' names the volume, and not both
 
 For more information, try '--help'.
 ";

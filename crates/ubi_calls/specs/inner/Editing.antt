@@ -6,7 +6,7 @@ use Rattle.ubi_scan.specs.Image.{Image}
 use Rattle.ubi_change.specs.Avoided.{Avoided}
 use Rattle.ubi_files.specs.declared.outcome.Outcome.{Outcome}
 use Rattle.ubi_calls.specs.Calls.{MayTell, put_into}
-use Rattle.ubi_calls.specs.Edits.{PlansChange, PlansRename, avoided, image_without}
+use Rattle.ubi_calls.specs.Edits.{PlansChange, PlansRename, image_without, spared}
 use Rattle.ubi_calls.specs.inner.Handing.{Leaves, LeavesNothing}
 use Rattle.ubi_calls.specs.declared.plans.Edit.{Edit}
 use Rattle.ubi_calls.specs.declared.plans.Edit.TheVariants as edit
@@ -19,7 +19,7 @@ edit_plan (edit.Rename id word) image av = PlansRename image av id word.now
 
 -- the same for bytes on a chip, some of whose eraseblocks are spared
 abbrev pub spared_plan : Edit → Spared → Sizes → List ℕ → List ℕ → MayTell
-spared_plan e spared s bytes = edit_plan e (image_without s spared.bad.now bytes) (avoided s spared.bad.now spared.keeps_blank)
+spared_plan e chip s bytes = edit_plan e (image_without s chip.bad.now bytes) (spared s chip.bad.now chip.keeps_blank)
 
 -- the pages of a plan, of which there are none if the status isn't 0
 abbrev pub given_pages : ℕ → List ℕ → List ℕ

@@ -1,6 +1,4 @@
-use Rattle.ubi_commands.proofs.Prelude.{◌≡◌, ◌<◌, ◌&&◌, arith, get_or, length, list_all, hexadecimal_value}
-use Rattle.std.specs.Char.{digit_value, is_digit}
-use Rattle.std.specs.Prelude.{nat_le}
+use Rattle.ubi_commands.proofs.Prelude.{◌≡◌, ◌<◌, ◌&&◌, arith, get_or, length, list_all, hexadecimal_value, digit_value, is_digit, nat_le}
 use Rattle.ubi_commands.proofs.Hexadecimals.{fold_beyond, none_beyond}
 use Rattle.ubi_commands.proofs.byte_numbers.hexadecimal_within.Goals as goal
 

@@ -1,5 +1,4 @@
-use Rattle.ubi_commands.proofs.Prelude.{◌≡◌, ◌≤◌, drop, fold, list_all, hexadecimal_value, with_hexadecimal}
-use Rattle.std.specs.Char.{is_digit}
+use Rattle.ubi_commands.proofs.Prelude.{◌≡◌, ◌≤◌, drop, fold, list_all, hexadecimal_value, with_hexadecimal, is_digit}
 use Rattle.ubi_commands.proofs.byte_numbers.hexadecimal_within.Given as goal
 
 abbrev pub invariant-loop-byte : goal.invariant-loop-byte

@@ -1,6 +1,4 @@
-use Rattle.ubi_commands.proofs.Prelude.{◌≡◌, ◌∙◌, ℕ, drop, subst, take, at_most, decimal_number, is_no_digit, unit_after}
-use Rattle.std.proofs.Common.{None}
-use Rattle.std.specs.List.{position_or_len}
+use Rattle.ubi_commands.proofs.Prelude.{◌≡◌, ◌∙◌, ℕ, drop, subst, take, at_most, decimal_number, is_no_digit, unit_after, None, position_or_len}
 use Rattle.ubi_commands.proofs.UnitNumbers.{unit_some, units_above}
 use Rattle.ubi_commands.proofs.byte_numbers.in_units.Goals as goal
 

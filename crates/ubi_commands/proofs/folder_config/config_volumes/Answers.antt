@@ -1,4 +1,5 @@
-use Rattle.ubi_commands.proofs.Prelude.{AreRecords, ConfigVolume, List, None, ReadError, Records, [], all_described, ap, arith, described, extent_in, extent_len, get_or, rec_fault, refl, subst, sym, take, take_all, ℕ, ◌++◌, ◌∙◌, ◌∷◌, ◌≡◌}
+use Rattle.ubi_commands.proofs.Prelude.{AreRecords, ConfigVolume, List, ReadError, Records, [], all_described, ap, arith, described, extent_in, extent_len, get_or, rec_fault, refl, subst, sym, take, take_all, ℕ, ◌++◌, ◌∙◌, ◌∷◌, ◌≡◌}
+use Rattle.std.specs.Prelude.{None}
 use Rattle.std.proofs.Common.{Result}
 use Rattle.std.specs.Prelude.{All}
 use Rattle.std.specs.FinMap as finite

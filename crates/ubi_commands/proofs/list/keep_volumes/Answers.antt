@@ -1,4 +1,5 @@
-use Rattle.ubi_commands.proofs.Prelude.{◌≡◌, ℕ, ◌<◌, ◌∙◌, List, get_or, length, ap, sym, subst, arith, Sizes, rec_fault, VolumeRecord, Source, AreRecords, Records, Volume, listed_at, listed_item, places_narrowed, ArePlacesOf, listed_volume, None}
+use Rattle.ubi_commands.proofs.Prelude.{◌≡◌, ℕ, ◌<◌, ◌∙◌, List, get_or, length, ap, sym, subst, arith, Sizes, rec_fault, VolumeRecord, Source, AreRecords, Records, Volume, listed_at, listed_item, places_narrowed, ArePlacesOf, listed_volume}
+use Rattle.std.specs.Prelude.{None}
 use Rattle.std.specs.Prelude.{map}
 use Rattle.std.specs.Prelude.{Some}
 use Rattle.std.specs.FinMap as finite

@@ -1,4 +1,5 @@
-use Rattle.ubi_commands.proofs.Prelude.{◌≡◌, map, take, vec_items, image_of, rec_fault, Narrows, WhereHeld, ArePlaces, listed_volume, None}
+use Rattle.ubi_commands.proofs.Prelude.{◌≡◌, map, take, vec_items, image_of, rec_fault, Narrows, WhereHeld, ArePlaces, listed_volume}
+use Rattle.std.specs.Prelude.{None}
 use Rattle.std.specs.FinMap as finite
 use Rattle.std.specs.Prelude.{All}
 use Rattle.ubi_commands.proofs.list.keep_volumes.Given as goal

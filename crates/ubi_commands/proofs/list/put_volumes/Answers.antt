@@ -1,4 +1,5 @@
-use Rattle.ubi_commands.proofs.Prelude.{◌≡◌, ℕ, ◌<◌, ◌++◌, ◌∙◌, List, get_or, length, ap, sym, subst, arith, flat_map, Sizes, rec_fault, VolumeRecord, Source, AreRecords, Records, Volume, listed_at, listed_item, places_narrowed, ArePlacesOf, volume_line, None}
+use Rattle.ubi_commands.proofs.Prelude.{◌≡◌, ℕ, ◌<◌, ◌++◌, ◌∙◌, List, get_or, length, ap, sym, subst, arith, flat_map, Sizes, rec_fault, VolumeRecord, Source, AreRecords, Records, Volume, listed_at, listed_item, places_narrowed, ArePlacesOf, volume_line}
+use Rattle.std.specs.Prelude.{None}
 use Rattle.std.specs.Prelude.{Some}
 use Rattle.std.specs.FinMap as finite
 use Rattle.ubi_commands.proofs.ListedLines.{lines_all, lines_more}

@@ -1,5 +1,4 @@
-use Rattle.ubi_commands.proofs.Prelude.{◌≡◌, [], Bool, Some, ap, IfOk-weaker, if◌then◌else◌, fresh, HasWork, writes}
-use Rattle.std.proofs.Common.{None}
+use Rattle.ubi_commands.proofs.Prelude.{◌≡◌, [], Bool, Some, ap, IfOk-weaker, if◌then◌else◌, fresh, HasWork, writes, None}
 use Rattle.ubi_commands.proofs.Ended.{OfFile-weaker}
 use Rattle.ubi_commands.proofs.Planned.{OfFile-after, OfFile-at, not_done, pages_end, without_pages}
 use Rattle.ubi_commands.proofs.planners.plan_late.Goals as goal

@@ -1,5 +1,4 @@
-use Rattle.ubi_commands.proofs.Prelude.{◌≡◌, length, map, string_bytes}
-use Rattle.ubi_commands.specs.Printed.{any_names_output}
+use Rattle.ubi_commands.proofs.Prelude.{◌≡◌, length, map, string_bytes, any_names_output}
 use Rattle.ubi_commands.proofs.print.any_names_output.Given as goal
 
 -- none of the words before those left names it
