@@ -19,8 +19,9 @@ bytes, and every other file its old ones. If the pages can't be written, the out
 output can't be written, the same holds for the pages. Everything in the folder must stay as it is: links, pipes,
 devices (which only root can make), and the number and the mode of each file. Then it runs `unpack` into folders that
 exist already: empty ones, which are accepted, and folders that hold a file with a leading dot, can't be read, are a
-link, or have a name that differs by a blank; and into files, which stay. And each command that reads an image reads it
-from pipes, typed or with no number, and has to answer what it answers for the file.
+link, or have a name that differs by a blank; and into files, which stay. Each command that reads an image reads it from
+pipes, typed or with no number, and has to answer what it answers for the file. And each command that writes a file
+writes to standard output, by `-`, and reads from standard input.
 
 The cases are always the same. Their files lie in new folders below FOLDER (/tmp by default), which are removed
 afterwards. Without --tool the program is built first, unless it is built already. The last line is 'N passed, M
@@ -208,7 +209,7 @@ def outputs_twice():
         links = ("nowhere", "new"), ("new", "nowhere"), ("nowhere", "nowhere"), ("old.hard", "old.soft")
         for out, pages in (*links, ("pipe", "pipe")):
             yield cannot_write(WORDS[command], out, pages)
-        for path in ("/dev/null", "/dev/stdout", "old", "new ", "-"):
+        for path in ("/dev/null", "/dev/stdout", "old", "new ", "./-"):
             for more in OTHERS:
                 yield cannot_write([*WORDS[command], *more], path, path)
 
@@ -559,6 +560,40 @@ def printed_onto(tool, within):
             yield f"{command} >> image --out {out}", None if is_right else f"its status is {ran.returncode}, or a file is spoiled"
 
 
+def through_streams(tool, within):
+    """Each command that writes a file, with `-` for it, and with `-` for the file that it reads or not: the bytes come
+    behind what standard output has, the lines go to standard error, and nothing else is written."""
+    for command, is_read in ((command, is_read) for command in WORDS for is_read in (False, True)):
+        source = WORDS[command][1]
+        case = Case([command, "-" if is_read else source, *WORDS[command][2:]], "-")
+        lines, new = answer(case)
+        wrong = streamed_wrong(tool, within, case, source, (0, b"front" + new["--out"], lines.encode()))
+        yield f"{case} >> printed", wrong
+        refused = {"compose": "from", "build": "spec"}.get(command, "old")
+        case = Case([command, "-" if is_read else refused, *WORDS[command][2:]], "-")
+        yield f"{case} >> printed, refused", streamed_wrong(tool, within, case, refused, (1, b"front", b"refused "))
+
+
+def streamed_wrong(tool, within, case, source, right):
+    """What is wrong with a case whose output is standard output, if a status, all that stands there, and what standard
+    error has among its lines are right; None if nothing is."""
+    status, printed, lines = right
+    with tempfile.TemporaryDirectory(dir=within) as folder, tempfile.TemporaryFile(dir=within) as output:
+        fill(folder)
+        before, had = held(folder), entries(folder)
+        output.write(b"front")
+        output.flush()
+        with open(os.path.join(folder, source), "rb") as stdin:
+            words = [tool, *spelled(case, folder)]
+            ran = subprocess.run(words, stdin=stdin, stdout=output, stderr=subprocess.PIPE, cwd=folder, timeout=10)
+        output.seek(0)
+        found = output.read()
+        is_kept = held(folder) == before and entries(folder) == had
+    if ran.returncode != status or found != printed or lines not in ran.stderr or not is_kept:
+        return f"its status is {ran.returncode}, standard error has {ran.stderr[-200:]!r}, or a file is spoiled"
+    return None
+
+
 # Mounts two file systems, and makes files in both in one order, so that they have the same numbers: copies of those that
 # are read, and others. Then it runs a command, and copies what has become of them. Its status is 77 if that isn't allowed.
 MOUNTED = """
@@ -732,7 +767,7 @@ def main():
     words.add_argument("--tool", help="the program; the one that ./ubi_tool starts by default")
     words = words.parse_args()
     tool, passed, failed = os.path.abspath(built(words.tool)), 0, 0
-    for family in (wrongs, printed_to, printed_onto, two_systems, of_pipes, unpacking):
+    for family in (wrongs, printed_to, printed_onto, through_streams, two_systems, of_pipes, unpacking):
         for case, wrong in family(tool, words.dir):
             if wrong:
                 print(f"{case}: {wrong}", flush=True)

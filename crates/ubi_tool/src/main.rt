@@ -7,6 +7,9 @@ ghost use Rattle.std.specs.IoError.{error_kind};
 ghost use Rattle.std.specs.Prelude.{◌≡◌, ◌≢◌, Err, alloc_error};
 ghost use Rattle.ubi_commands.specs.Printed.{IsReported};
 
+mod input;
+
+use self::input::put_input;
 use std::alloc::AllocError;
 use std::io::{ErrorKind, IsTerminal, Write};
 use std::process::ExitCode;
@@ -33,12 +36,13 @@ fn main(rt: HostRuntime) -> ExitCode {
     ExitCode::from(status)
 }
 
-/// The words that the program was called with, its own name first.
+/// The words that the program was called with, its own name first, with the path of standard input in place of `-`.
 fn words_of<R: Env + AllocGlobal>(rt: &R) -> io::Result<Vec<String>> {
     let mut words = Vec::new(rt.alloc());
     for word in env::args(rt)? {
         words.push(word)?;
     }
+    put_input(rt.alloc(), words.as_mut_slice())?;
     Ok(words)
 }
 
