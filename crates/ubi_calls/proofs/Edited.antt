@@ -22,7 +22,8 @@ module _ (s : Sizes) (image start left pages : List ℕ) (same : start ≡ image
     (old new : Option (List ℕ)) (av : Avoided) (blank : of_blocks ReadBlank (image_of s image) av) where
   -- so none of them is a cause
   none_listed : (p : ℕ) → of_blocks IsNotBlank (image_of s start) av p → ⊥
-  none_listed p h = h.1.1.0 (blank p (subst (λ (b : List ℕ). p < length (blocks_of s b)) same h.1.0) h.0)
+  none_listed p h =
+      let is = subst (λ (b : List ℕ). of_blocks IsNotBlank (image_of s b) av p) same h in is.2 (blank p is.1 is.0)
 
   change_told : (id lnum : ℕ) (bytes : List ℕ) (o : Outcome)
       → ChangesFrom av id lnum bytes None s (memory start) (holds left) pages old new o

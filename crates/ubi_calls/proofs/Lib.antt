@@ -1,6 +1,7 @@
 mod Edited
 mod FilledBuffers
 mod MaskedBlocks
+mod Spared
 mod ToldOutcomes
 mod Wanted
 pub mod Prelude

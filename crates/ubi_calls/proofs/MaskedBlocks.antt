@@ -1,5 +1,9 @@
 -- Listed eraseblocks whose bytes read 0xFF are Blank.
 use Rattle.ubi_calls.proofs.Prelude.{◌≡◌, ◌∙◌, ℕ, ◌+◌, ◌-◌, ◌*◌, ◌/◌, ◌<◌, ◌≤◌, Bool, List, ap, arith, cond, drop, length, sym, take, true, div-mul-add, get_or-drop, get_or-replicate, get_or-take, length-drop, length-first_chunks, length-replicate, length-take-le, same_lists, Sizes, IsGeometry, blank, blank_ec, block, blocks_of, ec, ec_reading, image_of, is_listed, of_blocks, part_of_block, get_or-masked, length-masked, masked, Avoided, ReadBlank, slice_range}
+use Rattle.std.proofs.Common.{get_or, le_refl}
+use Rattle.std.proofs.Math.Nat.{div-mul-le_self}
+use Rattle.std.proofs.lemmas.Nat.{mul-le}
+use Rattle.std.specs.Prelude.{slice_range}
 use Rattle.ubi_media.specs.declared.ec.EcRead.TheVariants as ec_read
 
 module _ (s : Sizes) (g : IsGeometry s) (marks : List Bool) (bytes : List ℕ) where
@@ -11,7 +15,10 @@ module _ (s : Sizes) (g : IsGeometry s) (marks : List Bool) (bytes : List ℕ) w
 
   module _ (p : ℕ) (inside : p < length all / size) (listed : is_listed marks p ≡ true) where
     enough : p * size + size ≤ length all
-    enough = omega (arith, inside, g.peb_from, g.page_from)
+    enough =
+        let whole = div-mul-le_self (length all) size in
+        let next : (p + 1) * size ≤ length all / size * size = mul-le (p + 1) size (length all / size) size (omega (arith, inside)) (le_refl size) in
+        omega (arith, whole, next)
 
     abbrev front : List ℕ
     front = take 64 (drop (p * size) all)
@@ -21,15 +28,15 @@ module _ (s : Sizes) (g : IsGeometry s) (marks : List Bool) (bytes : List ℕ) w
 
     -- its header's bytes are 0xFF
     all_ones : front ≡ blank 64
-    all_ones = same_lists front (blank 64) (length-front ∙ sym (length-replicate 64 0xFF))
+    all_ones = same_lists front (blank 64) (length-front ∙ sym (length-replicate {A = ℕ} 64 0xFF))
         (λ k d l.
         let few : k < 64 = omega (arith, l, length-front) in
         get_or-take 64 (drop (p * size) all) k d few
         ∙ get_or-drop (p * size) all k d
         ∙ get_or-masked size marks bytes (p * size + k) d (let n = length-masked size marks bytes in omega (arith, n, enough, few, g.peb_from, g.page_from))
-        ∙ ap (λ q. cond (is_listed marks q) 0xFF _) (div-mul-add p size k (omega (arith, few, g.peb_from, g.page_from)))
-        ∙ ap (λ b. cond b 0xFF _) listed
-        ∙ sym (get_or-replicate 64 0xFF k d few))
+        ∙ ap (λ q. cond (is_listed marks q) 0xFF (get_or bytes (p * size + k) d)) (div-mul-add p size k (omega (arith, few, g.peb_from, g.page_from)))
+        ∙ ap (λ b. cond b 0xFF (get_or bytes (p * size + k) d)) listed
+        ∙ sym (get_or-replicate 64 k 0xFF d few))
 
     front_is : take 64 (block (blocks_of s all) p) ≡ front
     front_is =

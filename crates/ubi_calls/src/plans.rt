@@ -191,12 +191,13 @@ impl Edit<'_> {
         ensures { IfOk result (λ o. spared_plan self.now spared.now geometry.now image.now (given_pages o.status pages.new.items) o.text.items o.status) }
     {
         let marks = marks_by_number(alloc, geometry.pebs(), spared.bad)?;
-        let avoided = Avoided::new(marks.as_slice(), spared.keeps_blank);
+        let marks = marks.as_slice();
+        let avoided = Avoided::new(marks, spared.keeps_blank);
         if marks.is_empty() {
             return self.plan(alloc, geometry, image, &avoided, pages);
         }
         let mut seen = Vec::from_slice(alloc, image)?;
-        mask(seen.as_mut_slice(), geometry.peb_size(), marks.as_slice());
+        mask(seen.as_mut_slice(), geometry.peb_size(), marks);
         self.plan(alloc, geometry, seen.as_slice(), &avoided, pages)
     }
 
