@@ -27,12 +27,22 @@ fn may_be_same(image: &Metadata, output: &Metadata) -> bool {
     are_one(image, output) || (image.file_type().is_char_device() && is_other)
 }
 
+/// Whether a path that has no file yet may have one that is read, once that is opened: as a descriptor of the process has.
+fn may_come(path: &str) -> bool {
+    path.starts_with("/dev/fd/") || path.starts_with("/proc/")
+}
+
+/// Whether there is nothing at a path, and nothing that is read comes there.
+fn is_new(path: &str, error: &io::Error) -> bool {
+    error.kind() == ErrorKind::NotFound && !may_come(path)
+}
+
 /// Whether an image that is read at places stays as it is while the file at a path is written. False if that can't
 /// be found out.
 fn stays<R: Files>(rt: &R, image: &Metadata, out: &str) -> bool {
     match fs::metadata(rt, out) {
         Ok(output) => !may_be_same(image, &output),
-        Err(error) => error.kind() == ErrorKind::NotFound,
+        Err(error) => is_new(out, &error),
     }
 }
 
@@ -49,7 +59,7 @@ pub fn may_be_one<R: Files>(rt: &R, path: &str, other: &str) -> bool
             Ok(file) => are_one(&file, &output),
             Err(_) => true,
         },
-        Err(error) => error.kind() != ErrorKind::NotFound,
+        Err(error) => !is_new(other, &error),
     }
 }
 

@@ -1,5 +1,5 @@
 -- Eraseblocks that hold something and are read as nothing, and where a fastmap begins.
-use Rattle.std.specs.Prelude.{◌≡◌, ◌==◌, ◌<◌, Bool, List, None, Option, Some, ℕ, false, map, min, true}
+use Rattle.std.specs.Prelude.{◌≡◌, ◌==◌, ◌<◌, Bool, List, None, Option, Some, ℕ, false, map, true}
 use Rattle.std.specs.List.{count_by, range_with_len}
 use Rattle.ubi_media.specs.Geometry.{Sizes}
 use Rattle.ubi_media.specs.declared.ec.EcRead.{EcRead}

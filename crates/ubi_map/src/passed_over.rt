@@ -1,6 +1,6 @@
 //! Eraseblocks of an image that hold something and are read as nothing, and where a fastmap begins.
 
-ghost use Rattle.std.specs.Prelude.{◌≡◌, ◌<◌, ◌≤◌, ◌+◌, ◌^◌, IfErr, IfOk, cond, min};
+ghost use Rattle.std.specs.Prelude.{◌≡◌, ◌<◌, ◌≤◌, ◌+◌, ◌^◌, IfErr, IfOk, cond};
 ghost use Rattle.ubi_map.specs.PassedOver.{FirstAnchorIs, count_passed_over, is_anchor, is_passed_over};
 ghost use Rattle.ubi_scan.specs.Source.{Narrows, WhereHeld, blocks_in, blocks_of};
 ghost use Rattle.ubi_scan.specs.Stream.{after};
@@ -12,9 +12,6 @@ use ubi_scan::{BlockSource, StreamError, read_headers};
 
 /// The number of the volume in whose eraseblocks fastmaps begin (ubi-media.h, `UBI_FM_SB_VOLUME_ID`).
 const FASTMAP_VOLUME: u32 = 0x7FFF_F000;
-
-/// Among how many eraseblocks Linux looks for the beginning of a fastmap (ubi-media.h, `UBI_FM_MAX_START`).
-const ANCHORS: u32 = 64;
 
 /// Whether an eraseblock with these headers holds something, and is read as nothing.
 fn is_passed_over(ec: &EcRead, vid: &VidRead) -> bool
@@ -74,7 +71,8 @@ pub fn count_passed_over<S: BlockSource>(
     Ok(passed)
 }
 
-/// The first eraseblock of a source in which a fastmap begins, among the first `count`, and where Linux looks for one.
+/// The first eraseblock of a source in which a fastmap begins, among the first `count`. Linux looks for one in the first 64 eraseblocks of what
+/// it attaches (ubi-media.h, `UBI_FM_MAX_START`), which may begin anywhere in a source.
 ///
 /// # Errors
 ///
@@ -88,12 +86,12 @@ pub fn first_anchor<S: BlockSource>(
     requires { count ≤ blocks_in geometry.now (S.known source.old) }
     ensures known { S.known source.new ≡ after (S.known source.old) result }
     ensures narrows { Narrows (S.agrees source.old) (S.agrees source.new) }
-    ensures anchor { IfOk result (λ anchor. WhereHeld (S.agrees source.new) (λ bytes. FirstAnchorIs geometry.now (blocks_of geometry.now bytes) (min count 64) anchor)) }
+    ensures anchor { IfOk result (λ anchor. WhereHeld (S.agrees source.new) (λ bytes. FirstAnchorIs geometry.now (blocks_of geometry.now bytes) count anchor)) }
     ensures failed { IfErr result (IsReadFailure (blocks_in geometry.now (S.known source.old))) }
 {
     let mut buffer = Vec::from_elem(alloc, 0u8, geometry.peb_size() as usize)?;
     let buffer = buffer.as_mut_slice();
-    for p in 0..count.min(ANCHORS) {
+    for p in 0..count {
         let (ec, vid) = read_headers(source, geometry, p, buffer)?;
         if is_anchor(&ec, &vid) {
             return Ok(Some(p));
