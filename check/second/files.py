@@ -6,18 +6,21 @@ usage: files.py [--dir FOLDER] [--tool PROGRAM]
 A file that was read may not be written, except IMAGE by --out of `normalise`, `change` and `rename`: there a new file
 takes the place of the one that --out names, with its mode, when all is done, and other names of the old one keep it. If
 then the pages can't be written, IMAGE stays. The pages may not be written to the file of the output. Each case is tried
-with the file's name, with other paths to it, and with links of both kinds. An ordinary file that is standard output may
-not be an output either.
+with the file's name, with other paths to it, one of which is long, with the descriptor of a file that is open, and with
+links of both kinds. An ordinary file that is standard output may not be an output either. But a file is another one if
+its file system is, though both have one number there: two such file systems are mounted, in a place that nobody else
+sees. If that isn't allowed, it says so, and counts no case of them.
 
 Other outputs exist already, or are links, folders, devices and pipes, or can't be written; and some names have blanks,
-line ends or a leading hyphen.
+line ends or a leading hyphen, or are long.
 
 For each case it compares the printed lines, the status, and every file of the folder: a written file must have its new
 bytes, and every other file its old ones. If the pages can't be written, the output may have been written or not; if the
 output can't be written, the same holds for the pages. Everything in the folder must stay as it is: links, pipes,
 devices (which only root can make), and the number and the mode of each file. Then it runs `unpack` into folders that
 exist already: empty ones, which are accepted, and folders that hold a file with a leading dot, can't be read, are a
-link, or have a name that differs by a blank.
+link, or have a name that differs by a blank; and into files, which stay. And each command that reads an image reads it
+from pipes, typed or with no number, and has to answer what it answers for the file.
 
 The cases are always the same. Their files lie in new folders below FOLDER (/tmp by default), which are removed
 afterwards. Without --tool the program is built first, unless it is built already. The last line is 'N passed, M
@@ -25,6 +28,7 @@ failed', and the exit status is 0 if none failed.
 """
 import argparse
 import dataclasses
+import itertools
 import os
 import shutil
 import stat
@@ -57,6 +61,11 @@ WORDS = {
     "rename": ["rename", "image", "--id", "0", "--name", "data"],
 }
 OTHERS = ([], ["--stop", "0"], ["--stop", "2"], ["--blank", "keep"], ["--bad="], ["--bad", "4"])
+# A path of folders that is longer than a buffer of 1,024 bytes; and one that leads back from there.
+NESTED = "/".join(["d" * 100] * 11)
+BACK = f"{NESTED}{'/..' * 11}"
+# Paths of standard input, whose descriptor is 0.
+STDIN = ("/dev/stdin", "/dev/fd/0", "/proc/self/fd/0")
 # Paths that can't be written. For some of them the system doesn't even say that nothing is there; for LONG because of
 # its length.
 LONG = "n" * 256
@@ -90,7 +99,11 @@ class Case:
     @property
     def image(self):
         """The file that is read."""
-        return self.stdin if self.words[1] == "/dev/stdin" else self.words[1]
+        return self.named(self.words[1])
+
+    def named(self, word):
+        """The file that a word names: that which is standard input, if it says so."""
+        return self.stdin if word in STDIN else word
 
     @property
     def early(self):
@@ -109,11 +122,12 @@ def cannot_write(words, out, pages=None, **others):
 def paths(name):
     """Paths to a file of the folder; FOLDER stands for the path of the folder."""
     links = f"{name}.soft", f"{name}.twice", f"{name}.hard", f"./{name}.hard", f"FOLDER/{name}.soft"
-    return (name, f"./{name}", f".//./{name}", f"folder/../{name}", f"FOLDER/{name}", *links)
+    return (name, f"./{name}", f".//./{name}", f"folder/../{name}", f"FOLDER/{name}", f"{BACK}/{name}", *links)
 
 
 def cases():
-    for family in (files_read, outputs_twice, refused, unread, unwritable, existing, streams, odd_names):
+    read = files_read, by_descriptor, outputs_twice
+    for family in (*read, refused, unread, unwritable, existing, streams, odd_names, long_paths):
         yield from family()
 
 
@@ -155,6 +169,32 @@ def files_read():
             yield cannot_write(WORDS[command], "image", path)
             yield cannot_write(WORDS[command], path, "image")
         yield cannot_write([*WORDS["change"], "--blank", "keep"], path, "from")
+
+
+def by_descriptor():
+    """The output or the pages are a file that was read, by the descriptor of standard input, which is that file by one
+    of its two names; or they are a file that wasn't."""
+    for path, link in itertools.product(STDIN, ("", ".hard")):
+        for name, words in (
+            ("spec", WORDS["compose"]),
+            ("config", WORDS["build"]),
+            ("from", WORDS["change"]),
+            ("image", ["map", "image"]),
+            ("image", WORDS["extract"]),
+        ):
+            yield cannot_write(words, path, stdin=f"{name}{link}")
+        yield Case(WORDS["build"], path, None, "cannot read content\n", stdin=f"content{link}")
+        yield cannot_write(["map", path], "image", stdin=f"image{link}")
+        yield cannot_write(["extract", path, *WORDS["extract"][2:]], path, stdin=f"image{link}")
+        for command in REPLACING:
+            yield Case(WORDS[command], path, stdin=f"image{link}")
+            yield Case([command, path, *WORDS[command][2:]], path, stdin=f"image{link}")
+        for command, name in (("change", "image"), ("change", "from"), ("rename", "image")):
+            yield cannot_write(WORDS[command], "new", path, stdin=f"{name}{link}")
+        for command in ("change", "rename"):
+            yield cannot_write(WORDS[command], "old", path, stdin=f"old{link}")
+        for command in WORDS:
+            yield Case(WORDS[command], path, stdin=f"old{link}")
 
 
 def outputs_twice():
@@ -268,6 +308,21 @@ def odd_names():
         yield cannot_write([*WORDS["change"][:-1], of_from], new, of_from)
 
 
+def long_paths():
+    """Paths of more than 1,024 bytes, of the files that are written and of those that are read."""
+    back, new = f"{BACK}/new", f"{NESTED}/new"
+    for path in (back, new, f"{BACK}/old.soft"):
+        for command in WORDS:
+            yield Case(WORDS[command], path)
+            yield Case([command, f"{BACK}/{WORDS[command][1]}", *WORDS[command][2:]], path)
+        for command in ("change", "rename"):
+            yield Case(WORDS[command], "new", path.replace("new", "pages"))
+        yield Case([*WORDS["change"][:-1], f"{BACK}/from"], path, f"{NESTED}/pages")
+    for command in WORDS:
+        yield cannot_write(WORDS[command], f"{NESTED}/no/such")
+        yield Case([command, f"{NESTED}/missing", *WORDS[command][2:]], new, None, f"cannot read {NESTED}/missing\n")
+
+
 def spelled(case, folder):
     """The words of a case. A value that begins with a hyphen is in one word with its option, and such a path is at the
     end."""
@@ -294,7 +349,8 @@ def fill(folder):
     for odd in ODD:
         for name in ("image", "from", "spec"):
             os.link(os.path.join(folder, name), os.path.join(folder, odd % name))
-    os.mkdir(os.path.join(folder, "folder"))
+    for inner in ("folder", NESTED):
+        os.makedirs(os.path.join(folder, inner))
     os.symlink("new", os.path.join(folder, "nowhere"))
     os.symlink("loop", os.path.join(folder, "loop"))
     os.mkfifo(os.path.join(folder, "pipe"))
@@ -397,8 +453,9 @@ class Looker:
     def wrong(self, case):
         """What is wrong with the answer to a case; None if nothing is."""
         keys = {path: key_of(path) for path in self.before}
-        places = {option: key_of(file_of(self.folder, word)) for option, word in case.outs.items()}
-        replaced = file_of(self.folder, case.out) if self.is_image(case, places["--out"]) else None
+        files = {option: file_of(self.folder, case.named(word)) for option, word in case.outs.items()}
+        places = {option: key_of(path) for option, path in files.items()}
+        replaced = files["--out"] if self.is_image(case, places["--out"]) else None
         if replaced:
             places["--out"] = replaced
         try:
@@ -502,6 +559,112 @@ def printed_onto(tool, within):
             yield f"{command} >> image --out {out}", None if is_right else f"its status is {ran.returncode}, or a file is spoiled"
 
 
+# Mounts two file systems, and makes files in both in one order, so that they have the same numbers: copies of those that
+# are read, and others. Then it runs a command, and copies what has become of them. Its status is 77 if that isn't allowed.
+MOUNTED = """
+mkdir left right after && mount -t tmpfs none left && mount -t tmpfs none right || exit 77
+for name in image from spec config content old; do
+    cat "$name" > left/$name && echo other > right/$name || exit 77
+    [ "$(stat -c %i left/$name)" = "$(stat -c %i right/$name)" ] || exit 77
+done
+"$@"
+status=$?
+cp -r left right after && exit $status
+"""
+OTHER = b"other\n"
+
+
+def in_systems(way, folder, words):
+    """Runs a command beside two file systems, in a place where nobody else sees them."""
+    words = [*way, "sh", "-c", MOUNTED, "sh", *words]
+    return subprocess.run(words, stdin=subprocess.DEVNULL, capture_output=True, cwd=folder, timeout=10)
+
+
+def way_to_mount(within):
+    """The words to get such a place, as root or as a user who is root there; None if there are none."""
+    for way in (["unshare", "--mount"], ["unshare", "--mount", "--map-root-user"]):
+        with tempfile.TemporaryDirectory(dir=within) as folder:
+            fill(folder)
+            if shutil.which("unshare") and in_systems(way, folder, ["true"]).returncode == 0:
+                return way
+    return None
+
+
+def two_systems(tool, within):
+    """Each command that writes a file, whose output or pages are a file of another file system than one that is read,
+    or is printed to, with the same number."""
+    way = way_to_mount(within)
+    if way is None:
+        print("two file systems: they can't be mounted here, so nothing is tried with them", flush=True)
+        return
+    cases = [(command, name, None) for command in WORDS for name in FILES if name in WORDS[command]]
+    cases += [("build", "content", None), ("change", "old", "image"), ("change", "old", "from"), ("rename", "old", "image")]
+    printed = [(command, "old", None) for command in ("compose", "normalise", "rename")]
+    for command, out, pages in (*cases, *printed):
+        words = [f"left/{word}" if word in FILES else word for word in WORDS[command]]
+        case, is_printed = Case(words, f"right/{out}", pages and f"right/{pages}"), (command, out, pages) in printed
+        yield f"{case} > left/old" if is_printed else case, wrong_systems(tool, way, within, case, is_printed)
+
+
+def wrong_systems(tool, way, within, case, is_printed):
+    """What is wrong with the answer to a case over two file systems, maybe printed to a file of the first one; None if
+    the right files have their new bytes, and each other file its old ones."""
+    lines, new = answer(case)
+    files = {f"left/{name}": data for name, data in FILES.items()} | {f"right/{name}": OTHER for name in FILES}
+    files |= {path: new[option] for option, path in case.outs.items()}
+    with tempfile.TemporaryDirectory(dir=within) as folder:
+        fill(folder)
+        words = [tool, *spelled(case, folder)]
+        if is_printed:
+            words = ["sh", "-c", '"$@" > left/old', "sh", *words]
+            lines, files["left/old"] = "", lines.encode()
+        ran = in_systems(way, folder, words)
+        after = os.path.join(folder, "after")
+        found = {os.path.relpath(path, after): data for path, data in held(after).items()}
+    if (ran.returncode, ran.stdout) != (0, lines.encode()):
+        return f"its status is {ran.returncode}, and it prints {ran.stdout[:200]!r}"
+    wrong = sorted(path for path in files.keys() | found.keys() if files.get(path) != found.get(path))
+    return f"{wrong} hold something else" if wrong else None
+
+
+def read_from(tool, folder, words, path):
+    """What a command prints, its status, and what it writes, if it reads the image at a path: from the file; or from a
+    pipe, to which the file is written once."""
+    before = held(folder)
+    feeder = ["sh", "-c", "cat image > pipe" if path == "pipe" else "cat image"]
+    with subprocess.Popen(feeder, stdout=subprocess.PIPE, cwd=folder) as feeder:
+        words = [tool, *(path if word == "IMAGE" else word for word in words)]
+        try:
+            ran = subprocess.run(words, stdin=feeder.stdout, capture_output=True, cwd=folder, timeout=10)
+        except subprocess.TimeoutExpired:
+            return None
+        finally:
+            feeder.kill()
+    written = {place: data for place, data in held(folder).items() if place not in before}
+    for place in written:
+        os.remove(place)
+    shutil.rmtree(os.path.join(folder, "made"), ignore_errors=True)
+    return ran.stdout, ran.returncode, written
+
+
+def of_pipes(tool, within):
+    """Each command that reads an image, from pipes that give their bytes once, with a geometry and without: what it
+    answers and writes has to be what it does for the file, to the byte."""
+    reading = [[command, "IMAGE", *WORDS[command][2:], "--out", "new"] for command in ("normalise", "extract")]
+    reading += [["list", "IMAGE"], ["check", "IMAGE"], ["show", "IMAGE", "--block", "1"], ["map", "IMAGE", "--out", "new"]]
+    reading += [["unpack", "IMAGE", "--out", "made"], ["geometry", "IMAGE"]]
+    reading += [[command, *pair] for command in ("same", "diff") for pair in (("IMAGE", "image"), ("image", "IMAGE"))]
+    planning = [[command, "IMAGE", *WORDS[command][2:], "--out", "new"] for command in ("change", "rename")]
+    typed = [[*words, *GEOMETRY.words()] for words in (*reading, *planning) if words[0] != "geometry"]
+    with tempfile.TemporaryDirectory(dir=within) as folder:
+        fill(folder)
+        for words in (*reading, *typed):
+            right = read_from(tool, folder, words, "image")
+            for path in (*STDIN, "pipe"):
+                is_right = right is not None and right[1] == 0 and read_from(tool, folder, words, path) == right
+                yield f"{words} from the pipe {path}", None if is_right else "it doesn't answer what it does for the file"
+
+
 def unpack_into(tool, folder, name, is_taken, is_other=False):
     """Unpacks into a folder of that name, maybe as another user than root. Returns what it was, and what is wrong; None
     if the files are where they should be, or nothing is written."""
@@ -547,9 +710,12 @@ def unpacking(tool, within):
             os.mkdir(os.path.join(folder, name))
         os.symlink("empty", os.path.join(folder, "link"))
         os.mkfifo(os.path.join(folder, "pipe"))
-        for name in ("link", "image", "pipe", "no/such", ""):
+        with open(os.path.join(folder, "no byte"), "wb"):
+            os.symlink("no byte", os.path.join(folder, "to no byte"))
+        for name in ("link", "image", "no byte", "to no byte", "pipe", "no/such", ""):
             yield unpack_into(tool, folder, name, False)
-        for name in ("empty ", "empty", "empty\t", " empty", "empty.", "a new one", "-o"):
+        os.makedirs(os.path.join(folder, NESTED))
+        for name in ("empty ", "empty", "empty\t", " empty", "empty.", "a new one", "-o", f"{NESTED}/new"):
             yield unpack_into(tool, folder, name, True)
         yield unpack_into(tool, folder, "empty", False)
         # Files can be made in a folder that can't be read, but nobody can find out what is in there.
@@ -566,10 +732,11 @@ def main():
     words.add_argument("--tool", help="the program; the one that ./ubi_tool starts by default")
     words = words.parse_args()
     tool, passed, failed = os.path.abspath(built(words.tool)), 0, 0
-    for case, wrong in (*wrongs(tool, words.dir), *printed_to(tool, words.dir), *printed_onto(tool, words.dir), *unpacking(tool, words.dir)):
-        if wrong:
-            print(f"{case}: {wrong}", flush=True)
-        passed, failed = passed + (not wrong), failed + bool(wrong)
+    for family in (wrongs, printed_to, printed_onto, two_systems, of_pipes, unpacking):
+        for case, wrong in family(tool, words.dir):
+            if wrong:
+                print(f"{case}: {wrong}", flush=True)
+            passed, failed = passed + (not wrong), failed + bool(wrong)
     finish(passed, failed)
 
 
