@@ -11,16 +11,19 @@ that it writes is compared. The families, all of which are run by default:
   places    an image of 256 GiB and more whose tables and LEBs lie at these places up to 2^38: each command that writes
             no image of its size
   beyond    an image that ends beyond 4 GiB: a change and a rename, whose outputs are compared byte for byte
+  views     images that begin beyond 4 GiB, with out-of-band bytes and without, on the grid of the file and off it; and
+            one whose pages lie 4 GiB apart, since each has as many out-of-band bytes as there can be
   many      an image of 2^20 eraseblocks, which is the most; and as a pipe of 512 MiB
   volumes   128 volumes, which is the most, with names of 127 bytes; and a config of 128 sections
   largest   eraseblocks of 2^24 bytes with pages of 65536, which are the largest; a text of 20 MB; files of 1, 20 and
             100 MiB
-  chips     chips with eraseblocks of 131072 and pages of 2048: images of 1, 20 and 100 MiB; and `compose` with outputs
-            of 39 and 100 MB
+  chips     chips with eraseblocks of 131072 and pages of 2048: images of 1, 20 and 100 MiB; and `compose` and `build`
+            with outputs of 39, 100 and 551 MB
   row       a config whose files end beyond 4 GiB, one by one and in a row
   geometry  the geometry of files of 1 MiB to 9 GiB; and of those up to 5 GiB if the last eraseblock has a header of
             other offsets, and if bytes follow it that are no whole eraseblock
-  huge      files of 8 TiB that are named as new bytes, as a text and in a config; and a text of 269 MB
+  huge      files of 8 TiB that are named as new bytes, as a text and in a config; a text of 269 MB; and configs whose
+            files have more than 32 GiB, and as many bytes as the volume or the device can have, or one more
   links     an image above 1 GiB that is the output, or should be the pages, by a link of either kind
 
 Large files are sparse: unwritten parts read as zero, which is no header. Large outputs go into a pipe, and are compared
@@ -343,6 +346,72 @@ def beyond(looker):
     yield from planned(looker, g, "far.img", small, places, rename.steps, ["rename", "--id", 0, "--name", "near"])
 
 
+def with_more(image, page, oob):
+    """An image with so many zeros after each page."""
+    return b"".join(image[at : at + page] + bytes(oob) for at in range(0, len(image), page))
+
+
+def seen_lines(looker, g, image, before, part, name):
+    """Each command that reads an image, and both plans, for a part of a file with that image; BEFORE are the eraseblocks
+    that lie before it in the file, and are blank."""
+    found, pages = rules.Image(g, image), looker.path("pages")
+    normal, data, states = rules.normal_image(found), found.read_volume(0), "".join(rules.check_lines(found))
+    count, blank = len(found.states), found.states.count("blank")
+    counted = states.replace(f"blocks {count}\nblank {blank}\n", f"blocks {before + count}\nblank {before + blank}\n")
+    ec, vid = (("valid", image[at : at + 64]) for at in (3 * g.peb, 3 * g.peb + g.vid))
+    yield looker.look(g, ["check", name, *part], counted)
+    yield looker.look(g, ["list", name, *part], "".join(rules.list_lines(found)))
+    yield looker.look(g, ["show", name, *part, "--block", before + 3], shown(ec, vid))
+    yield looker.look(g, ["extract", name, *part, "--id", 0], f"bytes {len(data)}\n", piped=[data])
+    yield looker.look(g, ["normalise", name, *part], f"blocks {len(normal) // g.peb}\n", piped=[normal])
+    at, new = [*range(before, before + count)], looker.put("new", b"new" * g.page)
+    change = ["change", name, *part, "--id", 0, "--lnum", 0, "--from", new]
+    rename = ["rename", name, *part, "--id", 0, "--name", "far"]
+    for words, plan in ((change, rules.Change(found, 0, 0, b"new" * g.page)), (rename, rules.Rename(found, 0, b"far"))):
+        lines, steps = "".join(rules.plan_lines(moved(plan.steps, at))), rules.pages_of(plan.steps)
+        yield looker.look(g, [*words, "--out", "/dev/null", "--pages", pages], lines, files=[("pages", [steps])])
+
+
+def views(looker):
+    """Images that begin beyond 4 GiB. The part is typed, or the image is found there. Then pages that are 4 GiB apart."""
+    image = rules.composed(meant_of(CHIP, (300_000, 200_000)), 3)
+    for oob in (0, 64):
+        laid, size = with_more(image, CHIP.page, oob), CHIP.peb // CHIP.page * (CHIP.page + oob)
+        before = 2**32 // size + 1
+        for start in (before * size, before * size + 64):
+            file = Sparse(start + len(laid) + 100, {start: laid, start + len(laid): noise(1, 100)})
+            file.put(looker.path("far.img"))
+            span, part = f"--start {start} --length {len(laid)}", ["--start", start, "--length", len(laid)]
+            lines = "".join(f"{line} {span}\n" for line in printed(laid)[0].splitlines())
+            listed = "".join(rules.list_lines(rules.Image(CHIP, image)))
+            yield looker.look(None, ["geometry", "far.img", *part], lines)
+            yield looker.look(None, ["list", "far.img", *part], listed)
+            length = (file.size - start % size) // size * size
+            found = lines.replace(span, f"--start {start % size} --length {length}")
+            yield looker.look(None, ["geometry", "far.img"], found)
+            typed = [*part, "--oob", oob]
+            if start % size:
+                yield looker.look(CHIP, ["list", "far.img", *typed], listed)
+                rename = ["rename", "far.img", *typed, "--id", 0, "--name", "far", "--out", "/dev/null"]
+                yield looker.look(CHIP, rename, f"refused F11 Start peb={size} rest=64\n", 1)
+            else:
+                yield from seen_lines(looker, CHIP, image, before, typed, "far.img")
+            past = ["list", "far.img", "--oob", oob, "--start"]
+            yield looker.look(CHIP, [*past, start, "--length", file.size - start + 1], f"refused F7 Part bytes={file.size}\n", 1)
+            yield looker.look(CHIP, [*past, file.size + 1], f"refused F7 Part bytes={file.size}\n", 1)
+    image, step = rules.composed(meant_of(LEAST, (1000, 700)), 3), LEAST.page + 2**32 - 1
+    pages = {k * step: image[k * LEAST.page :][: LEAST.page] for k in range(len(image) // LEAST.page)}
+    size, block = len(pages) * step, LEAST.peb // LEAST.page * step
+    for before in (0, 1):
+        start = before * block
+        Sparse(start + size, {start + at: data for at, data in pages.items()}).put(looker.path("far.img"))
+        oob = ["--oob", 2**32 - 1, "--start", start]
+        yield from seen_lines(looker, LEAST, image, before, oob, "far.img")
+        for length in (size - 1, size - step + 63):
+            words = ["list", "far.img", *oob, "--length", length]
+            yield looker.look(LEAST, words, f"refused F8 Pages rest={length % step}\n", 1)
+
+
 def many(looker):
     """An image of as many eraseblocks as a device can have: LEBs, then free ones, and the tables at its end."""
     g, count, used = LEAST, 2**20, 2**18 + 1
@@ -517,7 +586,7 @@ def chips(looker):
         yield from made(looker, meant_of(CHIP, (size // 2, size // 3, 1)), 4, ways)
         yield from all_commands(looker, CHIP, noise(79, CHIP.leb))
     small = Meaning(CHIP, SEQ, {0: Record(1, 1, 1, 0, b"a", 0)}, {0: {0: noise(4, CHIP.leb)}})
-    for spares in (299, 761):
+    for spares in (299, 761, 4200):
         yield from made(looker, small, spares, ("compose", "build"))
 
 
@@ -594,6 +663,21 @@ def huge(looker):
     for kind in ("dynamic", "static"):
         looker.put("config", f"[a]\nmode=ubi\nvol_id=0\nvol_name=a\nvol_type={kind}\nimage=huge\n".encode())
         yield looker.look(CHIP, ["build", "config", "--out", "out"], "refused M5 NoSpace\n", 1)
+    # As many bytes as 2,100 LEBs have, and one more: the device, or what the volume reserves, has room for the former.
+    most = 2100 * LARGEST.leb
+    sizes = LARGEST, dataclasses.replace(LARGEST, pebs=2102)
+    of_size = f"vol_size={most}\n"
+    for g, size, more, spares, line in (
+        (sizes[1], most + 1, "", 0, "refused M5 NoSpace\n"),
+        (sizes[1], most, "", 1, "refused C1 TooMany\n"),
+        (sizes[1], most, of_size, 1, "refused C1 TooMany\n"),
+        (sizes[0], most + 1, of_size, 0, "refused I14 LongImage line=1\n"),
+        (LEAST, 2**31 * LEAST.leb, "", 0, "refused I16 TooLarge line=1\n"),
+        (LEAST, 2**31 * LEAST.leb - LEAST.leb, "", 0, "refused M5 NoSpace\n"),
+    ):
+        Sparse(size, {}).put(looker.path("large"))
+        looker.put("config", f"[a]\nmode=ubi\nvol_id=0\nvol_name=a\nimage=large\n{more}".encode())
+        yield looker.look(g, ["build", "config", "--spares", spares, "--out", "out"], line, 1)
     change = ["change", "image", "--id", 0, "--lnum", 0, "--from", "huge", "--out", "out"]
     yield looker.look(few, change, "refused K6 BadLength\n", 1)
     for command in ("compose", "build"):
@@ -637,7 +721,7 @@ def links(looker):
             files=[("far.img", image.pieces())])
 
 
-FAMILIES = (headers, places, beyond, many, volumes, largest, chips, row, geometry, huge, links)
+FAMILIES = (headers, places, beyond, views, many, volumes, largest, chips, row, geometry, huge, links)
 
 
 def main():
