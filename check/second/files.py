@@ -208,7 +208,7 @@ def outputs_twice():
         links = ("nowhere", "new"), ("new", "nowhere"), ("nowhere", "nowhere"), ("old.hard", "old.soft")
         for out, pages in (*links, ("pipe", "pipe")):
             yield cannot_write(WORDS[command], out, pages)
-        for path in ("/dev/null", "/dev/stdout", "old", "new ", "-"):
+        for path in ("/dev/null", "/dev/stdout", "old", "new ", "./-"):
             for more in OTHERS:
                 yield cannot_write([*WORDS[command], *more], path, path)
 
