@@ -559,6 +559,26 @@ def printed_onto(tool, within):
             yield f"{command} >> image --out {out}", None if is_right else f"its status is {ran.returncode}, or a file is spoiled"
 
 
+def by_own_descriptor(tool, within):
+    """Each command that writes a file, whose output or pages are a descriptor that is open to nobody before it starts: it
+    may get the number of a file that the program itself reads. No file may change, unless it is IMAGE, of a command that
+    may replace that."""
+    plans = [[*WORDS[command], "--out", "old"] for command in ("change", "rename")]
+    writing = [(words, "--out") for words in (*WORDS.values(), ["map", "image"])] + [(words, "--pages") for words in plans]
+    for (words, option), number, path in itertools.product(writing, range(3, 9), ("/dev/fd", "/proc/self/fd")):
+        with tempfile.TemporaryDirectory(dir=within) as folder:
+            fill(folder)
+            before = held(folder)
+            ran = [tool, *words, option, f"{path}/{number}", *GEOMETRY.words()]
+            subprocess.run(ran, stdin=subprocess.DEVNULL, capture_output=True, cwd=folder, timeout=10)
+            after = held(folder)
+            may_change = {"image"} if words[0] in REPLACING else set()
+            may_change |= {"old", "old.hard"} if option == "--pages" else set()
+            changed = {os.path.relpath(place, folder) for place in before if after.get(place) != before[place]}
+        wrong = sorted(changed - may_change)
+        yield f"{words} {option} {path}/{number}", f"{wrong} hold something else" if wrong else None
+
+
 # Mounts two file systems, and makes files in both in one order, so that they have the same numbers: copies of those that
 # are read, and others. Then it runs a command, and copies what has become of them. Its status is 77 if that isn't allowed.
 MOUNTED = """
@@ -732,7 +752,7 @@ def main():
     words.add_argument("--tool", help="the program; the one that ./ubi_tool starts by default")
     words = words.parse_args()
     tool, passed, failed = os.path.abspath(built(words.tool)), 0, 0
-    for family in (wrongs, printed_to, printed_onto, two_systems, of_pipes, unpacking):
+    for family in (wrongs, printed_to, printed_onto, by_own_descriptor, two_systems, of_pipes, unpacking):
         for case, wrong in family(tool, words.dir):
             if wrong:
                 print(f"{case}: {wrong}", flush=True)
