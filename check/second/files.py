@@ -579,6 +579,21 @@ def by_own_descriptor(tool, within):
         yield f"{words} {option} {path}/{number}", f"{wrong} hold something else" if wrong else None
 
 
+def by_hyphen(tool, within):
+    """Each command that writes a file, from its file and from a pipe that is -, to a pipe that is -: that gets the bytes
+    of the output alone, and standard error the lines. A config that is piped has no folder, so it isn't tried."""
+    for command, words in WORDS.items():
+        for path in (words[1], *(["-"] if command != "build" else [])):
+            with tempfile.TemporaryDirectory(dir=within) as folder:
+                fill(folder)
+                before, (lines, new) = held(folder), answer(Case(words, "-"))
+                ran = [tool, command, path, *words[2:], "--out", "-", *GEOMETRY.words()]
+                ran = subprocess.run(ran, input=FILES[words[1]], capture_output=True, cwd=folder, timeout=10)
+                is_right = ran.returncode == 0 and ran.stdout == new["--out"] and ran.stderr.endswith(lines.encode())
+                wrong = f"its status is {ran.returncode}, and it prints {len(ran.stdout)} bytes and {ran.stderr[-200:]!r}"
+                yield f"{command} {path} --out -", None if is_right and held(folder) == before else wrong
+
+
 # Mounts two file systems, and makes files in both in one order, so that they have the same numbers: copies of those that
 # are read, and others. Then it runs a command, and copies what has become of them. Its status is 77 if that isn't allowed.
 MOUNTED = """
@@ -752,7 +767,7 @@ def main():
     words.add_argument("--tool", help="the program; the one that ./ubi_tool starts by default")
     words = words.parse_args()
     tool, passed, failed = os.path.abspath(built(words.tool)), 0, 0
-    for family in (wrongs, printed_to, printed_onto, by_own_descriptor, two_systems, of_pipes, unpacking):
+    for family in (wrongs, printed_to, printed_onto, by_own_descriptor, by_hyphen, two_systems, of_pipes, unpacking):
         for case, wrong in family(tool, words.dir):
             if wrong:
                 print(f"{case}: {wrong}", flush=True)
