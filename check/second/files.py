@@ -565,6 +565,9 @@ def through_streams(tool, within):
     behind what standard output has, the lines go to standard error, and nothing else is written."""
     for command, is_read in ((command, is_read) for command in WORDS for is_read in (False, True)):
         source = WORDS[command][1]
+        # A config that is read so has no folder, and is no other file than `-`.
+        if command == "build" and is_read:
+            continue
         case = Case([command, "-" if is_read else source, *WORDS[command][2:]], "-")
         lines, new = answer(case)
         wrong = streamed_wrong(tool, within, case, source, (0, b"front" + new["--out"], lines.encode()))
@@ -592,6 +595,41 @@ def streamed_wrong(tool, within, case, source, right):
     if ran.returncode != status or found != printed or lines not in ran.stderr or not is_kept:
         return f"its status is {ran.returncode}, standard error has {ran.stderr[-200:]!r}, or a file is spoiled"
     return None
+
+
+def by_own_descriptor(tool, within):
+    """Each command that writes a file, whose output or pages are a descriptor that is open to nobody before it starts: it
+    may get the number of a file that the program itself reads. No file may change, unless it is IMAGE, of a command that
+    may replace that."""
+    plans = [[*WORDS[command], "--out", "old"] for command in ("change", "rename")]
+    writing = [(words, "--out") for words in (*WORDS.values(), ["map", "image"])] + [(words, "--pages") for words in plans]
+    for (words, option), number, path in itertools.product(writing, range(3, 9), ("/dev/fd", "/proc/self/fd")):
+        with tempfile.TemporaryDirectory(dir=within) as folder:
+            fill(folder)
+            before = held(folder)
+            ran = [tool, *words, option, f"{path}/{number}", *GEOMETRY.words()]
+            subprocess.run(ran, stdin=subprocess.DEVNULL, capture_output=True, cwd=folder, timeout=10)
+            after = held(folder)
+            may_change = {"image"} if words[0] in REPLACING else set()
+            may_change |= {"old", "old.hard"} if option == "--pages" else set()
+            changed = {os.path.relpath(place, folder) for place in before if after.get(place) != before[place]}
+        wrong = sorted(changed - may_change)
+        yield f"{words} {option} {path}/{number}", f"{wrong} hold something else" if wrong else None
+
+
+def by_hyphen(tool, within):
+    """Each command that writes a file, from its file and from a pipe that is -, to a pipe that is -: that gets the bytes
+    of the output alone, and standard error the lines. A config that is piped has no folder, so it isn't tried."""
+    for command, words in WORDS.items():
+        for path in (words[1], *(["-"] if command != "build" else [])):
+            with tempfile.TemporaryDirectory(dir=within) as folder:
+                fill(folder)
+                before, (lines, new) = held(folder), answer(Case(words, "-"))
+                ran = [tool, command, path, *words[2:], "--out", "-", *GEOMETRY.words()]
+                ran = subprocess.run(ran, input=FILES[words[1]], capture_output=True, cwd=folder, timeout=10)
+                is_right = ran.returncode == 0 and ran.stdout == new["--out"] and ran.stderr.endswith(lines.encode())
+                wrong = f"its status is {ran.returncode}, and it prints {len(ran.stdout)} bytes and {ran.stderr[-200:]!r}"
+                yield f"{command} {path} --out -", None if is_right and held(folder) == before else wrong
 
 
 # Mounts two file systems, and makes files in both in one order, so that they have the same numbers: copies of those that
@@ -767,7 +805,10 @@ def main():
     words.add_argument("--tool", help="the program; the one that ./ubi_tool starts by default")
     words = words.parse_args()
     tool, passed, failed = os.path.abspath(built(words.tool)), 0, 0
-    for family in (wrongs, printed_to, printed_onto, through_streams, two_systems, of_pipes, unpacking):
+    families = (
+        wrongs, printed_to, printed_onto, through_streams, by_own_descriptor, by_hyphen, two_systems, of_pipes, unpacking,
+    )
+    for family in families:
         for case, wrong in family(tool, words.dir):
             if wrong:
                 print(f"{case}: {wrong}", flush=True)
