@@ -38,7 +38,7 @@ class Refused(ValueError):
 
 
 class Limit(ValueError):
-    """The sizes are no geometry. `cause` is the first limit that they break, such as 'G2 Page'."""
+    """The sizes are no geometry. `cause` is the first limit that they break, such as 'G1 Page'."""
 
     def __init__(self, cause):
         self.cause = cause
