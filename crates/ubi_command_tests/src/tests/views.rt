@@ -367,7 +367,7 @@ static SIZES: [&str; 5] = [
     "--peb 131072 --page 2048 --vid 2048 --data 4096 --oob 64 --start 65536 --length 540672",
     "--peb 128KiB --page 2KiB --vid 2KiB --data 4KiB --oob 64 --start 64KiB --length 528KiB",
     "--peb 0x20000 --page 0x800 --vid 0x800 --data 0x1000 --oob 0x40 --start 0x10000 --length 0x84000",
-    "--peb=+0128KiB --page=+2KiB --oob=+064 --start 0x00010000 --length=0540672",
+    "--peb +0128KiB --page=+2KiB --oob=+064 --start 0x00010000 --length=0540672",
     "--peb 0x0000000020000 --page 2048 --data 00004KiB --oob 64 --start +64KiB",
 ];
 
