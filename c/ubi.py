@@ -112,11 +112,11 @@ def _number(number):
     return number
 
 
-def _sizes_of(sizes):
-    """The address of sizes."""
+def _checked(sizes):
+    """The same sizes, if they are sizes."""
     if not isinstance(sizes, Sizes):
         raise TypeError(f"{sizes!r} is no Sizes")
-    return ctypes.byref(sizes)
+    return sizes
 
 
 def _spared_of(bad, keep_blank):
@@ -182,7 +182,7 @@ class Library:
         with contextlib.ExitStack() as held:
             before, after = (
                 [word for data in some for word in held.enter_context(_bytes_of(data))] for some in (images, given))
-            words = [] if name == "geometry" else [_sizes_of(sizes)]
+            words = [] if name == "geometry" else [ctypes.byref(_checked(sizes))]
             words += before + spared + [ctypes.c_uint32(_number(n)) for n in numbers] + after
             while True:
                 status = call(*words, *(word for room in rooms for word in room.words()))
@@ -240,7 +240,7 @@ class Library:
 
     def normalise(self, sizes, image):
         """The normal image: one that means the same, and is the same for all images that do."""
-        return self._answer("normalise", sizes, [image], rooms=[_Room(len(image) + 2 * sizes.peb_size)])[0]
+        return self._answer("normalise", sizes, [image], rooms=[_Room(len(image) + 2 * _checked(sizes).peb_size)])[0]
 
     def same(self, sizes, left, right):
         """Whether two images mean the same."""
@@ -264,7 +264,7 @@ class Library:
         return self._plan("rename", sizes, image, _spared_of(bad, keep_blank), [number], word)
 
     def _plan(self, name, sizes, image, spared, numbers, data):
-        rooms = [_Room(ROOM), _Room(2 * sizes.peb_size)]
+        rooms = [_Room(ROOM), _Room(2 * _checked(sizes).peb_size)]
         lines, pages = self._answer(name, sizes, [image], numbers, [data], rooms, spared)
         steps = []
         for line in lines.decode("ascii").splitlines()[1:]:
