@@ -1,9 +1,5 @@
 -- Listed eraseblocks whose bytes read 0xFF are Blank.
-use Rattle.ubi_calls.proofs.Prelude.{◌≡◌, ◌∙◌, ℕ, ◌+◌, ◌-◌, ◌*◌, ◌/◌, ◌<◌, ◌≤◌, Bool, List, ap, arith, cond, drop, length, sym, take, true, div-mul-add, get_or-drop, get_or-replicate, get_or-take, length-drop, length-first_chunks, length-replicate, length-take-le, same_lists, Sizes, IsGeometry, blank, blank_ec, block, blocks_of, ec, ec_reading, image_of, is_listed, of_blocks, part_of_block, get_or-masked, length-masked, masked, Avoided, ReadBlank, slice_range}
-use Rattle.std.proofs.Common.{get_or, le_refl}
-use Rattle.std.proofs.Math.Nat.{div-mul-le_self}
-use Rattle.std.proofs.lemmas.Nat.{mul-le}
-use Rattle.std.specs.Prelude.{slice_range}
+use Rattle.ubi_calls.proofs.Prelude.{◌≡◌, ◌∙◌, ℕ, ◌+◌, ◌-◌, ◌*◌, ◌/◌, ◌<◌, ◌≤◌, Bool, List, ap, arith, cond, drop, length, sym, take, true, div-mul-add, get_or-drop, get_or-replicate, get_or-take, length-drop, length-first_chunks, length-replicate, length-take-le, same_lists, Sizes, IsGeometry, blank, blank_ec, block, blocks_of, ec, ec_reading, image_of, is_listed, of_blocks, part_of_block, get_or-masked, length-masked, masked, Avoided, ReadBlank, slice_range, get_or, le_refl, div-mul-le_self, mul-le}
 use Rattle.ubi_media.specs.declared.ec.EcRead.TheVariants as ec_read
 
 module _ (s : Sizes) (g : IsGeometry s) (marks : List Bool) (bytes : List ℕ) where

@@ -1,8 +1,9 @@
 -- The names that the proofs of this crate speak of, and where they come from.
-pub use Rattle.std.proofs.Common.{Bool, List, Some, [], ap, append-nil, ap₂, arith, cond, drop, length, refl, subst, sym, take, true, ℕ, ◌*◌, ◌++◌, ◌+◌, ◌-◌, ◌/◌, ◌<◌, ◌==◌, ◌∙◌, ◌≡◌, ◌≢◌, ◌≤◌}
-pub use Rattle.std.proofs.lemmas.Bool.{ne_eqb}
-pub use Rattle.std.proofs.lemmas.List.{drop-drop, drop_all, get_or-drop, get_or-replicate, get_or-take, length-drop, length-replicate, length-take, length-take-le, same_lists, take-append-drop, take_all}
-pub use Rattle.std.proofs.lemmas.Nat.{div-mul-add}
+pub use Rattle.std.proofs.Common.{Bool, List, Some, [], ap, append-nil, ap₂, arith, cond, drop, get_or, le_refl, length, refl, subst, sym, take, true, ℕ, ◌*◌, ◌++◌, ◌+◌, ◌-◌, ◌/◌, ◌<◌, ◌==◌, ◌∙◌, ◌≡◌, ◌≢◌, ◌≤◌}
+pub use Rattle.std.proofs.Math.Nat.{div-mul-le_self}
+pub use Rattle.std.proofs.lemmas.Bool.{eqb-true, ne_eqb}
+pub use Rattle.std.proofs.lemmas.List.{drop-drop, drop_all, get_or-drop, get_or-replicate, get_or-take, length-drop, length-replicate, length-take, length-take-le, nil_from_length, same_lists, take-append-drop, take_all, with_items_is}
+pub use Rattle.std.proofs.lemmas.Nat.{div-mul-add, mul-le}
 pub use Rattle.std.proofs.lemmas.Result.{IfOk-at_ok, IfOk-weaker}
 pub use Rattle.std.proofs.lemmas.Slice.{drop-put_mid}
 pub use Rattle.std.specs.Prelude.{Err, IfErr, IfOk, None, Ok, Option, Result, if◌then◌else◌, slice_range}
@@ -19,10 +20,10 @@ pub use Rattle.ubi_commands.specs.Rename.{RenamesFrom}
 pub use Rattle.ubi_commands.specs.declared.volume_key.VolumeKey.TheVariants.{Id}
 unfoldable pub use Rattle.ubi_compose.specs.Normal.{normal_bytes}
 pub use Rattle.ubi_compose.specs.Streamed.{IsNormalisedTo}
-pub use Rattle.ubi_files.proofs.MaskedBytes.{get_or-masked, length-masked}
+pub use Rattle.ubi_files.proofs.MaskedBytes.{get_or-masked, length-masked, masked_none}
 pub use Rattle.ubi_files.specs.AfterRun.{after_run}
 pub use Rattle.ubi_files.specs.Answer.{Gives, says}
-pub use Rattle.ubi_files.specs.BadBlocks.{masked}
+pub use Rattle.ubi_files.specs.BadBlocks.{marks_by_number, masked}
 pub use Rattle.ubi_files.specs.Lines.{geometry_line}
 pub use Rattle.ubi_files.specs.Views.{whole_file}
 pub use Rattle.ubi_files.specs.declared.outcome.Outcome.{Outcome}
@@ -45,10 +46,12 @@ pub use Rattle.ubi_volume.specs.Places.{ArePlaces, ArePlacesOf, Placed}
 pub use Rattle.ubi_volume.specs.Reading.{read_volume, volume_len}
 pub use Rattle.ubi_calls.specs.Calls.{Fills, FillsBoth, MayTell, Streams, Under, bad_limit, both, ended, filled, named_sizes, neither, no_memory, printed, put_into, uncounted, under}
 pub use Rattle.ubi_calls.specs.Contents.{Normal, ReadsContents, no_normal, normal, read, refused, unread}
-pub use Rattle.ubi_calls.specs.Edits.{PlansChange, PlansRename}
+pub use Rattle.ubi_calls.specs.Edits.{PlansChange, PlansRename, image_without, spared}
 pub use Rattle.ubi_calls.specs.declared.numbers.DeviceSizes.{DeviceSizes}
+pub use Rattle.ubi_calls.specs.declared.plans.Edit.{Edit}
+pub use Rattle.ubi_calls.specs.declared.plans.Spared.{Spared}
 pub use Rattle.ubi_calls.specs.declared.streams.Content.{Content}
 pub use Rattle.ubi_calls.specs.inner.Asking.{answers}
-pub use Rattle.ubi_calls.specs.inner.Editing.{HandsPlan, given_pages, spared_plan}
+pub use Rattle.ubi_calls.specs.inner.Editing.{HandsPlan, edit_plan, given_pages, spared_plan}
 pub use Rattle.ubi_calls.specs.inner.Handing.{HandsOver, Leaves}
 pub use Rattle.ubi_calls.specs.inner.Streaming.{IsUnwritten, Writes, said, wanted, wrote}

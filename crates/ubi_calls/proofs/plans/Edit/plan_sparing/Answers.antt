@@ -1,6 +1,4 @@
-use Rattle.ubi_calls.proofs.Prelude.{◌≡◌, ◌∙◌, ap, length, subst, sym, Avoided, Bool, IfOk-weaker, List, ReadBlank, image_of, masked, of_blocks, ℕ}
-use Rattle.std.proofs.lemmas.Bool.{eqb-true}
-use Rattle.std.proofs.lemmas.List.{with_items_is}
+use Rattle.ubi_calls.proofs.Prelude.{◌≡◌, ◌∙◌, ap, length, subst, sym, Avoided, Bool, IfOk-weaker, List, ReadBlank, image_of, masked, of_blocks, ℕ, eqb-true, with_items_is}
 use Rattle.ubi_calls.proofs.MaskedBlocks.{none_held}
 use Rattle.ubi_calls.proofs.Spared.{for_chip, unmarked}
 use Rattle.ubi_calls.proofs.plans.Edit.plan_sparing.Goals as goal
