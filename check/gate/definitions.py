@@ -28,20 +28,18 @@ import re
 import sys
 
 import contracts
+import crates
 
 ROOT = os.path.dirname(os.path.dirname(os.path.dirname(os.path.abspath(__file__))))
-CRATES = (
-    "ubi_words", "ubi_media", "ubi_config", "ubi_scan", "ubi_detect", "ubi_files", "ubi_table", "ubi_volume",
-    "ubi_laid", "ubi_compose", "ubi_compare", "ubi_change", "ubi_probe", "ubi_json", "ubi_map", "ubi_commands",
-    "ubi_calls", "ubi_tool",
-)
+# The crates that have definitions, lowest first, and the program.
+CRATES = tuple(name for name in crates.names() if name not in ("ubi_uses", "ubi_tests", "ubi_command_tests", "ubi_c"))
 HEADLINE = ("ubi_commands", "Headline", "Headline")
 # The calls that compute what the headline speaks of, by their files.
 CALLS = (
     ("ubi_volume", "attached", "attach"),
     ("ubi_compose", "memory_image", "compose"),
     ("ubi_compose", "memory_image", "normalise"),
-    ("ubi_compare", "compare", "same"),
+    ("ubi_same", "compared", "same"),
     ("ubi_change", "change", "plan_change"),
     ("ubi_change", "rename", "plan_rename"),
 )
@@ -347,18 +345,9 @@ def misplaced(public):
                     yield f"{crate}.{name}.{item} is reached by no public contract, and cited by no other crate"
 
 
-def crates_below():
-    """The crates that each crate stands on, directly or not."""
-    below = {}
-    with open(os.path.join(ROOT, "crates.txt"), encoding="utf-8") as file:
-        for name, libraries in re.findall(r"^(\w+)[^:\n]*:(.*)$", file.read(), re.M):
-            below[name] = set().union(*({it} | below[it] for it in libraries.split() if it in below))
-    return below
-
-
 def twins():
     """The definitions whose name another one has, in a crate that theirs stands on."""
-    below, named = crates_below(), {}
+    below, named = {name: crates.below(name) for name in CRATES}, {}
     for crate in CRATES:
         for name in all_files(crate):
             for item in file_of(crate, name).items:

@@ -19,6 +19,8 @@ import subprocess
 import sys
 import time
 
+import crates
+
 ROOT = os.path.dirname(os.path.dirname(os.path.dirname(os.path.abspath(__file__))))
 TICKS = os.sysconf("SC_CLK_TCK")
 KINDS = ("proof", "tests", "bugs")
@@ -89,12 +91,6 @@ def commands():
     return found
 
 
-def crates():
-    """The crates of the repository, lowest first."""
-    with open(os.path.join(ROOT, "crates.txt"), encoding="utf-8") as file:
-        return re.findall(r"^(\w+)(?: staticlib)?:", file.read(), re.M)
-
-
 def main():
     if not all(commands()):
         sys.exit(__doc__)
@@ -107,7 +103,7 @@ def main():
     usage = resource.getrusage(resource.RUSAGE_CHILDREN)
     whole, first = usage.ru_utime + usage.ru_stime, took.get(("ubi_table", "proof"), 0)
     print(f"{'minutes of the processor':<26}" + "".join(f"{kind:>8}" for kind in KINDS))
-    for crate in crates():
+    for crate in crates.names():
         print(f"{crate:<26}" + "".join(f"{took.get((crate, kind), 0) / 60:>8.1f}" for kind in KINDS))
     ratio = f"{whole / first:.0f} times the proof of ubi_table" if first else "the proof of ubi_table was kept"
     print(f"{whole / 60:.0f} in all, in {(time.monotonic() - began) / 60:.0f} minutes; {ratio}")

@@ -16,7 +16,10 @@ import shutil
 import subprocess
 import sys
 import tempfile
+import time
 from pathlib import Path
+
+import crates
 
 ROOT = Path(__file__).resolve().parents[2]
 IMAGE = ROOT / 'crates/ubi_tool/data/root.img'
@@ -25,11 +28,6 @@ CHIP = ['--peb', '131072', '--page', '2048']
 # How many eraseblocks of 128 KiB are long work: 256 MiB.
 LONG = 2048
 
-# The crates that the launcher builds, in this order, and the program that it runs.
-CRATES = (
-    'ubi_words', 'ubi_media', 'ubi_config', 'ubi_scan', 'ubi_files', 'ubi_detect', 'ubi_table', 'ubi_volume',
-    'ubi_laid', 'ubi_change', 'ubi_compose', 'ubi_compare', 'ubi_json', 'ubi_map', 'ubi_commands', 'ubi_tool',
-)
 PROGRAM = 'crates/ubi_tool/out/launched/ubi_tool'
 
 # The words of a change and of a rename, without their image.
@@ -164,15 +162,16 @@ def tunables(folder):
 def house(folder):
     """A repository with the launcher, whose sources are old."""
     home = folder / 'a  house *'
-    for crate in CRATES:
+    for crate in crates.names():
         (home / 'crates' / crate / 'src').mkdir(parents=True)
         (home / 'crates' / crate / 'src/lib.rt').write_text('')
     (home / 'crates/ubi_table/src/topic.rt').write_text('')
     (home / PROGRAM).parent.mkdir(parents=True)
-    (home / 'crates.txt').write_text('')
+    shutil.copy(ROOT / 'crates.txt', home)
     for source in sources(home):
         os.utime(source, (1, 1))
-    shutil.copy(ROOT / 'ubi_tool', home / 'ubi_tool')
+    for name in ('ubi_tool', 'prove.sh'):
+        shutil.copy(ROOT / name, home / name)
     return home
 
 
@@ -181,20 +180,32 @@ def sources(home):
 
 
 def kit(folder):
-    """A folder with an `rt` that builds a program which prints its words, unless there is a file `broken` beside it. If
-    there is a link `edited`, what it leads to is edited during the build."""
-    place = folder / 'kit'
-    place.mkdir()
-    (place / 'program').write_text('#!/bin/sh\necho "new $1"\nexit 7\n')
+    """A folder with a kit that builds a program which prints its words, unless there is a file `broken` beside it. If
+    there is a link `edited`, what it leads to is edited during the build. Each library that is proved notes its name."""
+    place = folder / 'a kit *'
+    (place / 'bin').mkdir(parents=True)
+    (place / 'program').write_text('#!/bin/sh\necho "new $1"\n[ "$1" = check ] || exit 7\n')
     (place / 'rt').write_text(f"""#!/bin/sh
-echo "$1" >>{place}/calls
 case $1 in
     version) echo rattle-kit-13b ;;
-    lib) [ ! -e {place}/edited ] || {{ sleep 0.02 && touch {place}/edited; }} ;;
-    run) [ ! -e {place}/broken ] && cp {place}/program out/ubi_tool ;;
+    doc) echo '{place}/page.md' ;;
 esac
 """)
-    for name in ('program', 'rt'):
+    (place / 'bin/rattle').write_text(f"""#!/bin/sh
+[ ! -e '{place}/edited' ] || {{ sleep 0.02 && touch '{place}/edited'; }}
+name=$(basename "$PWD")
+[ ! -e '{place}/slow' ] || sleep 0.3
+echo "$name" >>'{place}/calls'
+while [ "$1" != -o ]; do shift; done
+[ ! -e '{place}/broken' ] || exit 1
+[ "$name" = ubi_tool ] && exec cp '{place}/program' "$2"
+mkdir "$2"
+""")
+    (place / 'bin/rattle-link').write_text("""#!/bin/sh
+while [ "$1" != -o ]; do shift; done
+cp "$3" "$2"
+""")
+    for name in ('program', 'rt', 'bin/rattle', 'bin/rattle-link'):
         (place / name).chmod(0o755)
     return place
 
@@ -221,6 +232,8 @@ def rebuilt(tool, folder):
         yield f'again: {ran}', ran == (7, b'new a word\n', b'') and not calls.exists()
         os.utime(source, (1, 1))
     yield from edited(home, tools, path)
+    yield from proved(home, tools, path)
+    yield from interrupted(home, tools, path)
     os.utime(home / PROGRAM, (0, 0))
     (tools / 'broken').write_text('')
     ran = run(home / 'ubi_tool', ['a word'], env=path)
@@ -244,6 +257,60 @@ def edited(home, tools, path):
         os.utime(source, (seconds, seconds))
         ran = run(home / 'ubi_tool', ['a word'], env=path)
         yield f'a source of the future: {ran}', fits(ran, 7, b'new a word\n', line)
+    os.utime(source, (1, 1))
+
+
+def calls_of(tools):
+    """The crates that were compiled since this was asked last, in their order."""
+    calls = tools / 'calls'
+    names = calls.read_text().split() if calls.exists() else []
+    calls.unlink(missing_ok=True)
+    return names
+
+
+def is_in_order(names):
+    """Whether each crate stands behind those that it uses, and stands there once."""
+    return all(not crates.below(name) & set(names[at:]) for at, name in enumerate(names)) and len(set(names)) == len(names)
+
+
+def proved(home, tools, path):
+    """A build proves each library that the program stands on, once and in their order; the next one what is newer, and
+    what stands on that; and one at the same time waits."""
+    whole = {'ubi_tool', *crates.below('ubi_tool')}
+    shutil.rmtree(home / 'crates/ubi_tool/out/launched/libraries')
+    calls_of(tools)
+    for edited_crate in (None, 'ubi_media', 'ubi_table', 'ubi_compose', 'ubi_commands'):
+        if edited_crate:
+            os.utime(home / 'crates' / edited_crate / 'src/lib.rt')
+        os.utime(home / PROGRAM, (0, 0))
+        two = [subprocess.Popen([home / 'ubi_tool', 'a word'], env=path, stdout=subprocess.PIPE, stderr=subprocess.DEVNULL)
+               for _ in range(2)]
+        ran = [(each.communicate()[0], each.returncode) for each in two]
+        names = calls_of(tools)
+        wanted = whole if edited_crate is None else {name for name in whole if edited_crate in {name, *crates.below(name)}}
+        # The second one compiles the program again, over what the first one proved.
+        is_right = ran == [(b'new a word\n', 7)] * 2 and names[-1:] == ['ubi_tool'] and names.count('ubi_tool') <= 2
+        first = [name for name in names if name != 'ubi_tool'] + ['ubi_tool']
+        yield f'after {edited_crate}: {ran} {names}', is_right and set(first) == wanted and is_in_order(first)
+
+
+def interrupted(home, tools, path):
+    """A build that is killed leaves no program, and the next one proves what isn't proved yet."""
+    os.utime(home / 'crates/ubi_media/src/lib.rt')
+    (home / PROGRAM).unlink()
+    calls_of(tools)
+    (tools / 'slow').write_text('')
+    for seconds in (0.2, 0.5, 0.9):
+        ran = subprocess.Popen([home / 'ubi_tool', 'a word'], env=path, stdout=subprocess.DEVNULL, stderr=subprocess.DEVNULL)
+        time.sleep(seconds)
+        ran.kill()
+        ran.wait()
+        yield f'killed after {seconds} seconds', not (home / PROGRAM).exists()
+    (tools / 'slow').unlink()
+    ran = run(home / 'ubi_tool', ['a word'], env=path)
+    wanted = {name for name in crates.below('ubi_tool') if 'ubi_media' in {name, *crates.below(name)}}
+    names = [name for name in calls_of(tools) if name != 'ubi_tool']
+    yield f'after that: {ran} {names}', fits(ran, 7, b'new a word\n', b'ubi_tool: building') and wanted == set(names)
 
 
 def report(cases):

@@ -24,12 +24,10 @@ import sys
 from collections import Counter
 from pathlib import Path
 
+import crates
+
 ROOT = Path(__file__).resolve().parents[2]
-CRATES = (
-    'ubi_words', 'ubi_media', 'ubi_config', 'ubi_scan', 'ubi_detect', 'ubi_files', 'ubi_table', 'ubi_volume',
-    'ubi_laid', 'ubi_change', 'ubi_compose', 'ubi_compare', 'ubi_json', 'ubi_map', 'ubi_commands', 'ubi_calls', 'ubi_c',
-    'ubi_tool',
-)
+CRATES = tuple(name for name in crates.names() if name not in crates.OF_TESTS)
 LISTED = Path(__file__).resolve().with_name('places.txt')
 # The proofs by hand.
 BY_HAND = ('crates/ubi_scan/proofs/trace/Trace/new/Proof.antt', 'crates/ubi_scan/proofs/trace/Trace/note/Proof.antt')

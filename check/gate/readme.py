@@ -20,8 +20,8 @@ ROOT = Path(__file__).resolve().parents[2]
 PAGES = ('README.md', 'docs/USE.md', 'docs/CHANGE.md', 'docs/AUDIT.md')
 # The crates whose front pages show no caller.
 WITHOUT_CALLER = (
-    'ubi_uses', 'ubi_probe', 'ubi_tests', 'ubi_files', 'ubi_json', 'ubi_map', 'ubi_commands', 'ubi_command_tests',
-    'ubi_calls', 'ubi_c',
+    'ubi_uses', 'ubi_compare', 'ubi_probe', 'ubi_tests', 'ubi_files', 'ubi_json', 'ubi_map', 'ubi_dumps', 'ubi_reading',
+    'ubi_writing', 'ubi_commands', 'ubi_command_tests', 'ubi_calls', 'ubi_c',
 )
 
 

@@ -51,7 +51,7 @@ def is_own(lines, number, name, indent, first):
         end += 1
     head = HEAD.match(lines[number])
     is_equation = number > first and head is not None and head[1] == indent and head[3] == name
-    return first <= number < end or is_equation
+    return first <= number < end or is_equation and not lines[number - 1].endswith(" =")
 
 
 def main():

@@ -577,6 +577,43 @@ def through_streams(tool, within):
         yield f"{case} >> printed, refused", streamed_wrong(tool, within, case, refused, (1, b"front", b"refused "))
 
 
+def pages_streamed(tool, within):
+    """Each plan whose pages go to standard output: they come behind what that has, and the lines go to standard error."""
+    for command, spelling in ((command, spelling) for command in ("change", "rename") for spelling in (["-"], [])):
+        case = Case(WORDS[command], "new", "-")
+        lines, new = answer(case)
+        with tempfile.TemporaryDirectory(dir=within) as folder, tempfile.TemporaryFile(dir=within) as output:
+            fill(folder)
+            before = held(folder)
+            output.write(b"front")
+            output.flush()
+            pages = ["--pages", *spelling] if spelling else ["--pages=-"]
+            words = [tool, *WORDS[command], "--out", "new", *pages, *GEOMETRY.words()]
+            ran = subprocess.run(words, stdout=output, stderr=subprocess.PIPE, cwd=folder, timeout=10)
+            output.seek(0)
+            found = output.read()
+            after = held(folder)
+        is_written = after.pop(os.path.join(folder, "new"), None) == new["--out"] and after == before
+        is_right = ran.returncode == 0 and found == b"front" + new["--pages"] and ran.stderr.endswith(lines.encode())
+        wrong = f"its status is {ran.returncode}, standard error has {ran.stderr[-200:]!r}, or a file is spoiled"
+        yield f"{command} {pages} >> printed", None if is_right and is_written else wrong
+
+
+def onto_image(tool, within):
+    """Each command whose output is standard output, which is the image: it is refused, and the image stays."""
+    for command in (command for command in WORDS if "image" in WORDS[command]):
+        with tempfile.TemporaryDirectory(dir=within) as folder:
+            fill(folder)
+            before, had = held(folder), entries(folder)
+            with open(os.path.join(folder, "image"), "ab") as stdout:
+                words = [tool, *spelled(Case(WORDS[command], "-"), folder)]
+                ran = subprocess.run(words, stdout=stdout, stderr=subprocess.PIPE, cwd=folder, timeout=10)
+            is_right = ran.returncode == 1 and held(folder) == before and entries(folder) == had
+            is_right = is_right and ran.stderr.endswith(b"cannot write -\n")
+            wrong = f"its status is {ran.returncode}, standard error has {ran.stderr[-200:]!r}, or a file is spoiled"
+            yield f"{command} >> image --out -", None if is_right else wrong
+
+
 def streamed_wrong(tool, within, case, source, right):
     """What is wrong with a case whose output is standard output, if a status, all that stands there, and what standard
     error has among its lines are right; None if nothing is."""
@@ -603,11 +640,17 @@ def by_own_descriptor(tool, within):
     may replace that."""
     plans = [[*WORDS[command], "--out", "old"] for command in ("change", "rename")]
     writing = [(words, "--out") for words in (*WORDS.values(), ["map", "image"])] + [(words, "--pages") for words in plans]
-    for (words, option), number, path in itertools.product(writing, range(3, 9), ("/dev/fd", "/proc/self/fd")):
+    folders = ("/dev/fd", "/proc/self/fd", "//dev/../dev/fd", "RELATIVE", "LINK")
+    for (words, option), number, path in itertools.product(writing, range(3, 9), folders):
         with tempfile.TemporaryDirectory(dir=within) as folder:
             fill(folder)
             before = held(folder)
-            ran = [tool, *words, option, f"{path}/{number}", *GEOMETRY.words()]
+            place = os.path.relpath("/dev/fd", os.path.realpath(folder)) if path == "RELATIVE" else path
+            place = f"{place}/{number}"
+            if path == "LINK":
+                place = "descriptor"
+                os.symlink(f"/dev/fd/{number}", os.path.join(folder, place))
+            ran = [tool, *words, option, place, *GEOMETRY.words()]
             subprocess.run(ran, stdin=subprocess.DEVNULL, capture_output=True, cwd=folder, timeout=10)
             after = held(folder)
             may_change = {"image"} if words[0] in REPLACING else set()
@@ -806,7 +849,8 @@ def main():
     words = words.parse_args()
     tool, passed, failed = os.path.abspath(built(words.tool)), 0, 0
     families = (
-        wrongs, printed_to, printed_onto, through_streams, by_own_descriptor, by_hyphen, two_systems, of_pipes, unpacking,
+        wrongs, printed_to, printed_onto, through_streams, pages_streamed, onto_image, by_own_descriptor, by_hyphen,
+        two_systems, of_pipes, unpacking,
     )
     for family in families:
         for case, wrong in family(tool, words.dir):

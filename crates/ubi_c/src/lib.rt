@@ -3,14 +3,14 @@
 
 ghost use Rattle.ubi_scan.specs.Image.{image_of};
 ghost use Rattle.ubi_files.specs.Views.{whole_file};
-ghost use Rattle.ubi_commands.specs.Check.{Checks};
-ghost use Rattle.ubi_commands.specs.Comparisons.{Compares};
-ghost use Rattle.ubi_commands.specs.Geometry.{Detects};
-ghost use Rattle.ubi_commands.specs.List.{Lists};
-ghost use Rattle.ubi_commands.specs.Map.{Maps};
-ghost use Rattle.ubi_commands.specs.Show.{Shows};
-ghost use Rattle.ubi_commands.specs.declared.comparison.Comparison.TheVariants as comparison;
-ghost use Rattle.ubi_commands.specs.declared.format.Format.TheVariants as format;
+ghost use Rattle.ubi_reading.specs.Check.{Checks};
+ghost use Rattle.ubi_reading.specs.Comparisons.{Compares};
+ghost use Rattle.ubi_reading.specs.Geometry.{Detects};
+ghost use Rattle.ubi_reading.specs.List.{Lists};
+ghost use Rattle.ubi_reading.specs.Map.{Maps};
+ghost use Rattle.ubi_reading.specs.Show.{Shows};
+ghost use Rattle.ubi_reading.specs.declared.comparison.Comparison.TheVariants as comparison;
+ghost use Rattle.ubi_dumps.specs.declared.format.Format.TheVariants as format;
 ghost use Rattle.ubi_calls.specs.Calls.{Fills, FillsBoth, Streams, Under, printed};
 ghost use Rattle.ubi_calls.specs.Contents.{Normal, ReadsContents};
 ghost use Rattle.ubi_calls.specs.Edits.{PlansChange, PlansRename, image_without, spared};

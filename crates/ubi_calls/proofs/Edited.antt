@@ -2,8 +2,8 @@
 use Rattle.ubi_calls.proofs.Prelude.{[], Bool, List, Some, ap, arith, length, subst, sym, take, ℕ, ◌==◌, ◌∙◌, ◌≡◌, ◌≢◌, ne_eqb, take_all, IfOk-at_ok, IfOk-weaker, Err, IfOk, None, Ok, Option, Result, if◌then◌else◌, AllocError, Sizes, first_broken, GeometryError, Gives, says, geometry_line, image_of, Narrows, holds, memory, still, programmed, Step, Outcome, ToolError, ChangesFrom, RenamesFrom, FillsBoth, MayTell, Under, bad_limit, both, neither, named_sizes, DeviceSizes, PlansChange, PlansRename, HandsPlan, given_pages, Avoided, IsNotBlank, ReadBlank, of_blocks}
 use Rattle.ubi_change.proofs.Unplanned as planning
 use Rattle.ubi_change.proofs.Unrenamed as renaming
-use Rattle.ubi_commands.specs.Change as change
-use Rattle.ubi_commands.specs.Rename as rename
+use Rattle.ubi_writing.specs.Change as change
+use Rattle.ubi_writing.specs.Rename as rename
 use Rattle.ubi_calls.proofs.ToldOutcomes.{at_sizes}
 use Rattle.ubi_calls.specs.Edits as edits
 

@@ -11,13 +11,6 @@ pub use Rattle.std.specs.declared.alloc.AllocError.{AllocError}
 pub use Rattle.ubi_change.specs.Avoided.{Avoided, IsNotBlank, ReadBlank}
 pub use Rattle.ubi_change.specs.Pages.{programmed}
 pub use Rattle.ubi_change.specs.declared.step.Step.{Step}
-pub use Rattle.ubi_commands.proofs.Extracted.{has_text}
-pub use Rattle.ubi_commands.specs.Change.{ChangesFrom}
-pub use Rattle.ubi_commands.specs.Extract.{Extracts, IsExtractError}
-pub use Rattle.ubi_commands.specs.Geometry.{Detects}
-pub use Rattle.ubi_commands.specs.Normalise.{IsNormaliseError, Normalises}
-pub use Rattle.ubi_commands.specs.Rename.{RenamesFrom}
-pub use Rattle.ubi_commands.specs.declared.volume_key.VolumeKey.TheVariants.{Id}
 unfoldable pub use Rattle.ubi_compose.specs.Normal.{normal_bytes}
 pub use Rattle.ubi_compose.specs.Streamed.{IsNormalisedTo}
 pub use Rattle.ubi_files.proofs.MaskedBytes.{get_or-masked, length-masked, masked_none}
@@ -33,6 +26,7 @@ pub use Rattle.ubi_media.specs.Fields.{blank}
 pub use Rattle.ubi_media.specs.Geometry.{IsGeometry, Sizes}
 unfoldable pub use Rattle.ubi_media.specs.Limits.{first_broken}
 pub use Rattle.ubi_media.specs.declared.geometry.GeometryError.{GeometryError}
+pub use Rattle.ubi_reading.specs.Geometry.{Detects}
 pub use Rattle.ubi_scan.proofs.Chunks.{length-first_chunks}
 pub use Rattle.ubi_scan.proofs.InMemory.{still}
 pub use Rattle.ubi_scan.proofs.Parts.{blank_ec}
@@ -44,6 +38,12 @@ pub use Rattle.ubi_volume.proofs.OneMeaning.{Accepts-unique}
 pub use Rattle.ubi_volume.specs.Extract.{extent_len}
 pub use Rattle.ubi_volume.specs.Places.{ArePlaces, ArePlacesOf, Placed}
 pub use Rattle.ubi_volume.specs.Reading.{read_volume, volume_len}
+pub use Rattle.ubi_writing.proofs.Extracted.{has_text}
+pub use Rattle.ubi_writing.specs.Change.{ChangesFrom}
+pub use Rattle.ubi_writing.specs.Extract.{Extracts, IsExtractError}
+pub use Rattle.ubi_writing.specs.Normalise.{IsNormaliseError, Normalises}
+pub use Rattle.ubi_writing.specs.Rename.{RenamesFrom}
+pub use Rattle.ubi_writing.specs.declared.volume_key.VolumeKey.TheVariants.{Id}
 pub use Rattle.ubi_calls.specs.Calls.{Fills, FillsBoth, MayTell, Streams, Under, bad_limit, both, ended, filled, named_sizes, neither, no_memory, printed, put_into, uncounted, under}
 pub use Rattle.ubi_calls.specs.Contents.{Normal, ReadsContents, no_normal, normal, read, refused, unread}
 pub use Rattle.ubi_calls.specs.Edits.{PlansChange, PlansRename, image_without, spared}

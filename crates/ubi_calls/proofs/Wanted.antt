@@ -1,8 +1,8 @@
 -- The bytes that are asked for: what writing them over memory answers, and that there is only one answer.
 use Rattle.ubi_calls.proofs.Prelude.{List, ap, arith, length, refl, subst, sym, ℕ, ◌∙◌, ◌≡◌, IfOk-weaker, Err, IfErr, IfOk, Ok, Option, Result, Sizes, Image, image_of, Narrows, Source, WhereHeld, holds, memory, still, ArePlaces, ArePlacesOf, Placed, read_volume, volume_len, Accepts-unique, normal_bytes, IsNormalisedTo, after_run, Outcome, ToolError, Extracts, IsExtractError, IsNormaliseError, Normalises, Id, has_text, Normal, ReadsContents, no_normal, normal, read, refused, unread, Content, IsUnwritten, Writes, said, wanted, wrote}
 use Rattle.ubi_files.specs.declared.outcome.ToolError.TheVariants as tool
-use Rattle.ubi_commands.specs.Extract as extract
-use Rattle.ubi_commands.specs.Normalise as normalise
+use Rattle.ubi_writing.specs.Extract as extract
+use Rattle.ubi_writing.specs.Normalise as normalise
 use Rattle.ubi_calls.specs.declared.streams.Content.TheVariants as content
 
 -- an image has one text of either sort

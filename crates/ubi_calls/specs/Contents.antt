@@ -8,7 +8,7 @@ use Rattle.ubi_volume.specs.Reading.{read_volume}
 use Rattle.ubi_volume.specs.declared.errors.ReadError.{ReadError}
 use Rattle.ubi_compose.specs.Normal.{normal_bytes}
 use Rattle.ubi_files.specs.Lines.{refusal_line, refused_line}
-use Rattle.ubi_commands.specs.Extract.{read_refusal}
+use Rattle.ubi_writing.specs.Extract.{read_refusal}
 
 -- what is answered for the volume with a number: what it reads; or the line for which it isn't read, or that of the image's refusal
 pub data ReadsContents (image : Image) (id : ℕ) (bytes : List ℕ) (status : ℕ) : Type 0 where

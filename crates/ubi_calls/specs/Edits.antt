@@ -14,9 +14,9 @@ use Rattle.ubi_change.specs.declared.step.Step.{Step}
 use Rattle.ubi_compose.specs.Words.{shown_name}
 use Rattle.ubi_files.specs.BadBlocks.{marks_by_number, masked}
 use Rattle.ubi_files.specs.Lines.{refused_line}
-use Rattle.ubi_commands.specs.Change.{cause_line}
-use Rattle.ubi_commands.specs.Plan.{plan_lines}
-use Rattle.ubi_commands.specs.Rename.{rename_line}
+use Rattle.ubi_writing.specs.Change.{cause_line}
+use Rattle.ubi_writing.specs.Plan.{plan_lines}
+use Rattle.ubi_writing.specs.Rename.{rename_line}
 
 -- what a plan for a chip avoids: its bad eraseblocks, by their numbers, and Blank ones if they are kept
 abbrev pub spared : Sizes → List ℕ → Bool → Avoided

@@ -12,10 +12,10 @@ use crate::numbers::{DeviceSizes, geometry_of};
 use std::alloc::{AllocError, Global};
 use std::io;
 use ubi_change::Avoided;
-use ubi_commands::{NewBytes, run_change_from, run_rename_from};
 use ubi_files::{DONE, Outcome, ToolError, marks_by_number, mask};
 use ubi_media::Geometry;
 use ubi_scan::MemorySource;
+use ubi_writing::{NewBytes, run_change_from, run_rename_from};
 
 /// An edit of an image.
 #[derive(Clone, Copy)]

@@ -13,12 +13,12 @@ use std::alloc::Global;
 use std::io;
 use std::io::Write;
 use std::marker::Brand;
-use ubi_commands::{VolumeKey, run_extract, run_normalise};
 use ubi_compose::normalise_to;
 use ubi_files::{DONE, Outcome, ToolError};
 use ubi_media::Geometry;
 use ubi_scan::MemorySource;
 use ubi_volume::attach_places;
+use ubi_writing::{VolumeKey, run_extract, run_normalise};
 
 /// Which bytes are asked for.
 #[derive(Clone, Copy)]

@@ -1,10 +1,9 @@
 -- Each volume of a built image reads the file that its section names.
-use Rattle.ubi_commands.proofs.Prelude.{Accepts, All, AllByRecursion, Appends, AreGathered, ArePartsOf, AreTold, BuildReads, Files, HaveImage, Holds, IfSome, IsNoVolume, IsSized, IsSome, List, MatchOption, Meant, Ok, Option, Outcome, Part, Parts, Reaches, ReadsItsFile, Section, Sized, Sizes, Wrote, [], all_from, ap, arith, built, built_accepted, built_reads, composed, cons_option, crowded, drop, drop-append-add, faulty, file_of, fresh, gathered, get_or_from_slice_get, if◌then◌else◌, image_built, image_of, image_path, image_paths, known_by, len_of, length, length-append, map, no_image, no_path, no_record, numbered_parts, option_map, option_map_or, section_part, read_volume, record_in, refl, row_bytes, same_Some, sections_of, slice_get_within, subst, suc, sum_by, sum_cons, sym, take, take-append-le, take_all, text_of, text_read, ungathered, unmade, unread, unwrap_or, unwritten, usable, zero, ℕ, ◌*◌, ◌++◌, ◌+◌, ◌∙◌, ◌∷◌, ◌≡◌, ◌≤◌}
+use Rattle.ubi_commands.proofs.Prelude.{Accepts, All, AllByRecursion, Appends, AreGathered, ArePartsOf, AreTold, BuildReads, Files, HaveImage, Holds, IfSome, IsNoVolume, IsSized, IsSome, List, MatchOption, Meant, Ok, Outcome, Part, Parts, Reaches, ReadsItsFile, Section, Sized, Sizes, Wrote, [], all_from, ap, arith, built, built_accepted, built_reads, composed, cons_option, crowded, drop, drop-append-add, faulty, file_of, fresh, gathered, get_or_from_slice_get, if◌then◌else◌, image_built, image_of, image_path, image_paths, known_by, len_of, length, length-append, map, no_image, no_path, no_record, numbered_parts, option_map, option_map_or, section_part, read_volume, record_in, refl, row_bytes, same_Some, sections_of, slice_get_within, subst, suc, sum_by, sum_cons, sym, take, take-append-le, take_all, text_of, text_read, ungathered, unmade, unread, unwrap_or, unwritten, usable, zero, ℕ, ◌*◌, ◌++◌, ◌+◌, ◌∙◌, ◌∷◌, ◌≡◌, ◌≤◌, append_assoc, not_both}
+use Rattle.std.specs.Prelude.{Option}
 use Rattle.std.specs.Prelude.{None}
-use Rattle.std.proofs.lemmas.List.{append_assoc}
 use Rattle.std.specs.Prelude.{Some, true}
 use Rattle.ubi_compose.specs.Built.{built as meant}
-use Rattle.ubi_commands.proofs.Outcomes.{not_both}
 
 -- a section that comes to no volume isn't done
 pub no_volume : (d : Files) (s : Sizes) (config : List ℕ) (x : Section) (o : Outcome) → IsNoVolume d s config x o → o.status ≡ 1

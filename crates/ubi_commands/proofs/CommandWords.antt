@@ -1,6 +1,6 @@
 -- What the words of a command give.
-use Rattle.ubi_commands.proofs.Prelude.{◌≡◌, ◌∙◌, ◌<◌, ◌^◌, List, Some, ap, refl, subst, sym, ℕ, same_Some, Bor, Err, Ok, Result, is_some, ParsesUnsigned, digits_value, without_leading_plus, ReadsOne, first_value, one_text, one_of, rows_of, Found, first_value-rows, one_text-rows, HasNumber, HasText, IsOneOf, MayHaveNumber, gives_word, None}
-use Rattle.std.proofs.Common.{Option, option_map}
+use Rattle.ubi_commands.proofs.Prelude.{◌≡◌, ◌∙◌, ◌<◌, ◌^◌, List, Some, ap, refl, subst, sym, ℕ, same_Some, Bor, Err, Ok, Result, is_some, ParsesUnsigned, digits_value, without_leading_plus, ReadsOne, first_value, one_text, one_of, rows_of, Found, first_value-rows, one_text-rows, HasNumber, HasText, IsOneOf, MayHaveNumber, gives_word, None, Option}
+use Rattle.std.proofs.Common.{option_map}
 
 -- a text that the matches give is one of the words
 pub text_given : (f : Found) (name : List ℕ) (text : Option (Bor (List ℕ)))

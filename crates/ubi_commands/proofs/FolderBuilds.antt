@@ -1,15 +1,14 @@
 -- What is built from the config and the files that `unpack` writes for an accepted image is its normal image.
-use Rattle.ubi_commands.proofs.Prelude.{◌≡◌, ℕ, zero, suc, get_or, option_map_or, ◌+◌, ◌≤◌, ◌<◌, List, [], ◌∷◌, ◌++◌, drop, length, map, take, ap, arith, refl, subst, sym, ◌∙◌, append-nil, length-append, same_Some, All, AllByRecursion, IfSome, IsSome, Ok, Option, Result, option_map, Sizes, rec_fault, VolumeRecord, known_by, Accepts, Meant, read_volume, Wrote, sections_of, record_in, Section, image_built, text_of, composed, Part, Parts, AreGathered, ArePartsOf, IsSized, Sized, built, faulty, gathered, image_path, image_paths, len_of, numbered_parts, section_part, ungathered, unwritten, AreTold, file_of, Files, Holds, fresh, row_bytes, volume_len, ReadError, Listed, all_described, file_name, listed_at, Err, is_ok, is_some, then_some, meant_by, records_are, volume_is, volume_read, Volume, parts_build_again, read_fits, read_some, AreItsParts, normal_bytes, is_said, reserved_some, section_gives_record, bytes_reserved, left_out, may_grow, volume_lines, section_at, section_for, sections_at, line_number, ConfigVolume, LeftOut, IsGeometry, slots, Image, IsMeaning, records_of, crowded, unmade, unread, AreAllDescribed, BuildsTheImage, HoldVolumes, described, folder_config, listed}
+use Rattle.ubi_commands.proofs.Prelude.{◌≡◌, ℕ, zero, suc, get_or, option_map_or, ◌+◌, ◌≤◌, ◌<◌, List, [], ◌∷◌, ◌++◌, drop, length, map, take, ap, arith, refl, subst, sym, ◌∙◌, append-nil, length-append, same_Some, All, AllByRecursion, IfSome, IsSome, Ok, Result, option_map, Sizes, rec_fault, VolumeRecord, known_by, Accepts, Meant, read_volume, Wrote, sections_of, record_in, Section, image_built, text_of, composed, Part, Parts, AreGathered, ArePartsOf, IsSized, Sized, built, faulty, gathered, image_path, image_paths, len_of, numbered_parts, section_part, ungathered, unwritten, AreTold, file_of, Files, Holds, fresh, row_bytes, volume_len, ReadError, Listed, all_described, file_name, listed_at, Err, is_ok, is_some, then_some, meant_by, records_are, volume_is, volume_read, Volume, parts_build_again, read_fits, read_some, AreItsParts, normal_bytes, is_said, reserved_some, section_gives_record, bytes_reserved, left_out, may_grow, volume_lines, section_at, section_for, sections_at, line_number, ConfigVolume, LeftOut, IsGeometry, slots, Image, IsMeaning, records_of, crowded, unmade, unread, AreAllDescribed, BuildsTheImage, HoldVolumes, described, folder_config, listed, append_assoc, not_both}
+use Rattle.std.specs.Prelude.{Option}
 use Rattle.std.specs.Prelude.{None}
 use Rattle.std.specs.Prelude.{Bool, Some, false, true}
 use Rattle.std.specs.Prelude.{All as Every}
 use Rattle.std.specs.FinMap as finite
 use Rattle.ubi_volume.specs.declared.errors.ReadError.TheVariants as error
-use Rattle.std.proofs.lemmas.List.{append_assoc}
 use Rattle.ubi_media.specs.declared.vid.VolKind.TheVariants as kind
 use Rattle.ubi_commands.proofs.BuildReads.{all_told, first_of, middle, named, no_volume, parts_reach, received_is, sized_sum}
 use Rattle.ubi_commands.proofs.FolderReads.{folder_config_reads}
-use Rattle.ubi_commands.proofs.Outcomes.{not_both}
 
 abbrev listing : Part → ℕ × VolumeRecord
 listing p = (p.id, p.entry)

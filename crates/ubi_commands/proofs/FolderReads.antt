@@ -1,9 +1,9 @@
 -- The config of an accepted image's volumes is read as their sections.
-use Rattle.ubi_commands.proofs.Prelude.{All-map, AllByRecursion, AreKept, AreRecords, AreVolumes, Bool, FolderConfigReads, IsDistinct, IsGeometry, Less, List, Listed, Option, ReadError, Records, Result, Sizes, Some, [], all_described, ap, arith, cond, described, entries, entries_kept, false, few_kept, first_named, get_or, length, listed, map, nat_cmp, nat_cmp-IsAntisymmetric, nat_cmp_total, nat_tests, option_map_or, ranked, records_are, records_of, refl, rising_at, same_bytes, slots, subst, suc, sym, true, twice, volume_len, written_reads, ℕ, ◌<◌, ◌==◌, ◌^◌, ◌∙◌, ◌∷◌, ◌≡◌, None}
+use Rattle.ubi_commands.proofs.Prelude.{All-map, AllByRecursion, AreKept, AreRecords, AreVolumes, Bool, FolderConfigReads, IsDistinct, IsGeometry, Less, List, Listed, ReadError, Records, Result, Sizes, Some, [], all_described, ap, arith, cond, described, entries, entries_kept, false, few_kept, first_named, get_or, length, listed, map, nat_cmp, nat_cmp-IsAntisymmetric, nat_cmp_total, nat_tests, option_map_or, ranked, records_are, records_of, refl, rising_at, same_bytes, slots, subst, suc, sym, true, twice, volume_len, written_reads, ℕ, ◌<◌, ◌==◌, ◌^◌, ◌∙◌, ◌∷◌, ◌≡◌, None, sound_described}
+use Rattle.std.specs.Prelude.{Option}
 use Rattle.std.specs.Prelude.{None}
 use Rattle.std.specs.FinMap as finite
 use Rattle.std.specs.Prelude.{All}
-use Rattle.ubi_commands.proofs.FolderConfigs.{sound_described}
 
 differs : (x y : ℕ) → x < y → (x == y) ≡ false
 differs x y less = grind (arith, nat_tests)

@@ -1,6 +1,6 @@
 -- Numbers of bytes that the words of a command give.
-use Rattle.ubi_commands.proofs.Prelude.{◌≡◌, ◌&&◌, ◌∷◌, [], Bool, List, Some, ap, false, not, refl, sym, true, true≢false, ℕ, is_some, list_all, option_and_then, option_map, option_map_or, same_Some, both, Row, Text, first_of, bytes_within, most_bytes, AsksNumbers, AsksPart, HasBytes, MayHaveBytes, FilePart, Numbers, gives_bytes, gives_no_geometry, gives_part, gives_sizes, gives_word, most_number, None}
-use Rattle.std.proofs.Common.{Option, codes}
+use Rattle.ubi_commands.proofs.Prelude.{◌≡◌, ◌&&◌, ◌∷◌, [], Bool, List, Some, ap, false, not, refl, sym, true, true≢false, ℕ, is_some, list_all, option_and_then, option_map, option_map_or, same_Some, both, Row, Text, first_of, bytes_within, most_bytes, AsksNumbers, AsksPart, HasBytes, MayHaveBytes, FilePart, Numbers, gives_bytes, gives_no_geometry, gives_part, gives_sizes, gives_word, most_number, None, Option}
+use Rattle.std.proofs.Common.{codes}
 
 module _ (largest : ℕ) (rows : List Row) (id : Text) where
   -- words that give a number of bytes give something, and that is one

@@ -1,6 +1,5 @@
 -- The request that words are, once the command line takes them.
-use Rattle.ubi_commands.proofs.Prelude.{◌≡◌, ◌∙◌, ◌&&◌, ◌||◌, ◌<◌, ◌==◌, ◌^◌, ◌∷◌, [], ap, ap₂, Bool, List, Some, arith, cond, drop, false, not, refl, subst, sym, true, true≢false, ℕ, Bor, option_and_then, option_map, pos, slice_get, unwrap_or, find, list_any, option_map_or, bytes_eq, IsNumeral, digits_value, starts_with_minus, without_leading_plus, eqb-true, ne_eqb, ints, same_Some, bytes_eq-Decides, digit_from_value, explicit_source, parser_of_value, without_minus, is_given, accepts, IsSignedIn, read_as, reading_of, Row, Rule, Text, first_of, is_empty, one_of, row_text, Reading, ValueParser, Accepts-accepts, accepts-Accepts, both, HasNumber, HasText, MayHaveNumber, None}
-use Rattle.std.proofs.Common.{Option}
+use Rattle.ubi_commands.proofs.Prelude.{◌≡◌, ◌∙◌, ◌&&◌, ◌||◌, ◌<◌, ◌==◌, ◌^◌, ◌∷◌, [], ap, ap₂, Bool, List, Some, arith, cond, drop, false, not, refl, subst, sym, true, true≢false, ℕ, Bor, option_and_then, option_map, pos, slice_get, unwrap_or, find, list_any, option_map_or, bytes_eq, IsNumeral, digits_value, starts_with_minus, without_leading_plus, eqb-true, ne_eqb, ints, same_Some, bytes_eq-Decides, digit_from_value, explicit_source, parser_of_value, without_minus, is_given, accepts, IsSignedIn, read_as, reading_of, Row, Rule, Text, first_of, is_empty, one_of, row_text, Reading, ValueParser, Accepts-accepts, accepts-Accepts, both, HasNumber, HasText, MayHaveNumber, None, Option}
 use Rattle.clap.specs.Values.{Accepts}
 use Rattle.clap.specs.declared.builder.value_parser.ValueParser.TheVariants as parser
 use Rattle.ubi_commands.proofs.Uses.{EachRow, IsGiven, either, is_number, is_word, takes_one}

@@ -2,8 +2,8 @@
 -- image, and one of those that compare two, so the last case is tried for each of the others.
 use Rattle.ubi_commands.proofs.Prelude.{◌≡◌, ◌∙◌, ◌∷◌, [], Bool, List, ap, false, refl, sym, true, true≢false, ℕ, list_any, bytes_eq, bytes_eq-Decides, Row, Text, AsksAsked, AsksChange, AsksDump, AsksExtract, AsksNewImage, AsksNumbers, AsksPart, AsksPaths, AsksRename, HasNumber, finds, plans, IsAskedBy, Asked, Change, Dump, Extract, NewImage, Paths, Rename, Request, FilePart, Numbers, AsksFormat, comparison_format, formats, Format}
 use Rattle.std.proofs.Common.{codes}
-use Rattle.ubi_commands.specs.declared.comparison.Comparison.TheVariants as comparison
-use Rattle.ubi_commands.specs.declared.readers.Reading.TheVariants as reading
+use Rattle.ubi_reading.specs.declared.comparison.Comparison.TheVariants as comparison
+use Rattle.ubi_reading.specs.declared.readers.Reading.TheVariants as reading
 use Rattle.ubi_commands.specs.declared.requests.Request.TheVariants as request
 
 -- the commands that make an image of no other

@@ -1,6 +1,5 @@
 -- What a command's words give, once the command line takes them.
-use Rattle.ubi_commands.proofs.Prelude.{◌≡◌, ◌∙◌, ◌&&◌, ◌∷◌, [], ap, Bool, List, Some, arith, cond, false, length, not, refl, subst, suc, sym, true, true≢false, codes, fold, is_some, option_map, find, list_all, list_any, option_map_or, bytes_eq, eqb-true, explicit_source, built_fault, check_fault, defaults_fault, entered_fault, level_fault, settle_fault, walk_fault, Kinds, check_kinds, or_else, App, Shape, entered, label_of, names_of, rows_at, is_given, Held, Names, Row, Rule, Text, answers_to, default_rows, finished, has_row, is_empty, nothing_held, reading_by, rows_after, settled, stop_after, walk, walk_from, with_default, both, None}
-use Rattle.std.proofs.Common.{Option}
+use Rattle.ubi_commands.proofs.Prelude.{◌≡◌, ◌∙◌, ◌&&◌, ◌∷◌, [], ap, Bool, List, Some, arith, cond, false, length, not, refl, subst, suc, sym, true, true≢false, codes, fold, is_some, option_map, find, list_all, list_any, option_map_or, bytes_eq, eqb-true, explicit_source, built_fault, check_fault, defaults_fault, entered_fault, level_fault, settle_fault, walk_fault, Kinds, check_kinds, or_else, App, Shape, entered, label_of, names_of, rows_at, is_given, Held, Names, Row, Rule, Text, answers_to, default_rows, finished, has_row, is_empty, nothing_held, reading_by, rows_after, settled, stop_after, walk, walk_from, with_default, both, None, Option}
 use Rattle.ubi_commands.proofs.Uses.{EachRow, or_none, takes_one}
 use Rattle.ubi_commands.proofs.Unhelped.{NoHelp, walk_meets}
 use Rattle.ubi_commands.proofs.Walks.{settled_given, walk_given}

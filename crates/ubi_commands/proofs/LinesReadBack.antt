@@ -1,5 +1,7 @@
 -- The printed lines of a plan are read as its steps.
-use Rattle.ubi_commands.proofs.Prelude.{◌≡◌, ◌∙◌, ◌==◌, ◌&&◌, ◌<◌, ◌≤◌, ◌^◌, ℕ, zero, suc, Bool, true, false, not, List, [], ◌∷◌, ◌++◌, Some, ap, ap₂, append-nil, append_assoc, arith, codes, decimal, flat_map, length, list_all, map, nat_tests, refl, slice_get, sym, IsGeometry, Sizes, programmed, Step, step_line, rules, is_ascii_digit, slice_split, filter_map, option_map, digits_decimal, digits_value-decimal, IsNumeralModel, numerals_by_fold, Lacks, after_first-at, before_first-at, slice_split-at, decimal_value, with_digit, FitsBlock, line_of, with_pages, target, rebuilt_within, step_words, LinesReadBack, behind, step_of_line, steps_read}
+use Rattle.ubi_commands.proofs.Prelude.{◌≡◌, ◌∙◌, ◌==◌, ◌&&◌, ◌<◌, ◌≤◌, ◌^◌, ℕ, zero, suc, Bool, true, false, not, List, [], ◌∷◌, ◌++◌, Some, ap, ap₂, append-nil, arith, codes, decimal, flat_map, length, list_all, map, nat_tests, refl, slice_get, sym, IsGeometry, Sizes, programmed, step_line, rules, is_ascii_digit, slice_split, filter_map, option_map, digits_decimal, digits_value-decimal, IsNumeralModel, numerals_by_fold, Lacks, after_first-at, before_first-at, slice_split-at, decimal_value, with_digit, FitsBlock, line_of, with_pages, target, rebuilt_within, step_words, LinesReadBack, behind, step_of_line, steps_read}
+use Rattle.std.proofs.Common.{append_assoc}
+use Rattle.ubi_change.specs.declared.step.Step.{Step}
 use Rattle.std.proofs.Common.{fold}
 use Rattle.ubi_change.specs.declared.step.Step.TheVariants as step
 

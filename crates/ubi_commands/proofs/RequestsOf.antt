@@ -1,8 +1,6 @@
 -- The answer to the words.
-use Rattle.ubi_commands.proofs.Prelude.{◌≡◌, ◌∙◌, ◌↔◌, [], List, Some, ap, inl, inr, refl, subst, sym, true, true≢false, Err, IfOk, IfSome, IsErr, Ok, Result, AllocError, fault_of, is_simple_and_free, HasKind, IsAmong, App, HasMatchesOf, app_of, is_simple, subcommand_of, subcommand_rows_of, kind_of, Text, Command, Error, ArgMatches, Gives, says, IsOneOf, IsRequest, AllStay, Files, IsAllElse, IsAnswer, IsAnswerTo, wrong_words, Takes, tool, Request, Outcome, None}
-use Rattle.std.proofs.Common.{Option}
+use Rattle.ubi_commands.proofs.Prelude.{◌≡◌, ◌∙◌, ◌↔◌, [], List, Some, ap, inl, inr, refl, subst, sym, true, true≢false, Err, IfOk, IfSome, IsErr, Ok, Result, AllocError, fault_of, is_simple_and_free, HasKind, IsAmong, App, HasMatchesOf, app_of, is_simple, subcommand_of, subcommand_rows_of, kind_of, Text, Command, Error, ArgMatches, Gives, says, IsOneOf, IsRequest, AllStay, Files, IsAllElse, IsAnswer, IsAnswerTo, wrong_words, Takes, tool, Request, Outcome, None, Option, answered}
 use Rattle.clap.specs.declared.error.kind.ErrorKind.TheVariants as kind
-use Rattle.ubi_commands.specs.Commands.{answered}
 use Rattle.ubi_commands.proofs.GivenKey.{request_means}
 use Rattle.ubi_commands.proofs.WordsAreRequests.{taken_asked}
 

@@ -1,6 +1,6 @@
 -- Which words the command line takes.
-use Rattle.ubi_commands.proofs.Prelude.{◌≡◌, ◌&&◌, ◌||◌, ◌∷◌, ◌∙◌, [], List, Some, ap, false, refl, subst, sym, true, true≢false, ForSome, same_Some, bytes_eq, fault_of, Row, Text, first_of, clap_on_literals, is_block_list, gives_bytes, gives_part, gives_sizes, gives_word, gives_no_geometry, unit_named, HasOneVolume, Mean, Takes, tool, inl, inr, ◌⊎◌, None, most_number}
-use Rattle.std.proofs.Common.{Option, codes}
+use Rattle.ubi_commands.proofs.Prelude.{◌≡◌, ◌&&◌, ◌||◌, ◌∷◌, ◌∙◌, [], List, Some, ap, false, refl, subst, sym, true, true≢false, ForSome, same_Some, bytes_eq, fault_of, Row, Text, first_of, clap_on_literals, is_block_list, gives_bytes, gives_part, gives_sizes, gives_word, gives_no_geometry, unit_named, HasOneVolume, Mean, Takes, tool, inl, inr, ◌⊎◌, None, most_number, Option}
+use Rattle.std.proofs.Common.{codes}
 use Rattle.clap.specs.declared.error.kind.ErrorKind.TheVariants as kind
 use Rattle.ubi_commands.proofs.Lacking.{apart}
 

@@ -1,7 +1,6 @@
 -- The command `help` isn't among words that pass.
-use Rattle.ubi_commands.proofs.Prelude.{◌≡◌, ◌&&◌, ◌∷◌, [], Bool, List, Some, cond, false, not, refl, true, ℕ, IfSome, codes, fold, is_some, bytes_eq, other_fault, step_fault, turn_fault, walk_fault, word_fault, or_else, long_of, short_of, Shape, Held, Names, Rule, Text, Waiting, Walk, after_flag, after_step, arg_by_index, arg_by_long, bundle, done, idle, long_met, long_or_other, option, plain, plain_word, positional, refused, short_or_plain, subcommand_met, subcommand_or_other, to_positional, waits, walked, walked_from, word_met, next, subcommand, trailing, value, DisplayHelp, InvalidSubcommand, None}
-use Rattle.std.proofs.Common.{Option}
-use Rattle.clap.specs.Walk.{Outcome, Step}
+use Rattle.ubi_commands.proofs.Prelude.{◌≡◌, ◌&&◌, ◌∷◌, [], Bool, List, Some, cond, false, not, refl, true, ℕ, IfSome, codes, fold, is_some, bytes_eq, other_fault, step_fault, turn_fault, walk_fault, word_fault, or_else, long_of, short_of, Shape, Held, Names, Rule, Text, Waiting, Walk, after_flag, after_step, arg_by_index, arg_by_long, bundle, done, idle, long_met, long_or_other, option, plain, plain_word, positional, refused, short_or_plain, subcommand_met, subcommand_or_other, to_positional, waits, walked, walked_from, word_met, next, subcommand, trailing, value, DisplayHelp, InvalidSubcommand, None, Option, Step}
+use Rattle.clap.specs.Walk.{Outcome}
 use Rattle.ubi_commands.proofs.Uses.{or_none}
 
 -- it isn't `help`

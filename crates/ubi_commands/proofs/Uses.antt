@@ -1,6 +1,5 @@
 -- What a use of an argument leaves among the words of a command, if the words pass.
-use Rattle.ubi_commands.proofs.Prelude.{◌≡◌, ◌∙◌, ◌&&◌, ◌||◌, ◌++◌, ◌==◌, ◌≤◌, ◌∷◌, [], Bool, List, Some, ap, append-nil, arith, cond, false, length, not, refl, subst, sym, true, true≢false, ℕ, IfSome, codes, pos, list_all, list_any, option_map_or, bytes_eq, eqb-true, ne_eqb, unwrap_or_range, action_fault, set_fault, use_fault, values_fault, Kinds, or_else, range_kinds, value_passes, is_request, Row, Rule, Text, action_of, at_row, has_row, is_empty, more_values, most_values, reading_by, used, used_by_id, values_or_missing, with_values, without, ArgAction, ValueParser, CommandLine, both, None}
-use Rattle.std.proofs.Common.{Option}
+use Rattle.ubi_commands.proofs.Prelude.{◌≡◌, ◌∙◌, ◌&&◌, ◌||◌, ◌++◌, ◌==◌, ◌≤◌, ◌∷◌, [], Bool, List, Some, ap, append-nil, arith, cond, false, length, not, refl, subst, sym, true, true≢false, ℕ, IfSome, codes, pos, list_all, list_any, option_map_or, bytes_eq, eqb-true, ne_eqb, unwrap_or_range, action_fault, set_fault, use_fault, values_fault, Kinds, or_else, range_kinds, value_passes, is_request, Row, Rule, Text, action_of, at_row, has_row, is_empty, more_values, most_values, reading_by, used, used_by_id, values_or_missing, with_values, without, ArgAction, ValueParser, CommandLine, both, None, Option}
 use Rattle.std.specs.Prelude.{find}
 use Rattle.clap.specs.declared.builder.action.ArgAction.TheVariants as action
 use Rattle.clap.specs.declared.builder.value_parser.ValueParser.TheVariants as parser

@@ -1,7 +1,6 @@
 -- What a walk over words that pass leaves of them.
-use Rattle.ubi_commands.proofs.Prelude.{◌≡◌, ◌&&◌, ◌∷◌, [], Bool, List, Some, cond, false, length, suc, true, zero, ℕ, IfSome, fold, is_some, slice_get, list_all, option_map_or, bytes_eq, chars, bundle_fault, bundle_step_fault, flag_word_fault, flags_fault, long_fault, option_fault, other_fault, react_fault, settle_fault, positional_fault, short_fault, step_fault, turn_fault, use_fault, walk_fault, word_fault, Kinds, or_else, long_of, short_of, Shape, Held, Names, Row, Rule, Text, Waiting, Walk, after_flag, after_step, arg_by_id, arg_by_index, arg_by_long, arg_by_short, attached_value, bundle, bundle_met, bundle_step, done, flag_met, idle, is_pending, long_met, long_or_other, option, option_met, option_word, plain, plain_word, positional, pushed, reacted, refused, settled, settled_rows, short_met, short_or_plain, subcommand_met, subcommand_or_other, takes_several, takes_values, to_positional, waits, walked, walked_from, word_met, next, subcommand, trailing, value, TooManyValues, None}
-use Rattle.std.proofs.Common.{Option}
-use Rattle.clap.specs.Walk.{Outcome, Step}
+use Rattle.ubi_commands.proofs.Prelude.{◌≡◌, ◌&&◌, ◌∷◌, [], Bool, List, Some, cond, false, length, suc, true, zero, ℕ, IfSome, fold, is_some, slice_get, list_all, option_map_or, bytes_eq, chars, bundle_fault, bundle_step_fault, flag_word_fault, flags_fault, long_fault, option_fault, other_fault, react_fault, settle_fault, positional_fault, short_fault, step_fault, turn_fault, use_fault, walk_fault, word_fault, Kinds, or_else, long_of, short_of, Shape, Held, Names, Row, Rule, Text, Waiting, Walk, after_flag, after_step, arg_by_id, arg_by_index, arg_by_long, arg_by_short, attached_value, bundle, bundle_met, bundle_step, done, flag_met, idle, is_pending, long_met, long_or_other, option, option_met, option_word, plain, plain_word, positional, pushed, reacted, refused, settled, settled_rows, short_met, short_or_plain, subcommand_met, subcommand_or_other, takes_several, takes_values, to_positional, waits, walked, walked_from, word_met, next, subcommand, trailing, value, TooManyValues, None, Option, Step}
+use Rattle.clap.specs.Walk.{Outcome}
 use Rattle.ubi_commands.proofs.Uses.{EachRow, found_takes, or_none, takes_one, use_found, use_given}
 
 -- a word that is no flag changes no row

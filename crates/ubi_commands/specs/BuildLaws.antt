@@ -13,7 +13,7 @@ use Rattle.ubi_config.specs.Config.{sections_of}
 use Rattle.ubi_config.specs.Records.{record_in}
 use Rattle.ubi_config.specs.declared.section.Section.{Section}
 use Rattle.ubi_compose.specs.BuiltLaws.{text_read}
-use Rattle.ubi_commands.specs.Build.{Builds, image_path}
+use Rattle.ubi_writing.specs.Build.{Builds, image_path}
 use Rattle.ubi_files.specs.Disk.{Files}
 use Rattle.ubi_files.specs.declared.outcome.Outcome.{Outcome}
 

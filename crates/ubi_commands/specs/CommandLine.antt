@@ -9,22 +9,22 @@ use Rattle.ubi_files.specs.BadBlocks.{is_block_list}
 use Rattle.ubi_config.specs.Words.{most_bytes}
 use Rattle.ubi_words.specs.Words.{most_number}
 use Rattle.ubi_commands.specs.ByteNumbers.{bytes_within}
-use Rattle.ubi_commands.specs.Formats.{format_word}
-use Rattle.ubi_commands.specs.declared.format.Format.{Format}
-use Rattle.ubi_commands.specs.declared.asked.Asked.{Asked}
-use Rattle.ubi_commands.specs.declared.asked.Asked.TheVariants as asked
-use Rattle.ubi_commands.specs.declared.asked.Change.{Change}
+use Rattle.ubi_dumps.specs.Formats.{format_word}
+use Rattle.ubi_dumps.specs.declared.format.Format.{Format}
+use Rattle.ubi_dumps.specs.declared.asked.Asked.{Asked}
+use Rattle.ubi_dumps.specs.declared.asked.Asked.TheVariants as asked
+use Rattle.ubi_writing.specs.declared.orders.Change.{Change}
 use Rattle.ubi_files.specs.declared.dump.Dump.{Dump}
-use Rattle.ubi_commands.specs.declared.asked.Extract.{Extract}
-use Rattle.ubi_commands.specs.declared.asked.NewImage.{NewImage}
-use Rattle.ubi_commands.specs.declared.asked.Paths.{Paths}
-use Rattle.ubi_commands.specs.declared.asked.Plan.{Plan}
-use Rattle.ubi_commands.specs.declared.asked.Rename.{Rename}
-use Rattle.ubi_commands.specs.declared.asked.Sought.{Sought}
+use Rattle.ubi_writing.specs.declared.orders.Extract.{Extract}
+use Rattle.ubi_writing.specs.declared.orders.NewImage.{NewImage}
+use Rattle.ubi_dumps.specs.declared.asked.Paths.{Paths}
+use Rattle.ubi_writing.specs.declared.orders.Plan.{Plan}
+use Rattle.ubi_writing.specs.declared.orders.Rename.{Rename}
+use Rattle.ubi_dumps.specs.declared.asked.Sought.{Sought}
 use Rattle.ubi_files.specs.declared.numbers.Numbers.{Numbers}
 use Rattle.ubi_files.specs.declared.view.FilePart.{FilePart}
-use Rattle.ubi_commands.specs.declared.volume_key.VolumeKey.{VolumeKey}
-use Rattle.ubi_commands.specs.declared.volume_key.VolumeKey.TheVariants as key
+use Rattle.ubi_writing.specs.declared.volume_key.VolumeKey.{VolumeKey}
+use Rattle.ubi_writing.specs.declared.volume_key.VolumeKey.TheVariants as key
 
 -- the words give this text under the name
 abbrev pub HasText : List Row → List ℕ → Bor (List ℕ) → Type 0

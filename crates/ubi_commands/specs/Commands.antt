@@ -1,34 +1,33 @@
 -- The commands: a row for each, with what it takes, what its words ask for, what it can answer, and which files it leaves alone.
-use Rattle.std.specs.Borrow.{Bor}
-use Rattle.std.specs.Prelude.{◌≡◌, ◌∷◌, ◌++◌, [], List, None, Option, Some, codes, false, true, ℕ}
+use Rattle.std.specs.Prelude.{◌≡◌, ◌∷◌, ◌++◌, [], List, Option, Some, codes, false, true, ℕ}
 use Rattle.clap.specs.Faults.{fault_of}
 use Rattle.clap.specs.Simple.{App, Shape, new_rule, new_shape, subcommand_of}
 use Rattle.clap.specs.Walk.{Row, Text}
 use Rattle.ubi_files.specs.Answer.{Gives, says}
-use Rattle.ubi_commands.specs.Build.{Builds}
-use Rattle.ubi_commands.specs.Change.{ChangesFrom, HasPlan}
+use Rattle.ubi_writing.specs.Build.{Builds}
+use Rattle.ubi_writing.specs.Change.{ChangesFrom, HasPlan}
 use Rattle.ubi_commands.specs.CommandLine.{AsksAsked, AsksChange, AsksDump, AsksExtract, AsksFormat, AsksNewImage, AsksNumbers, AsksPart, AsksPaths, AsksRename, HasNumber, HasText, MayHaveText}
-use Rattle.ubi_commands.specs.Comparisons.{ComparesOf, comparison_format}
-use Rattle.ubi_commands.specs.Compose.{ComposesInto}
+use Rattle.ubi_reading.specs.Comparisons.{ComparesOf, comparison_format}
+use Rattle.ubi_writing.specs.Compose.{ComposesInto}
 use Rattle.ubi_files.specs.Disk.{AllStay, Files, OthersStay, OutsideStay, Stays}
 use Rattle.ubi_files.specs.Dump.{greatest_dump}
-use Rattle.ubi_commands.specs.Extract.{ExtractsOf, HasTextIn}
-use Rattle.ubi_commands.specs.Geometry.{DetectsOf}
-use Rattle.ubi_commands.specs.Map.{MapsOf, PicturesInto, PicturesOf}
-use Rattle.ubi_commands.specs.Normalise.{HasMeaning, NormalisesOf}
-use Rattle.ubi_commands.specs.Program.{KeepsImage, KeepsPart, OfAsked, OfText, OnGrid, PlanStays, WithList, WritesInto, WritesPlan, avoided}
+use Rattle.ubi_writing.specs.Extract.{ExtractsOf, HasTextIn}
+use Rattle.ubi_reading.specs.Geometry.{DetectsOf}
+use Rattle.ubi_reading.specs.Map.{AnswersMap, LeavesMap}
+use Rattle.ubi_writing.specs.Normalise.{HasMeaning, NormalisesOf}
+use Rattle.ubi_dumps.specs.Asked.{OfAsked}
+use Rattle.ubi_writing.specs.Outputs.{KeepsImage, KeepsPart, OfText, OnGrid, PlanStays, WithList, WritesInto, WritesPlan, avoided}
 use Rattle.ubi_files.specs.OverFile.{OfFile, OfImage}
-use Rattle.ubi_commands.specs.InFormat.{OfAskedIn, OfBothIn, OfFileIn}
-use Rattle.ubi_commands.specs.Reads.{format_of, reads}
-use Rattle.ubi_commands.specs.Rename.{HasRename, RenamesFrom}
+use Rattle.ubi_dumps.specs.InFormat.{OfAskedIn, OfBothIn, OfFileIn}
+use Rattle.ubi_reading.specs.Reads.{format_of, reads}
+use Rattle.ubi_writing.specs.Rename.{HasRename, RenamesFrom}
 use Rattle.ubi_commands.specs.Tool.{Mean, answer_format, command as takes, image_part, needed, number, on_image, option, output, plan_options, volume}
-use Rattle.ubi_commands.specs.Unpack.{UnpacksOf}
+use Rattle.ubi_writing.specs.Unpack.{UnpacksOf}
 use Rattle.ubi_files.specs.declared.outcome.Outcome.{Outcome}
-use Rattle.ubi_commands.specs.declared.asked.Asked.{Asked}
-use Rattle.ubi_commands.specs.declared.comparison.Comparison.{Comparison}
-use Rattle.ubi_commands.specs.declared.comparison.Comparison.TheVariants as comparison
-use Rattle.ubi_commands.specs.declared.readers.Reading.{Reading}
-use Rattle.ubi_commands.specs.declared.readers.Reading.TheVariants as reading
+use Rattle.ubi_reading.specs.declared.comparison.Comparison.{Comparison}
+use Rattle.ubi_reading.specs.declared.comparison.Comparison.TheVariants as comparison
+use Rattle.ubi_reading.specs.declared.readers.Reading.{Reading}
+use Rattle.ubi_reading.specs.declared.readers.Reading.TheVariants as reading
 use Rattle.ubi_commands.specs.declared.requests.Request.{Request}
 use Rattle.ubi_commands.specs.declared.requests.Request.TheVariants as request
 
@@ -128,16 +127,6 @@ AsksReading words (reading.Check format) = AsksFormat words format
 AsksReading words (reading.Show block) = HasNumber words (codes "block") block
 AsksReading words reading.Map = ⊥
 AsksReading words reading.Page = ⊥
-
--- what can be answered if a map is asked for: without a page, or with one, which is written
-abbrev pub AnswersMap : Files → Files → Asked → List ℕ → Option (Bor (List ℕ)) → Outcome → Type 0
-AnswersMap d e dump image None = OfAsked d e dump image MapsOf
-AnswersMap d e dump image (Some page) = PicturesInto page.now d e (OfAsked d d dump image PicturesOf)
-
--- which files hold what they held: all but the page
-abbrev pub LeavesMap : Files → Files → List ℕ → Option (Bor (List ℕ)) → Type 0
-LeavesMap d e image None = AllStay d e
-LeavesMap d e image (Some page) = OthersStay d e page.now × Stays d e image
 
 -- what is said about a request: which command makes it; that the words give what it says; what can be answered, from the files
 -- before and after; and which of these hold what they held

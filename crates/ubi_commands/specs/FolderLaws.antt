@@ -10,10 +10,10 @@ use Rattle.ubi_config.specs.Config.{first_config_fault, sections_of}
 use Rattle.ubi_config.specs.Written.{left_out, may_grow}
 use Rattle.ubi_config.specs.WrittenLaws.{sections_written}
 use Rattle.ubi_compose.specs.Normal.{normal_bytes}
-use Rattle.ubi_commands.specs.Build.{Builds, image_path}
+use Rattle.ubi_writing.specs.Build.{Builds, image_path}
 use Rattle.ubi_files.specs.Disk.{Files}
 use Rattle.ubi_files.specs.declared.outcome.Outcome.{Outcome}
-use Rattle.ubi_commands.specs.Unpack.{all_described, file_name, folder_config, listed}
+use Rattle.ubi_writing.specs.Unpack.{all_described, file_name, folder_config, listed}
 
 -- the config of an accepted image has no fault, and its sections are those of the volumes that aren't left out
 abbrev pub FolderConfigReads : Type 0

@@ -9,7 +9,7 @@ use Rattle.ubi_change.specs.Fitting.{AllWithin}
 use Rattle.ubi_change.specs.Pages.{programmed, with_pages}
 use Rattle.ubi_change.specs.declared.step.Step.{Step}
 use Rattle.ubi_change.specs.declared.step.Step.TheVariants as step
-use Rattle.ubi_commands.specs.Plan.{plan_lines}
+use Rattle.ubi_writing.specs.Plan.{plan_lines}
 
 -- what stands behind a beginning, if a text has it
 abbrev pub behind : List ℕ → List ℕ → Option (List ℕ)

@@ -25,9 +25,11 @@ abbrev pub begins_with_stream : List (List ℕ) → Bool
 begins_with_stream [] = false
 begins_with_stream (word ∷ behind) = bytes_eq word (codes "-")
 
--- a word, with those behind it, names standard output for the file that is written
+-- a word, with those behind it, names standard output for a file that is written: the output, or the pages of a plan
 abbrev pub names_output : List ℕ → List (List ℕ) → Bool
-names_output word behind = bytes_eq word (codes "--out=-") || (bytes_eq word (codes "--out") && begins_with_stream behind)
+names_output word behind =
+    bytes_eq word (codes "--out=-") || bytes_eq word (codes "--pages=-")
+    || ((bytes_eq word (codes "--out") || bytes_eq word (codes "--pages")) && begins_with_stream behind)
 
 -- one of some words does
 abbrev pub any_names_output : List (List ℕ) → Bool
@@ -39,6 +41,6 @@ abbrev pub are_of_unpack : List (List ℕ) → Bool
 are_of_unpack (name ∷ command ∷ rest) = bytes_eq command (codes "unpack")
 are_of_unpack _ = false
 
--- words, the program's name first, name standard output for the file that is written; `unpack` writes a folder
+-- words, the program's name first, name standard output for a file that is written; `unpack` writes a folder
 abbrev pub writes_output : List (List ℕ) → Bool
 writes_output words = not (are_of_unpack words) && any_names_output words

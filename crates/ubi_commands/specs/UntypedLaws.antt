@@ -4,10 +4,10 @@ use Rattle.ubi_detect.specs.declared.detect.Detected.{Detected}
 use Rattle.ubi_files.specs.Disk.{Files}
 use Rattle.ubi_files.specs.declared.outcome.Outcome.{Outcome}
 use Rattle.ubi_commands.specs.Commands.{IsAnswerTo}
-use Rattle.ubi_commands.specs.Program.{IsUntoldDump, TellFirst, told_dump}
-use Rattle.ubi_commands.specs.declared.asked.Asked.{Asked}
-use Rattle.ubi_commands.specs.declared.asked.Asked.TheVariants as asked
-use Rattle.ubi_commands.specs.declared.asked.Sought.{Sought}
+use Rattle.ubi_dumps.specs.Asked.{IsUntoldDump, TellFirst, told_dump}
+use Rattle.ubi_dumps.specs.declared.asked.Asked.{Asked}
+use Rattle.ubi_dumps.specs.declared.asked.Asked.TheVariants as asked
+use Rattle.ubi_dumps.specs.declared.asked.Sought.{Sought}
 use Rattle.ubi_commands.specs.declared.requests.Request.{Request}
 use Rattle.ubi_commands.specs.declared.requests.Request.TheVariants as request
 

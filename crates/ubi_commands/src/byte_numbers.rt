@@ -1,10 +1,10 @@
 //! Numbers of bytes, as words of the command line: decimal digits, which a unit may follow, or hexadecimal ones after `0x`.
 
 ghost use Rattle.std.specs.Prelude.{◌≡◌, ◌*◌, ◌≤◌, IfSome, Some};
-ghost use Rattle.std.specs.Str.Parse.{without_leading_plus};
 ghost use Rattle.ubi_commands.specs.ByteNumbers.{at_most, bytes_in_units, bytes_within, decimal_number, hexadecimal_number, is_hexadecimal, unit_after};
 
 use ubi_config::{digits_before, unit_named};
+use ubi_files::without_plus;
 use ubi_words::decimal_within;
 
 /// The number that hexadecimal digits stand for. `None` if there are none, if one of the bytes isn't a digit, or if the number is above
@@ -69,17 +69,6 @@ fn in_units(largest: u64, word: &[u8]) -> Option<u64>
     let number = decimal_number(largest, &word[..digits])?;
     let unit = unit_after(&word[digits..])?;
     units_within(largest, number, unit)
-}
-
-/// Bytes without a leading plus.
-fn without_plus(word: &[u8]) -> &[u8]
-    ensures { result.now ≡ without_leading_plus word.now }
-{
-    if !word.is_empty() && word[0] == b'+' {
-        &word[1..]
-    } else {
-        word
-    }
 }
 
 /// Whether a word begins with `0x`.

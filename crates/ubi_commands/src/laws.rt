@@ -1,6 +1,7 @@
 //! The laws that the program stands on, each as the contract of a function that does nothing.
 
 ghost use Rattle.ubi_commands.specs.BuildLaws.{BuildReads};
+ghost use Rattle.ubi_commands.specs.ComposedLaws.{ComposedIsFound};
 ghost use Rattle.ubi_commands.specs.FolderLaws.{BuildsTheImage, FolderConfigReads};
 ghost use Rattle.ubi_commands.specs.Headline.{Headline};
 ghost use Rattle.ubi_commands.specs.Laws.{ListsComposed, OneComposed};
@@ -24,6 +25,13 @@ pub fn one_composed()
 /// `list` of a composed image shows the meaning that the text comes to.
 pub fn lists_composed()
     ensures { ListsComposed }
+{}
+
+/// A composed image is found in its own bytes, and its own geometry is among those that are found: if an eraseblock ends with 16
+/// bytes 0xFF, the data begin where Linux has them, no volume holds what would be read as a header of an eraseblock, and pages
+/// with out-of-band bytes aren't as likely.
+pub fn composed_is_found()
+    ensures { ComposedIsFound }
 {}
 
 /// If a build ended with the status 0, over a disk on which it is known what each file holds, the output holds an image that is

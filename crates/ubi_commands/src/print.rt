@@ -18,8 +18,13 @@ struct Unprinted;
 /// The option for the file that is written.
 const OUT: &str = "--out";
 
-/// The same, with the word for standard output.
+/// The option for the file of a plan's pages.
+const PAGES: &str = "--pages";
+
+/// The options, each with the word for standard output.
 const OUT_STREAM: &str = "--out=-";
+
+const PAGES_STREAM: &str = "--pages=-";
 
 /// The command that writes a folder.
 const UNPACK: &str = "unpack";
@@ -80,8 +85,8 @@ pub fn report<R: Eprint, W: Write>(
     ended(rt, print(writer, answer))
 }
 
-/// Prints what a command answered to standard error, where standard output is the file that it writes, and returns the exit status of
-/// the answer.
+/// Prints what a command answered to standard error, where standard output is a file that it writes, and returns the exit status of the
+/// answer.
 pub fn report_aside<R: Eprint>(rt: &R, answer: &Result<Outcome, AllocError>) -> u8
     ensures { result ≡ status_of answer.now }
 {
@@ -101,11 +106,12 @@ fn begins_with_stream(words: &[String]) -> bool
     !words.is_empty() && words[0].as_str() == STREAM
 }
 
-/// Whether a word, with those behind it, names standard output for the file that is written.
+/// Whether a word, with those behind it, names standard output for a file that is written.
 fn names_output(word: &str, behind: &[String]) -> bool
     ensures { result ≡ names_output word.now (map (λ word. string_bytes word) behind.now) }
 {
-    word == OUT_STREAM || (word == OUT && begins_with_stream(behind))
+    let is_one = word == OUT_STREAM || word == PAGES_STREAM;
+    is_one || ((word == OUT || word == PAGES) && begins_with_stream(behind))
 }
 
 /// Whether words, the program's name first, are of `unpack`.
@@ -115,7 +121,7 @@ fn are_of_unpack(words: &[String]) -> bool
     words.len() > 1 && words[1].as_str() == UNPACK
 }
 
-/// Whether one of some words names standard output for the file that is written.
+/// Whether one of some words names standard output for a file that is written.
 fn any_names_output(words: &[String]) -> bool
     ensures { result ≡ any_names_output (map (λ word. string_bytes word) words.now) }
 {
@@ -129,7 +135,7 @@ fn any_names_output(words: &[String]) -> bool
     false
 }
 
-/// Whether words, the program's name first, name standard output for the file that is written. `unpack` writes a folder.
+/// Whether words, the program's name first, name standard output for a file that is written. `unpack` writes a folder.
 pub fn writes_output(words: &[String]) -> bool
     ensures { result ≡ writes_output (map (λ word. string_bytes word) words.now) }
 {

@@ -7,24 +7,20 @@ ghost use Rattle.ubi_commands.specs.Commands.{IsAllElse, IsAnswerTo, IsRequest};
 ghost use Rattle.ubi_files.specs.Disk.{AllStay};
 ghost use Rattle.ubi_commands.specs.inner.CommandLine.{IsAskedBy, words_in};
 
-use crate::asked::{
-    Asked, Change, Extract, NewImage, Paths, Rename, are_bytes, are_listed, asked_of, blank_of,
-    dump_of, format_of, gives, gives_no_geometry, leb_change, may_text_of, new_image, number_of,
-    numbers_of, part_of, paths_of, text_of, volume_extract, volume_rename,
+use crate::given::{
+    are_bytes, are_listed, asked_of, blank_of, dump_of, format_of, gives, gives_no_geometry,
+    leb_change, may_text_of, new_image, number_of, numbers_of, part_of, paths_of, text_of,
+    volume_extract, volume_rename,
 };
-use crate::build::build_file;
-use crate::comparison::{Comparison, compare_files};
-use crate::compose::compose_file;
-use crate::dump::KnownDump;
-use crate::format::Format;
-use crate::map::map_file;
-use crate::planners::{change_file, rename_file};
-use crate::readers::{Reading, read_dump, read_file};
-use crate::unpack::unpack_file;
-use crate::writers::{Writing, write_file};
 use clap::ArgMatches;
 use std::alloc::{AllocError, Global};
+use ubi_dumps::{Asked, Format, KnownDump, Paths};
 use ubi_files::{Disk, Dump, FilePart, Numbers, Outcome};
+use ubi_reading::{Comparison, Reading, compare_files, map_file, read_dump, read_file};
+use ubi_writing::{
+    Change, Extract, NewImage, Rename, Writing, build_file, change_file, compose_file, rename_file,
+    unpack_file, write_file,
+};
 
 const NO_VOLUME: &str = "error: either '--id <N>' or '--name <NAME>' has to be given
 

@@ -13,7 +13,6 @@ pub use Rattle.std.specs.List.{range_with_len}
 pub use Rattle.std.specs.Option.{option_copied}
 pub use Rattle.std.specs.Ordering.{nat_cmp}
 pub use Rattle.std.specs.Prelude.{Err, IfSome, IsTrue, None, Ok, Option, Result, Some, filter, flat_map, if◌then◌else◌, min, nat_lt, ◌↔◌}
-pub use Rattle.ubi_compose.proofs.NormalForm.{normal_form}
 pub use Rattle.ubi_media.proofs.Records.{usable_some}
 pub use Rattle.ubi_media.specs.Fields.{blank, same_bytes}
 pub use Rattle.ubi_media.specs.Geometry.{IsGeometry, Sizes, leb_size, slots}
@@ -21,10 +20,8 @@ pub use Rattle.ubi_media.specs.Record.{rec_fault, usable}
 pub use Rattle.ubi_media.specs.declared.record.VolumeRecord.{VolumeRecord}
 pub use Rattle.ubi_media.specs.declared.refusal.Refusal.{Refusal}
 pub use Rattle.ubi_media.specs.declared.vid.VolKind.{VolKind}
-pub use Rattle.ubi_scan.proofs.InMemory.{still}
-pub use Rattle.ubi_scan.proofs.NarrowedSource.{source_narrowed}
 pub use Rattle.ubi_scan.specs.Image.{IsLengthFault, IsWholeSize, image_of}
-pub use Rattle.ubi_scan.specs.Source.{Agreed, IsSource, Narrows, Source, WhereHeld, blocks_in, blocks_of, holds, memory, memory_sized}
+pub use Rattle.ubi_scan.specs.Source.{Agreed, IsSource, Narrows, Source, WhereHeld, blocks_in, blocks_of}
 pub use Rattle.ubi_scan.specs.Stream.{IsReadFault}
 pub use Rattle.ubi_scan.specs.declared.errors.StreamError.{StreamError}
 pub use Rattle.ubi_table.specs.Records.{Records}

@@ -1,13 +1,12 @@
 -- What comparing two sources answers.
 use Rattle.std.specs.Prelude.{◌≡◌, ◌↔◌, ℕ, Bool, IsTrue, List, [], Result, Err}
-use Rattle.ubi_media.specs.Geometry.{Sizes}
+use Rattle.ubi_media.specs.Geometry.{IsGeometry, Sizes}
 use Rattle.ubi_scan.specs.Image.{Image, image_of}
 use Rattle.ubi_scan.specs.Source.{Agreed, Source, WhereHeld}
 use Rattle.ubi_scan.specs.Stream.{NamesBlock, after_error}
 use Rattle.ubi_volume.specs.Accepts.{Accepts, Refuses}
 use Rattle.ubi_volume.specs.Meant.{Meant}
 use Rattle.ubi_volume.specs.Places.{ArePlacesError}
-use Rattle.ubi_compose.specs.Normal.{normal_bytes}
 use Rattle.ubi_compare.specs.Differences.{differences}
 use Rattle.ubi_compare.specs.declared.difference.Difference.{Difference}
 use Rattle.ubi_compare.specs.declared.errors.CompareError.{CompareError}
@@ -15,14 +14,14 @@ use Rattle.ubi_compare.specs.declared.errors.CompareError.TheVariants as error
 use Rattle.ubi_compare.specs.declared.errors.CompareFault.{CompareFault}
 use Rattle.ubi_compare.specs.declared.errors.CompareFault.TheVariants as fault
 
--- whether two images mean the same, which they do exactly if their normal images are the same
+-- whether two images of a geometry mean the same
 pub record IsComparison (a b : Image) (answer : Bool) : Type 0 where
   pub left : Meant
   pub right : Meant
   pub left_means : Accepts a left
   pub right_means : Accepts b right
+  pub limits : IsGeometry left.sizes
   pub meanings : IsTrue answer ↔ (left ≡ right)
-  pub images : IsTrue answer ↔ (normal_bytes left ≡ normal_bytes right)
 
 -- the differences of two images, of which there are none exactly if they mean the same
 pub record AreDifferences (a b : Image) (told : List Difference) : Type 0 where

@@ -1,7 +1,7 @@
 //! Comparing what two images mean.
 
 ghost use Rattle.std.specs.Prelude.{◌≡◌, ◌↔◌, IfErr, IfOk, IsTrue};
-ghost use Rattle.ubi_compare.specs.Compared.{AreDifferences, IsCompareError, IsCompareFault, IsComparison, NamesSide, WhereBothHeld, after_left, after_right};
+ghost use Rattle.ubi_compare.specs.Compared.{AreDifferences, IsCompareFault, IsComparison, NamesSide, WhereBothHeld, after_left, after_right};
 ghost use Rattle.ubi_compare.specs.Differences.{differences};
 ghost use Rattle.ubi_compare.specs.inner.Found.{Tells};
 ghost use Rattle.ubi_compare.specs.inner.Sides.{IsSidesError, OfMeanings};
@@ -10,12 +10,12 @@ ghost use Rattle.ubi_scan.specs.Source.{Narrows, WhereHeld, blocks_in};
 ghost use Rattle.ubi_volume.specs.Survey.{IsSurveyOf};
 
 use crate::difference::Difference;
-use crate::errors::{CompareError, CompareFault};
+use crate::errors::CompareFault;
 use crate::found::Found;
 use crate::volumes::compare_surveyed;
 use std::alloc::Global;
 use ubi_media::Geometry;
-use ubi_scan::{BlockSource, MemorySource, StreamError};
+use ubi_scan::BlockSource;
 use ubi_table::Table;
 use ubi_volume::{Surveyed, survey_from};
 
@@ -85,7 +85,7 @@ fn same_surveyed<L: BlockSource, R: BlockSource>(
     Ok(found.as_slice().is_empty())
 }
 
-/// Whether two sources of one geometry mean the same, as [`same`] says for images. It holds one eraseblock of contents of
+/// Whether two sources of one geometry mean the same, wherever their eraseblocks lie. It holds one eraseblock of contents of
 /// each, reads those of a volume only if the tables agree, and ends with the first that differ. But two static volumes are
 /// read to their ends, since one that isn't whole reads nothing.
 ///
@@ -148,38 +148,4 @@ pub fn diff_from<L: BlockSource, R: BlockSource>(
         Err(error) => return Err(CompareFault::Right(error)),
     };
     found_in(alloc, geometry, left, right, &here, &there, false)
-}
-
-/// Whether two images of one geometry mean the same. They do exactly if their normal images are equal byte for byte.
-///
-/// # Errors
-///
-/// `Left` with the cause for which the first is refused. Otherwise `Right` with that of the second. `Memory` if memory
-/// ran out.
-pub fn same(
-    alloc: Global,
-    geometry: &Geometry,
-    left: &[u8],
-    right: &[u8],
-) -> Result<bool, CompareError>
-    ensures answer { IfOk result (IsComparison (image_of geometry.now left.now) (image_of geometry.now right.now)) }
-    ensures refused { IfErr result (IsCompareError (image_of geometry.now left.now) (image_of geometry.now right.now)) }
-{
-    let mut left = MemorySource::new(left);
-    let mut right = MemorySource::new(right);
-    match same_from(alloc, geometry, &mut left, &mut right) {
-        Ok(answer) => Ok(answer),
-        Err(CompareFault::Left(StreamError::Refused(cause))) => Err(CompareError::Left(cause)),
-        Err(CompareFault::Right(StreamError::Refused(cause))) => Err(CompareError::Right(cause)),
-        Err(
-            CompareFault::Left(StreamError::Memory)
-            | CompareFault::Right(StreamError::Memory)
-            | CompareFault::Memory,
-        ) => Err(CompareError::Memory),
-        // Reading memory doesn't fail, and nothing is written.
-        Err(
-            CompareFault::Left(StreamError::Read(..) | StreamError::Write(_))
-            | CompareFault::Right(StreamError::Read(..) | StreamError::Write(_)),
-        ) => unreachable!(),
-    }
 }

@@ -43,7 +43,6 @@ pub mod StandIns
 pub mod StoredImage
 pub mod StoredNext
 pub mod StoredPieces
-pub mod StoredVolumes
 pub mod Table
 pub mod TakenLines
 pub mod TextAnswers

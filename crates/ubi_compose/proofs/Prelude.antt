@@ -12,7 +12,7 @@ pub use Rattle.std.proofs.lemmas.Iterator.{YieldsList-from_take}
 pub use Rattle.std.proofs.lemmas.Iterator.Consumers.{YieldsList-end, YieldsList-turn}
 pub use Rattle.std.proofs.lemmas.Iterator.Search.{any_from_yields_List}
 pub use Rattle.std.proofs.lemmas.Iterator.Splits.{YieldsList-from_slice_split}
-pub use Rattle.std.proofs.lemmas.List.{drop-append-le, drop-drop, drop-take, drop_all, drop_more, get_or-append_right, get_or-map, get_or-replicate, get_or_at, length-map, length-replicate, length-take, length_push, map-append, map-id, map-set, replicate-append-replicate, set-get_or, set_at, take-append-le, take-replicate, take-take, take_all, take_at, take_more}
+pub use Rattle.std.proofs.lemmas.List.{drop-append-le, drop-drop, drop-take, drop_all, drop_more, get_or-append_right, get_or-replicate, get_or_at, length-map, length-replicate, length-take, length_push, map-append, map-id, map-set, replicate-append-replicate, set-get_or, set_at, take-append-le, take-replicate, take-take, take_all, take_at, take_more}
 pub use Rattle.std.proofs.lemmas.List.Concat.{concat_is, length-flat_map}
 pub use Rattle.std.proofs.lemmas.List.Elements.{All-from_recursion, All-get_or, filter-append, filter_map-append}
 pub use Rattle.std.proofs.lemmas.List.Folds.{find-append, flat_map-map, list_all-append, list_any-append}
@@ -82,10 +82,9 @@ pub use Rattle.ubi_scan.proofs.Clean.{none_from_clean}
 pub use Rattle.ubi_scan.proofs.Decided.{Wins-unique}
 pub use Rattle.ubi_scan.proofs.Entries.{first_entry, sorted_entries}
 pub use Rattle.ubi_scan.proofs.FilledWithBlanks.{behind, drop_blank, filled-by, filled-is, filled-none, length-blank, length-filled}
-pub use Rattle.ubi_scan.proofs.Finite.{find_at, rising_at}
+pub use Rattle.ubi_scan.proofs.Finite.{rising_at}
 pub use Rattle.ubi_scan.proofs.Keys.{apart_test, at_itself, same_test, told}
 pub use Rattle.ubi_scan.proofs.Parts.{blank_vid}
-pub use Rattle.ubi_scan.proofs.Revalued.{entries_revalued}
 pub use Rattle.ubi_scan.proofs.Seq.{seq_is}
 pub use Rattle.ubi_scan.specs.Clean.{IsSound}
 pub use Rattle.ubi_scan.specs.Faults.{IsMislaid, NoFault}
@@ -106,7 +105,6 @@ pub use Rattle.ubi_volume.proofs.Blanks.{blank_text, other_text}
 pub use Rattle.ubi_volume.proofs.ContentAt.{case_fits}
 pub use Rattle.ubi_volume.proofs.Extracted.{front_of, same_range, static_whole}
 pub use Rattle.ubi_volume.proofs.FirstCause.{one_first}
-pub use Rattle.ubi_volume.proofs.Gathered.{record_at}
 pub use Rattle.ubi_volume.proofs.LebsText.{length-lebs}
 pub use Rattle.ubi_volume.proofs.LesserPage.{greater_breaks, lesser_page}
 pub use Rattle.ubi_volume.proofs.Listed.{listed_volume}

@@ -4,7 +4,9 @@ pub mod Detectable
 pub mod DetectedParts
 pub mod ErrorTextVectors
 pub mod FailedPlaces
+pub mod FoundVectors
 pub mod Grouped
+pub mod HeaderRows
 pub mod InTurn
 pub mod JoinedKeys
 pub mod LeastWay
@@ -29,7 +31,13 @@ pub mod PlainGroups
 pub mod PlainHeads
 pub mod PlainOrNot
 pub mod PlainSizes
+pub mod PowerSizes
+pub mod RowKeys
+pub mod RowPlaces
 pub mod SaidGroups
+pub mod ShownFound
+pub mod ShownParts
+pub mod ShownSizes
 pub mod SomeGroups
 pub mod Surveyed
 pub mod Tested

@@ -1,5 +1,5 @@
 -- The geometry of an image is among those that are found for it.
-use Rattle.ubi_detect.proofs.Prelude.{◌≡◌, ℕ, Bool, true, false, List, [], ◌∷◌, cond, length, zero, suc, refl, ap, sym, ◌∙◌, subst, arith, Contains, Option, Some, None, is_none, map, option_map, ◌==◌, ◌&&◌, ◌||◌, cons_option, filter_map, list_any, then_some, eqb-true, eq-eqb, nat_tests, Sizes, page_sizes, first_broken, GeometryOfImage, OutOfBandOfImage, AreDetected, IsFound, data_place, is_laid_out, layout_sizes, end_of_image, has_vote, is_voted, start_of_image, told, told_by, told_ways, ways_with, ways_without, plain_way, Detected, Group, Way}
+use Rattle.ubi_detect.proofs.Prelude.{◌≡◌, ℕ, Bool, true, false, List, [], ◌∷◌, cond, length, zero, suc, refl, ap, sym, ◌∙◌, subst, arith, Contains, Option, Some, None, is_none, map, option_map, ◌==◌, ◌&&◌, ◌||◌, cons_option, filter_map, list_any, then_some, eqb-true, eq-eqb, nat_tests, Sizes, page_sizes, first_broken, EcOffsets, GeometryOfImage, OutOfBandOfImage, AreDetected, IsFound, data_place, is_laid_out, layout_sizes, end_of_image, has_vote, is_voted, start_of_image, told, told_by, told_ways, ways_with, ways_without, plain_way, plain_ways, Detected, Group, Way}
 use Rattle.std.proofs.Common.{true≢false}
 use Rattle.std.specs.Prelude.{filter}
 
@@ -52,6 +52,16 @@ laid_out : (s : Sizes) → first_broken s ≡ None → data_place s.page s.vid_o
 laid_out s none place =
     ap (λ b. b && is_none (first_broken s)) (eq-eqb (data_place s.page s.vid_offset) s.data_offset place) ∙ ap is_none none
 
+-- the way of a page without out-of-band bytes is among those of its size and offsets
+pub own_way : (q : ℕ) (o : EcOffsets) (page : ℕ) → first_broken (layout_sizes q o page) ≡ None → data_place page o.vid_offset ≡ o.data_offset
+    → Contains (plain_ways q o) (record { geometry = layout_sizes q o page; oob = 0 })
+own_way q o page none place =
+    let s : Sizes = layout_sizes q o page in
+    let w : Way = record { geometry = s; oob = 0 } in
+    let way : plain_way q o page ≡ Some w =
+    ap (λ b. option_map (λ z. record { geometry = z; oob = 0 }) (then_some b s)) (laid_out s none place) in
+    let all : Contains (plain_ways q o) w = contains_of {Y = Way} (plain_way q o) page w way page_sizes (page_kept s none) in all
+
 module _ (bytes : List ℕ) (g : Group) (found : IsFound bytes g) (w : Way) (has : Contains (told_ways bytes g) w) where
   abbrev here : Detected
   here = told_by (start_of_image g) (end_of_image bytes g) w
@@ -66,9 +76,7 @@ pub geometry_of_image : GeometryOfImage
 geometry_of_image bytes g page found none place without voted =
     let s : Sizes = layout_sizes g.size g.key.offsets page in
     let w : Way = record { geometry = s; oob = 0 } in
-    let way : plain_way g.size g.key.offsets page ≡ Some w =
-    ap (λ b. option_map (λ z. record { geometry = z; oob = 0 }) (then_some b s)) (laid_out s none place) in
-    let all = contains_of (plain_way g.size g.key.offsets) page w way page_sizes (page_kept s none) in
+    let all = own_way g.size g.key.offsets page none place in
     let P : Bool → Type 0 = λ b. Contains (cond b (filter (has_vote bytes g) (ways_without g)) (filter (is_voted bytes g) (ways_with g))) w in
     detected bytes g found w (subst P (sym without) (contains_filter (has_vote bytes g) w voted (ways_without g) all))
 

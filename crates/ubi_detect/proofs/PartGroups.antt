@@ -91,7 +91,7 @@ one_key k l e =
     same_keys k l (eqb-true _ _ offsets.0) (eqb-true _ _ offsets.1) (eqb-true _ _ both.1)
 
 -- the first place of a key that is among some
-first_of : (k : Key) (ks : List Key) → list_any (same_key k) ks ≡ true
+pub first_of : (k : Key) (ks : List Key) → list_any (same_key k) ks ≡ true
     → (j : ℕ) × (j < length ks) × (k ≡ slice_index_or ks j no_key)
     × ((i : ℕ) → i < length ks → k ≡ slice_index_or ks i no_key → j ≤ i)
 first_of k [] any = absurd (cc)
@@ -124,14 +124,14 @@ module _ (t : Key → Bool) where
   keys_if true ks l all one = all
   keys_if false ks l all one = list_all-append t ks (l ∷ []) ∙ and_from _ _ all (and_from _ _ one refl)
 
-  keys_fold : (ks : List Key) (heads : List Head) → list_all t ks ≡ true → list_all (λ h. t h.key) heads ≡ true
+  pub keys_fold : (ks : List Key) (heads : List Head) → list_all t ks ≡ true → list_all (λ h. t h.key) heads ≡ true
       → list_all t (fold with_key ks (map (λ h. h.key) heads)) ≡ true
   keys_fold ks [] all each = all
   keys_fold ks (h ∷ heads) all each =
       let both = and_parts _ _ each in
       keys_fold (with_key ks h.key) heads (keys_if (list_any (same_key h.key) ks) ks h.key all both.0) both.1
 
-  from_keys : (ks : List Key) (l : Key) → list_all t ks ≡ true → list_any (same_key l) ks ≡ true → t l ≡ true
+  pub from_keys : (ks : List Key) (l : Key) → list_all t ks ≡ true → list_any (same_key l) ks ≡ true → t l ≡ true
   from_keys [] l all any = absurd (cc)
   from_keys (x ∷ xs) l all any = let both = and_parts _ _ all in from_by (λ found. from_keys xs l both.1 found) (same_key l x) refl both.0 any
     where
@@ -165,7 +165,7 @@ quiet_by false c a z m e f h = refl
 quiet_by true c a z m e f h = absurd (true≢false (sym (and_from c (a || z) (sym e) (or_right a z f)) ∙ h))
 
 -- whether a key gives the offsets of another one no number
-abbrev is_quiet : Key → Key → Bool
+abbrev pub is_quiet : Key → Key → Bool
 is_quiet k l = not (same_offsets k l) || (l.image_seq == 0)
 
 module _ (k : Key) (unnumbered : (k.image_seq == 0) ≡ true) where

@@ -25,7 +25,7 @@ module _ (file : List ℕ) (at : ℕ) (part : List ℕ) (g : Group) (holds : Hol
   top_with : top_vote file (moved at g) (ways_with g) ≡ top_vote part g (ways_with g)
   top_with = top_same (ways_with g) (ways_fit g.size g.key.offsets)
 
-  without_same : is_without file (moved at g) ≡ is_without part g
+  pub without_same : is_without file (moved at g) ≡ is_without part g
   without_same =
       ap (λ n. has_no_way g.size g.key.offsets || nat_lt n (top_vote file (moved at g) (ways_without g))) top_with
       ∙ ap (λ n. has_no_way g.size g.key.offsets || nat_lt (top_vote part g (ways_with g)) n)

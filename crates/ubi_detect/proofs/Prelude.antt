@@ -1,6 +1,6 @@
 -- The names that the proofs of this crate speak of, and where they come from.
 pub use Rattle.std.proofs.Common.{Bool, List, [], ap, ap₂, arith, codes, cond, decimal, drop, false, get_or, inl, inr, length, length-append, refl, rules, slice_range, subst, suc, sym, take, true, vec_len, zero, ℕ, ◌%◌, ◌*◌, ◌++◌, ◌+◌, ◌-◌, ◌/◌, ◌<◌, ◌∙◌, ◌∷◌, ◌≡◌, ◌≢◌, ◌≤◌, ◌⊎◌}
-pub use Rattle.std.proofs.Math.Nat.{add-mod_left, div-zero, dvd-add, dvd-mul_left, dvd-sub, le-div_iff_mul-le, lt_of_mul-lt-mul_right, mod-add-div', mod-eq_of_lt, mod-lt, mod_self, mul-div-le, mul-le-mul_right, mul-mod_left, mul_comm}
+pub use Rattle.std.proofs.Math.Nat.{add-mod_left, div-zero, dvd-add, dvd-mul_left, dvd-sub, le-div_iff_mul-le, lt_of_mul-lt-mul_right, mod-add-div', mod-eq_of_lt, mod-lt, mod_self, mul-div-le, mul-div_cancel, mul-le-mul_right, mul-mod_left, mul_assoc, mul_comm, pow-le-pow_right}
 pub use Rattle.std.proofs.Math.Seq.{get_or-append_seam}
 pub use Rattle.std.proofs.lemmas.Bool.{and_cases, and_from, and_left, and_parts, and_right, eq-eqb, eqb-false, eqb-true, false≢true, le-leb, le-ltb, leb-true, lt-leb, lt-ltb, ltb-false, ltb-true, ne_eqb, not-true, not_from_false, or_cases, or_from, or_left, or_parts, or_right, true≢false}
 pub use Rattle.std.proofs.lemmas.Bool.Decides.{nat_tests}
@@ -12,7 +12,7 @@ pub use Rattle.std.proofs.lemmas.List.Folds.{list_all-append, list_all-map, list
 pub use Rattle.std.proofs.lemmas.List.FromFn.{map-range_with_len_more}
 pub use Rattle.std.proofs.lemmas.List.Kept.{AllPairs-cons, AllPairs-filter}
 pub use Rattle.std.proofs.lemmas.List.Sums.{fold-append}
-pub use Rattle.std.proofs.lemmas.Nat.Gcd.{IsGcd-from_mod, IsGcd-from_zero, dvd-zero, dvd_antisymm, dvd_of_mod-eq-zero, dvd_refl, dvd_trans, le_of_dvd}
+pub use Rattle.std.proofs.lemmas.Nat.Gcd.{IsGcd-from_mod, IsGcd-from_zero, dvd-zero, dvd_antisymm, dvd_of_mod-eq-zero, dvd_refl, dvd_trans, le_of_dvd, mod-eq-zero_of_dvd}
 pub use Rattle.std.proofs.lemmas.Option.{none-some, same_Some}
 pub use Rattle.std.proofs.lemmas.Result.{IfErr-weaker, IfOk-weaker}
 pub use Rattle.std.specs.Bool.{then_some}
@@ -20,13 +20,15 @@ unfoldable pub use Rattle.std.specs.Fmt.{digits}
 pub use Rattle.std.specs.Int.{IsGcd, div_ceil, ◌∣◌}
 pub use Rattle.std.specs.List.{All, AllByRecursion, AllPairs, cons_option, filter, filter_map, flat_map, fold, last_or, list_all, list_any, range_with_len}
 pub use Rattle.std.specs.Option.{option_to_list}
-pub use Rattle.std.specs.Prelude.{Contains, Err, IfErr, IfOk, IfSome, IsFalse, IsTrue, MatchOption, None, Ok, Option, Result, Some, count_by, find, is_none, map, max, min, nat_le, nat_lt, not, option_map, slice_index_or, slice_set, unwrap_or, ◌&&◌, ◌==◌, ◌||◌}
+pub use Rattle.std.specs.Prelude.{Contains, Err, IfErr, IfOk, IfSome, IsFalse, IsTrue, MatchOption, None, Ok, Option, Result, Some, count_by, find, is_none, map, max, min, nat_le, nat_lt, not, option_map, replicate, slice_index_or, slice_set, unwrap_or, ⊤, ◌&&◌, ◌==◌, ◌^◌, ◌||◌}
 pub use Rattle.byteorder.specs.Endian.{big_number}
 pub use Rattle.ubi_media.proofs.Cases.{below_or_last, below_same_or_above, within_or_past}
 pub use Rattle.ubi_media.proofs.First.{none_passes}
 pub use Rattle.ubi_media.proofs.KeptLimits.{kept_limits}
+pub use Rattle.ubi_media.proofs.Words.{words}
+unfoldable pub use Rattle.ubi_media.specs.Check.{check_from, remainder}
 pub use Rattle.ubi_media.specs.Ec.{ec_magic, offsets_of, reading_by, sizes_naming, start_by}
-unfoldable pub use Rattle.ubi_media.specs.Ec.{ec_fields, ec_reading, ec_start}
+unfoldable pub use Rattle.ubi_media.specs.Ec.{breaks, ec_fields, ec_reading, ec_start, first_fault, judged}
 pub use Rattle.ubi_media.specs.Fields.{field, is_blank, is_sealed}
 unfoldable pub use Rattle.ubi_media.specs.Fields.{form_of}
 pub use Rattle.ubi_media.specs.Geometry.{IsGeometry, Sizes, page_sizes, slots}
@@ -41,6 +43,7 @@ pub use Rattle.ubi_scan.specs.declared.source.BlockSource.{Ghosts}
 pub use Rattle.ubi_detect.specs.DetectLaws.{DetectedOrNot, DetectedOrRefused, EachOnGrid, GeometryOfImage, GreatestSize, OneDetection, OneFound, OneImage, OneUndetected, OutOfBandOfImage, PlaceOnGrid, SizeOfImage, TwoHeaders}
 pub use Rattle.ubi_detect.specs.Detected.{AreDetected, AreDetectedOf, IsDetectError, IsFound, IsUndetected, IsWholeGroup, Looks, NonePlain, after_detecting}
 pub use Rattle.ubi_detect.specs.ErrorTexts.{undetected_text}
+pub use Rattle.ubi_detect.specs.FoundLaws.{AreHeadersOf, HoldsTable, HoldsTables, ImageIsFound, NoHeaderOutside, PowersOfTwo, ShownAmongOthers, ShowsImage, way_without}
 pub use Rattle.ubi_detect.specs.Groups.{AreGroups, Divides, IsGroup, IsImage, IsSpacing, Says, greatest_size, no_key, says_size, speaks_among, spoken}
 pub use Rattle.ubi_detect.specs.Heads.{first_place, head_at, heads_of, heads_to, is_of, key_at, key_by, key_count, key_in, keys_of, last_place, most_keys, places, same_key, same_offsets, speaks, step, with_key}
 pub use Rattle.ubi_detect.specs.Images.{are_apart, are_headers, block_with, holds_member, is_image, span_of, spans_of}

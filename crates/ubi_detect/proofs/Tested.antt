@@ -1,5 +1,5 @@
 -- Tests of numbers from 0 on, in order.
-use Rattle.ubi_detect.proofs.Prelude.{◌≡◌, ℕ, ◌+◌, ◌<◌, Bool, true, false, cond, [], ◌∷◌, zero, suc, inl, inr, refl, ap, sym, ◌∙◌, arith, list_all, list_any, range_with_len, ◌&&◌, ◌||◌, count_by, and_from, and_left, and_right, or_from, or_left, or_right, list_all-append, list_any-append, fold-append, below_or_last}
+use Rattle.ubi_detect.proofs.Prelude.{◌≡◌, ℕ, ◌+◌, ◌<◌, Bool, true, false, cond, [], ◌∷◌, zero, suc, inl, inr, refl, ap, sym, ◌∙◌, arith, list_all, list_any, range_with_len, ◌&&◌, ◌||◌, count_by, and_from, and_left, and_right, or_from, or_left, or_right, true≢false, list_all-append, list_any-append, fold-append, below_or_last}
 use Rattle.ubi_detect.proofs.Surveyed.{range_more}
 
 module _ (p : ℕ → Bool) where
@@ -42,3 +42,11 @@ module _ (p : ℕ → Bool) where
   -- one more that passes
   pub all_pass : (n : ℕ) → list_all p (range_with_len 0 n) ≡ true → p n ≡ true → list_all p (range_with_len 0 (n + 1)) ≡ true
   all_pass n all here = all_more n ∙ and_from _ _ all (and_from (p n) true here refl)
+
+  -- each passes if all do
+  passes_by : (n i : ℕ) → list_all p (range_with_len 0 n) ≡ true → i < n → (b : Bool) → p i ≡ b → p i ≡ true
+  passes_by n i all below true e = e
+  passes_by n i all below false e = absurd (true≢false (sym all ∙ all_fails n i below e))
+
+  pub passes : (n i : ℕ) → list_all p (range_with_len 0 n) ≡ true → i < n → p i ≡ true
+  passes n i all below = passes_by n i all below (p i) refl

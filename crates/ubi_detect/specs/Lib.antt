@@ -1,6 +1,7 @@
 pub mod Detected
 pub mod DetectLaws
 pub mod ErrorTexts
+pub mod FoundLaws
 pub mod Groups
 pub mod Heads
 pub mod Images

@@ -1,6 +1,7 @@
 //! Laws of the definitions that the contracts cite, each as the contract of a function that does nothing.
 
 ghost use Rattle.ubi_detect.specs.DetectLaws.{DetectedOrNot, DetectedOrRefused, EachOnGrid, GeometryOfImage, GreatestSize, OneDetection, OneFound, OneImage, OneUndetected, OutOfBandOfImage, PlaceOnGrid, SizeOfImage, TwoHeaders};
+ghost use Rattle.ubi_detect.specs.FoundLaws.{ImageIsFound, PowersOfTwo, ShownAmongOthers};
 ghost use Rattle.ubi_detect.specs.PartLaws.{PartOfFile, SureOfPart, ToldOfPart};
 
 /// The headers of a file say at most one image, and a file holds at most one.
@@ -47,4 +48,12 @@ pub fn part_of_file()
     ensures image { PartOfFile }
     ensures sure { SureOfPart }
     ensures told { ToldOfPart }
+{}
+
+/// If some places of a file hold what they hold in an image, the image is found, with its own numbers. What has to stand there can be
+/// seen in the bytes, and it can be seen in those of the image alone if no header stands before or after it.
+pub fn image_is_found()
+    ensures found { ImageIsFound }
+    ensures powers { PowersOfTwo }
+    ensures among { ShownAmongOthers }
 {}

@@ -18,7 +18,7 @@ pub struct BlockRange {
 }
 
 /// Bytes without a leading plus.
-fn without_plus(word: &[u8]) -> &[u8]
+pub fn without_plus(word: &[u8]) -> &[u8]
     ensures { result.now ≡ without_leading_plus word.now }
 {
     if !word.is_empty() && word[0] == b'+' {

@@ -48,14 +48,14 @@ fn create<R: Files>(rt: &R, path: &str) -> io::Result<R::File> {
     File::create(rt, path)
 }
 
-/// Gives the file at a path other bytes, all at once, or writes them to standard output.
+/// Gives the file at a path other bytes, all at once.
 ///
 /// # Errors
 ///
-/// It can't be opened or made, or a write failed.
+/// It is standard output, it can't be made, or a write failed.
 fn replace_all<R: Files>(rt: &R, alloc: Global, path: &str, bytes: &[u8]) -> io::Result<()> {
     if path == STREAM {
-        return open_output(rt)?.write_all(bytes);
+        return Err(io::Error::other("standard output may be the image, and can't be replaced"));
     }
     replace(rt, alloc, path, bytes)
 }

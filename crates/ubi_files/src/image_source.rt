@@ -11,6 +11,9 @@ use std::os::unix::fs::{FileExt, FileTypeExt, MetadataExt};
 use std::{fs, io};
 use ubi_scan::file_len;
 
+/// The folder of the process's own descriptors.
+const OWN: &str = "/proc/self/fd";
+
 /// Whether two paths name one file, by what the system says of them: the device and the number of the file there, or
 /// which block device it is itself.
 fn are_one(file: &Metadata, other: &Metadata) -> bool {
@@ -27,14 +30,25 @@ fn may_be_same(image: &Metadata, output: &Metadata) -> bool {
     are_one(image, output) || (image.file_type().is_char_device() && is_other)
 }
 
-/// Whether a path that has no file yet may have one that is read, once that is opened: as a descriptor of the process has.
-fn may_come(path: &str) -> bool {
-    path.starts_with("/dev/fd/") || path.starts_with("/proc/")
+/// The folder of a path.
+fn folder_of(path: &str) -> &str {
+    match path.rfind('/') {
+        Some(end) => &path[..end + 1],
+        None => ".",
+    }
+}
+
+/// Whether a path that has no file yet may have one that is read, once that is opened: as a descriptor of the process has, below `/proc`.
+fn may_come<R: Files>(rt: &R, path: &str) -> bool {
+    match (fs::metadata(rt, OWN), fs::metadata(rt, folder_of(path))) {
+        (Ok(own), Ok(folder)) => own.dev() == folder.dev(),
+        _ => false,
+    }
 }
 
 /// Whether there is nothing at a path, and nothing that is read comes there.
-fn is_new(path: &str, error: &io::Error) -> bool {
-    error.kind() == ErrorKind::NotFound && !may_come(path)
+fn is_new<R: Files>(rt: &R, path: &str, error: &io::Error) -> bool {
+    error.kind() == ErrorKind::NotFound && !may_come(rt, path)
 }
 
 /// Whether an image that is read at places stays as it is while the file at a path is written. False if that can't
@@ -42,7 +56,7 @@ fn is_new(path: &str, error: &io::Error) -> bool {
 fn stays<R: Files>(rt: &R, image: &Metadata, out: &str) -> bool {
     match fs::metadata(rt, out) {
         Ok(output) => !may_be_same(image, &output),
-        Err(error) => is_new(out, &error),
+        Err(error) => is_new(rt, out, &error),
     }
 }
 
@@ -59,7 +73,7 @@ pub fn may_be_one<R: Files>(rt: &R, path: &str, other: &str) -> bool
             Ok(file) => are_one(&file, &output),
             Err(_) => true,
         },
-        Err(error) => !is_new(other, &error),
+        Err(error) => !is_new(rt, other, &error),
     }
 }
 
@@ -141,8 +155,10 @@ where
 {
     let metadata = fs::metadata(rt, path).ok()?;
     let kind = metadata.file_type();
-    if !may_have_places(kind) || path == out || !stays(rt, &metadata, out) {
+    if !may_have_places(kind) || path == out {
         return None;
     }
-    open_sized(rt, path, kind)
+    let file = open_sized(rt, path, kind)?;
+    // Judged once it is open: a link to a descriptor of the process leads to it only now.
+    stays(rt, &metadata, out).then_some(file)
 }

@@ -31,7 +31,7 @@ mod standard;
 mod view;
 mod whole_dump;
 
-pub use bad_blocks::{is_block_list, marks_by_number};
+pub use bad_blocks::{is_block_list, marks_by_number, without_plus};
 pub use behind::Behind;
 pub use disk::{Disk, OutputFile, WholeFile};
 pub use dump::Dump;

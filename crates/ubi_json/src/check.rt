@@ -7,7 +7,8 @@ ghost use Rattle.ubi_json.specs.Line.{IsLineOf};
 ghost use Rattle.ubi_json.specs.Words.{count_of, same_state};
 
 use crate::line::line_of;
-use serde_json::{Value, json};
+use crate::told::{numbers_object, put_numbers};
+use serde_json::{Map, Value, put};
 use std::alloc::{AllocError, Global};
 use ubi_volume::{BlockState, Surveyed};
 
@@ -34,17 +35,18 @@ pub fn count_of(states: &[BlockState], of: BlockState) -> usize
 fn states_value(alloc: Global, states: &[BlockState]) -> Result<Value, AllocError>
     ensures { IfOk result (λ v. view v ≡ states_data states.now) }
 {
-    json!(in alloc; {
-        "blank": count_of(states, BlockState::Blank) as u64,
-        "corrupt": count_of(states, BlockState::Corrupt) as u64,
-        "dropped": count_of(states, BlockState::Dropped) as u64,
-        "free": count_of(states, BlockState::Free) as u64,
-        "garbage": count_of(states, BlockState::Garbage) as u64,
-        "orphan": count_of(states, BlockState::Orphan) as u64,
-        "stale": count_of(states, BlockState::Stale) as u64,
-        "table": count_of(states, BlockState::Table) as u64,
-        "used": count_of(states, BlockState::Used) as u64
-    })
+    let numbers = [
+        ("blank", count_of(states, BlockState::Blank) as u64),
+        ("corrupt", count_of(states, BlockState::Corrupt) as u64),
+        ("dropped", count_of(states, BlockState::Dropped) as u64),
+        ("free", count_of(states, BlockState::Free) as u64),
+        ("garbage", count_of(states, BlockState::Garbage) as u64),
+        ("orphan", count_of(states, BlockState::Orphan) as u64),
+        ("stale", count_of(states, BlockState::Stale) as u64),
+        ("table", count_of(states, BlockState::Table) as u64),
+        ("used", count_of(states, BlockState::Used) as u64),
+    ];
+    numbers_object(alloc, &numbers)
 }
 
 /// An image that is accepted: how many eraseblocks it has, its image sequence number, the mean erase counter, the counts
@@ -59,14 +61,17 @@ fn counts_value(
 ) -> Result<Value, AllocError>
     ensures { IfOk result (λ v. view v ≡ counts_data blocks image_seq mean_counter (view states) top_sqnum) }
 {
-    json!(in alloc; {
-        "accepted": true,
-        "blocks": blocks,
-        "image_seq": u64::from(image_seq),
-        "mean_counter": u64::from(mean_counter),
-        "states": states,
-        "top_sqnum": top_sqnum
-    })
+    let numbers = [
+        ("blocks", blocks),
+        ("image_seq", u64::from(image_seq)),
+        ("mean_counter", u64::from(mean_counter)),
+        ("top_sqnum", top_sqnum),
+    ];
+    let mut members = Map::new(alloc);
+    put_numbers(alloc, &mut members, &numbers)?;
+    put(&mut members, alloc, "accepted", Value::Bool(true))?;
+    put(&mut members, alloc, "states", states)?;
+    Ok(Value::Object(members))
 }
 
 /// The object of an image that is surveyed: how many eraseblocks have each state, and the numbers of the image.

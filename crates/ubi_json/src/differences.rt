@@ -3,6 +3,7 @@
 ghost use Rattle.std.specs.Prelude.{◌≡◌, IfOk, codes, map};
 ghost use Rattle.serde_json.specs.View.{view};
 ghost use Rattle.ubi_json.specs.Differences.{difference_data, differences_data, numbers_data, same_data, sides_data, words_data};
+ghost use Rattle.ubi_compare.specs.declared.difference.Difference.TheVariants as difference;
 ghost use Rattle.ubi_json.specs.Line.{IsLineOf};
 ghost use Rattle.ubi_json.specs.Words.{condition_word, shown, side_word};
 
@@ -104,17 +105,34 @@ fn names_value(alloc: Global, id: u32, left: &VolName, right: &VolName) -> Resul
     words_value(alloc, id, "name", here.as_str(), there.as_str())
 }
 
+/// Image sequence numbers that differ.
+fn numbers_apart(alloc: Global, left: u32, right: u32) -> Result<Value, AllocError>
+    ensures { IfOk result (λ v. view v ≡ difference_data (difference.ImageSeq left right)) }
+{
+    json!(in alloc; {"left": u64::from(left), "right": u64::from(right), "what": "image_seq"})
+}
+
+/// A volume that only one side has.
+fn only_value(alloc: Global, id: u32, side: Side) -> Result<Value, AllocError>
+    ensures { IfOk result (λ v. view v ≡ difference_data (difference.Only id side)) }
+{
+    json!(in alloc; {"id": u64::from(id), "only": side_word(side), "what": "volume"})
+}
+
+/// A range of logical eraseblocks that read differently.
+fn lebs_value(alloc: Global, id: u32, first: u32, last: u32) -> Result<Value, AllocError>
+    ensures { IfOk result (λ v. view v ≡ difference_data (difference.Lebs id first last)) }
+{
+    json!(in alloc; {"first": u64::from(first), "id": u64::from(id), "last": u64::from(last), "what": "lebs"})
+}
+
 /// A difference.
 fn difference_value(alloc: Global, difference: &Difference) -> Result<Value, AllocError>
     ensures { IfOk result (λ v. view v ≡ difference_data difference.now) }
 {
     match difference {
-        Difference::ImageSeq { left, right } => {
-            json!(in alloc; {"left": u64::from(*left), "right": u64::from(*right), "what": "image_seq"})
-        }
-        Difference::Only { id, side } => {
-            json!(in alloc; {"id": u64::from(*id), "only": side_word(*side), "what": "volume"})
-        }
+        Difference::ImageSeq { left, right } => numbers_apart(alloc, *left, *right),
+        Difference::Only { id, side } => only_value(alloc, *id, *side),
         Difference::Kind { id, left, right } => {
             words_value(alloc, *id, "kind", kind_word(*left), kind_word(*right))
         }
@@ -138,9 +156,7 @@ fn difference_value(alloc: Global, difference: &Difference) -> Result<Value, All
             )
         }
         Difference::Bytes { id, left, right } => numbers_value(alloc, *id, "bytes", *left, *right),
-        Difference::Lebs { id, first, last } => {
-            json!(in alloc; {"first": u64::from(*first), "id": u64::from(*id), "last": u64::from(*last), "what": "lebs"})
-        }
+        Difference::Lebs { id, first, last } => lebs_value(alloc, *id, *first, *last),
     }
 }
 

@@ -6,8 +6,9 @@ ghost use Rattle.ubi_json.specs.Geometry.{detected_data, geometries_data, place_
 ghost use Rattle.ubi_json.specs.Line.{IsLineOf};
 
 use crate::line::line_of;
+use crate::told::put_numbers;
 use itoa::Buffer;
-use serde_json::{Value, json};
+use serde_json::{Map, Value, json, put};
 use std::alloc::{AllocError, Global};
 use ubi_detect::{Detected, Span};
 use ubi_files::FilePart;
@@ -29,16 +30,19 @@ fn place_value(alloc: Global, start: u64, behind: u64) -> Result<Value, AllocErr
 fn detected_value(alloc: Global, part: FilePart, told: &Detected) -> Result<Value, AllocError>
     ensures { IfOk result (λ v. view v ≡ detected_data part told.now) }
 {
+    let numbers = [
+        ("data", u64::from(told.geometry.data_offset())),
+        ("length", told.length),
+        ("oob", u64::from(told.oob)),
+        ("page", u64::from(told.geometry.page())),
+        ("peb", u64::from(told.geometry.peb_size())),
+        ("vid", u64::from(told.geometry.vid_offset())),
+    ];
+    let mut members = Map::new(alloc);
+    put_numbers(alloc, &mut members, &numbers)?;
     let start = place_value(alloc, part.start, told.start)?;
-    json!(in alloc; {
-        "data": u64::from(told.geometry.data_offset()),
-        "length": told.length,
-        "oob": u64::from(told.oob),
-        "page": u64::from(told.geometry.page()),
-        "peb": u64::from(told.geometry.peb_size()),
-        "start": start,
-        "vid": u64::from(told.geometry.vid_offset())
-    })
+    put(&mut members, alloc, "start", start)?;
+    Ok(Value::Object(members))
 }
 
 /// All that is found in a part of a file, in order.

@@ -9,6 +9,7 @@ ghost use Rattle.ubi_json.specs.Words.{kind_word};
 
 use crate::line::line_of;
 use crate::shown::shown_text;
+use crate::told::numbers_object;
 use serde_json::{Map, Value, json, put};
 use std::alloc::{AllocError, Global};
 use ubi_media::{Geometry, VolKind, VolumeRecord};
@@ -43,15 +44,16 @@ pub fn kind_word(kind: VolKind) -> &'static str
 pub fn sizes_value(alloc: Global, geometry: &Geometry) -> Result<Value, AllocError>
     ensures { IfOk result (λ v. view v ≡ sizes_data geometry.now) }
 {
-    json!(in alloc; {
-        "data": u64::from(geometry.data_offset()),
-        "leb": u64::from(geometry.leb_size()),
-        "page": u64::from(geometry.page()),
-        "peb": u64::from(geometry.peb_size()),
-        "pebs": u64::from(geometry.pebs()),
-        "slots": u64::from(geometry.slots()),
-        "vid": u64::from(geometry.vid_offset())
-    })
+    let numbers = [
+        ("data", u64::from(geometry.data_offset())),
+        ("leb", u64::from(geometry.leb_size())),
+        ("page", u64::from(geometry.page())),
+        ("peb", u64::from(geometry.peb_size())),
+        ("pebs", u64::from(geometry.pebs())),
+        ("slots", u64::from(geometry.slots())),
+        ("vid", u64::from(geometry.vid_offset())),
+    ];
+    numbers_object(alloc, &numbers)
 }
 
 /// The members that say a record and its number.

@@ -2,6 +2,7 @@
 
 ghost use Rattle.std.specs.Prelude.{◌≡◌, ◌-◌, IfOk, OnOk, false, length, map, option_map, string_bytes, take};
 ghost use Rattle.std.specs.Str.Lossy.{utf8_lossy};
+ghost use Rattle.serde_json.specs.Data.{no_members, object};
 ghost use Rattle.serde_json.specs.View.{members_view, view};
 ghost use Rattle.serde_json.specs.Written.{has_float};
 ghost use Rattle.ubi_json.specs.Line.{IsLineOf};
@@ -16,7 +17,7 @@ use ubi_detect::Undetected;
 use ubi_media::{EcOffsets, Refusal};
 
 /// Adds numbers under their words.
-fn put_numbers(
+pub(crate) fn put_numbers(
     alloc: Global,
     members: &mut Map<String, Value>,
     numbers: &[(&str, u64)],
@@ -27,6 +28,15 @@ fn put_numbers(
         put(members, alloc, *word, Value::from(*number))?;
     }
     Ok(())
+}
+
+/// An object of numbers by their words.
+pub(crate) fn numbers_object(alloc: Global, numbers: &[(&str, u64)]) -> Result<Value, AllocError>
+    ensures { IfOk result (λ v. view v ≡ object (with_numbers (map (λ e. (e.0.now, e.1)) numbers.now) no_members)) }
+{
+    let mut members = Map::new(alloc);
+    put_numbers(alloc, &mut members, numbers)?;
+    Ok(Value::Object(members))
 }
 
 /// Adds the name of a rule, if there is one.

@@ -20,16 +20,6 @@ pub const ERASED_EC: [u8; 64] = *b"UBI#\x01\0\0\0\
     \0\0\0\0\0\0\0\x01\0\0\0\x40\0\0\0\x80\x12\x34\x56\x78\
     \0\0\0\0\0\0\0\0\0\0\0\0\0\0\0\0\0\0\0\0\0\0\0\0\0\0\0\0\0\0\0\0\xf8\xe5\xd1\x5f";
 
-/// That of another geometry, with counter 0 and no image; both headers lie in one page of 256 bytes.
-pub const SHARED_EC: [u8; 64] = *b"UBI#\x01\0\0\0\
-    \0\0\0\0\0\0\0\0\0\0\0\x40\0\0\x01\0\0\0\0\0\
-    \0\0\0\0\0\0\0\0\0\0\0\0\0\0\0\0\0\0\0\0\0\0\0\0\0\0\0\0\0\0\0\0\x5d\xda\xa7\x4c";
-
-/// The same with the data in a place where no page has them begin.
-pub const NO_PAGE_EC: [u8; 64] = *b"UBI#\x01\0\0\0\
-    \0\0\0\0\0\0\0\0\0\0\0\x40\0\0\0\xc0\0\0\0\0\
-    \0\0\0\0\0\0\0\0\0\0\0\0\0\0\0\0\0\0\0\0\0\0\0\0\0\0\0\0\0\0\0\0\x24\xd2\xc7\x71";
-
 /// An erase-counter header of version 2, with counter 0 and the image 0x12345678.
 pub const VERSION_2: [u8; 64] = *b"UBI#\x02\0\0\0\
     \0\0\0\0\0\0\0\0\0\0\0\x40\0\0\0\x80\x12\x34\x56\x78\

@@ -9,8 +9,8 @@ use crate::headers::{
     STATIC_1, TABLE_0, TABLE_1, WRONG_CHECK_OF_39,
 };
 use crate::records::{
-    ALIGNMENT_0, ALIGNMENT_256, BOOT, DATA, EMPTY, FLIPPED, MARKED, MARKED_BOOT, NAME, OVERFULL,
-    ROOT, Slot,
+    ALIGNMENT_0, ALIGNMENT_256, BOOT, DATA, EMPTY, FLIPPED, MARKED, MARKED_BOOT, OVERFULL, ROOT,
+    Slot,
 };
 use crate::sealed::SealedVid;
 use crate::texts::put_runs;
@@ -384,10 +384,6 @@ pub const WORN_A: Peb = Peb(Ec::Of(12, IMAGE), Vid::Leb(0, 0, 0), Data::Fill(b'A
 pub const WORN_SECOND: Peb = Peb(Ec::Of(13, IMAGE), Vid::Table(1, 0), Data::Table(&[ROOT]));
 /// Copy 0 with erase counter 14.
 pub const WORN_FIRST: Peb = Peb(Ec::Of(14, IMAGE), Vid::Table(0, 0), Data::Table(&[ROOT]));
-/// Copy 0 of a table with `root` and a volume `name` of one eraseblock.
-pub const FIRST_NAME: Peb = Peb(NAMED, Vid::Table(0, 0), Data::Table(&[ROOT, NAME]));
-/// Copy 1 of it.
-pub const SECOND_NAME: Peb = Peb(NAMED, Vid::Table(1, 0), Data::Table(&[ROOT, NAME]));
 /// Logical eraseblock 20 of volume 0, which `root` doesn't reserve, with sequence number 8.
 pub const BEYOND: Peb = Peb(NAMED, Vid::Leb(0, 20, 8), NO_DATA);
 /// The same as a static volume has it, with sequence number 7.
@@ -433,16 +429,6 @@ pub const NORMAL_A: Peb = Peb(Ec::Normal, LEB_0, Data::Fill(b'A', 384));
 pub const NORMAL_B: Peb = Peb(Ec::Normal, LEB_1, Data::Fill(b'B', 384));
 /// Logical eraseblock 2.
 pub const NORMAL_C: Peb = Peb(Ec::Normal, LEB_2, Data::Fill(b'C', 384));
-/// Copy 0 of a table with the volume `root` of alignment 256.
-pub const ALIGNED_FIRST: Peb = Peb(Ec::Normal, COPY_0, Data::Table(&[ALIGNMENT_256]));
-/// Copy 1 of it.
-pub const ALIGNED_SECOND: Peb = Peb(Ec::Normal, COPY_1, Data::Table(&[ALIGNMENT_256]));
-/// Logical eraseblock 0 of that volume.
-pub const NORMAL_ALIGNED: Peb = Peb(
-    Ec::Normal,
-    Vid::Sealed(PADDED, 0x9ED3_D6F9),
-    Data::Fill(b'A', 256),
-);
 /// Copy 0 of a table with the static volume `boot`.
 pub const BOOT_FIRST: Peb = Peb(Ec::Normal, COPY_0, Data::Table(&[BOOT]));
 /// Copy 1 of it.
@@ -457,9 +443,5 @@ pub const NORMAL_BOOT_0: Peb = Peb(
 pub const NORMAL_BOOT_1: Peb = Peb(Ec::Normal, Vid::Sealed(PIECE_1, 0xB77E_48CF), NO_DATA);
 /// Its one piece when it is damaged: a byte whose CRC isn't 0.
 pub const NORMAL_DAMAGED: Peb = Peb(Ec::Normal, Vid::Sealed(DAMAGED, 0xA3B7_F98B), NO_DATA);
-/// Copy 0 of a table with that volume while it is updated.
-pub const UPDATING_FIRST: Peb = Peb(Ec::Normal, COPY_0, Data::Table(&[MARKED_BOOT]));
-/// Copy 1 of it.
-pub const UPDATING_SECOND: Peb = Peb(Ec::Normal, COPY_1, Data::Table(&[MARKED_BOOT]));
 /// A free eraseblock with the erase-counter header of normal images of no image.
 pub const UNNAMED_FREE: Peb = Peb(Ec::Unnamed, Vid::Blank, NO_DATA);

@@ -116,13 +116,6 @@ pub const DATA: Slot = Slot {
     ..ROOT
 };
 
-/// One named `name`.
-pub const NAME: Slot = Slot {
-    name: b"name",
-    check: 0x4290_BEC3,
-    ..DATA
-};
-
 /// A static volume of 3 eraseblocks.
 pub const BOOT: Slot = Slot {
     reserved: 3,

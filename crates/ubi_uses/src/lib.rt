@@ -3,12 +3,12 @@
 
 mod build;
 mod change;
-mod compare;
 mod compose;
 mod config;
 mod detect;
 mod laid;
 mod media;
+mod same;
 mod scan;
 mod table;
 mod volume;
@@ -16,12 +16,12 @@ mod words;
 
 pub use build::image_of_volumes;
 pub use change::update;
-pub use compare::is_same_build;
 pub use compose::known_by;
 pub use config::volume_count;
 pub use detect::start_of;
 pub use laid::lone_header;
 pub use media::erased;
+pub use same::is_same_build;
 pub use scan::holder;
 pub use table::record_of;
 pub use volume::read;

@@ -2,12 +2,12 @@
 use Rattle.ubi_media.specs.Geometry.{Sizes}
 use Rattle.ubi_scan.specs.Image.{image_of}
 use Rattle.ubi_files.specs.declared.outcome.Outcome.{Outcome}
-use Rattle.ubi_commands.specs.Check.{Checks}
-use Rattle.ubi_commands.specs.Comparisons.{Compares}
-use Rattle.ubi_commands.specs.List.{Lists}
-use Rattle.ubi_commands.specs.Map.{Maps}
-use Rattle.ubi_commands.specs.Show.{Shows}
-use Rattle.ubi_commands.specs.declared.format.Format.TheVariants as format
+use Rattle.ubi_reading.specs.Check.{Checks}
+use Rattle.ubi_reading.specs.Comparisons.{Compares}
+use Rattle.ubi_reading.specs.List.{Lists}
+use Rattle.ubi_reading.specs.Map.{Maps}
+use Rattle.ubi_reading.specs.Show.{Shows}
+use Rattle.ubi_dumps.specs.declared.format.Format.TheVariants as format
 use Rattle.ubi_calls.specs.declared.lines.Question.{Question}
 use Rattle.ubi_calls.specs.declared.lines.Question.TheVariants as question
 

@@ -1,6 +1,5 @@
 //! What commands answer, over bytes and over files, compared with what they are to answer.
 
-use super::contents::Contents;
 use super::fake::{Broken, FakeFiles, Left};
 use super::opened::opens_right;
 use std::alloc::{AllocError, Global};
@@ -8,24 +7,12 @@ use std::fs::Files;
 use std::os::unix::fs::FileExt;
 use std::process::Abort;
 use std::test::Fail;
-use ubi_commands::{run_normalise, run_words};
+use ubi_commands::run_words;
 use ubi_files::{Disk, Host, Outcome};
-use ubi_probe::pebs::small;
-use ubi_probe::{Failure, ProbeWriter};
-use ubi_scan::MemorySource;
 
 /// Whether a command answered a text and an exit status.
 pub fn is_answer(outcome: &Outcome, (text, status): (&str, u8)) -> bool {
     outcome.text.as_slice() == text.as_bytes() && outcome.status == status
-}
-
-/// Whether so is answered of the bytes of an image that is normalised, and a writer with ample room receives what it
-/// should.
-pub fn is_normal(alloc: Global, image: &[u8], line: (&str, u8), want: &[u8]) -> Result<bool, Fail> {
-    let mut source = MemorySource::new(image);
-    let mut writer = ProbeWriter::new(alloc, 4096, 100, Failure::Nothing)?;
-    let answer = run_normalise(alloc, &small()?, &mut source, &mut writer)?;
-    Ok(is_answer(&answer, line) && answer.file.is_none() && writer.taken() == want)
 }
 
 /// Runs the words of a line over a disk, with the program's name before them. Somebody may watch.
@@ -125,52 +112,6 @@ pub fn are_one(answer: &(Outcome, Vec<u8>), other: &(Outcome, Vec<u8>)) -> bool 
     answer.0.text == other.0.text && answer.0.status == other.0.status && answer.1 == other.1
 }
 
-/// Asserts that the words of a line are wrong: nothing is printed and no file is opened, and standard error says why.
-pub fn assert_wrong(rt: &impl Abort, alloc: Global, line: &str, why: &str) -> Result<(), Fail> {
-    let left = Left::new(alloc);
-    let image = Contents::Spare.bytes(alloc)?;
-    let files = FakeFiles::of(image.as_slice(), Broken::Nothing, &left);
-    let outcome = run_line(
-        &files,
-        alloc,
-        with_sizes(alloc, line, SMALL_SIZES)?.as_str(),
-    )?;
-    let is_shown = left.shown.into_inner().as_str().contains(why);
-    let is_untouched = left.written.into_inner().is_empty() && left.opened.into_inner().is_empty();
-    assert!(*rt;
-        is_answer(&outcome, ("", 2)) && is_shown && is_untouched,
-        "of {line}"
-    );
-    Ok(())
-}
-
-/// Asserts what a line as it is answers and writes.
-fn assert_answer(
-    rt: &impl Abort,
-    alloc: Global,
-    files: (&[u8], &[u8]),
-    broken: Broken,
-    line: &str,
-    (text, status, output): (&[u8], u8, &[u8]),
-) -> Result<(), Fail> {
-    let (outcome, written) = run_own(alloc, files, broken, line)?;
-    let is = outcome.text.as_slice() == text && outcome.status == status;
-    assert!(*rt; is && written.as_slice() == output, "of {line}, {broken:?}");
-    Ok(())
-}
-
-/// Asserts it over files that are read at places, and over those that can't be.
-pub fn assert_own(
-    rt: &impl Abort,
-    alloc: Global,
-    files: (&[u8], &[u8]),
-    line: &str,
-    answer: (&[u8], u8, &[u8]),
-) -> Result<(), Fail> {
-    assert_answer(rt, alloc, files, Broken::Nothing, line, answer)?;
-    assert_answer(rt, alloc, files, Broken::Places, line, answer)
-}
-
 /// Asserts what a line of small eraseblocks answers and writes.
 pub fn assert_over(
     rt: &impl Abort,
@@ -178,52 +119,11 @@ pub fn assert_over(
     files: (&[u8], &[u8]),
     broken: Broken,
     line: &str,
-    (text, status): (&str, u8),
+    answer: (&str, u8),
     output: &[u8],
 ) -> Result<(), Fail> {
-    let line = with_sizes(alloc, line, SMALL_SIZES)?;
-    let answer = (text.as_bytes(), status, output);
-    assert_answer(rt, alloc, files, broken, line.as_str(), answer)
-}
-
-/// Asserts it over files that are read at places, and over those that can't be.
-pub fn assert_both(
-    rt: &impl Abort,
-    alloc: Global,
-    files: (&[u8], &[u8]),
-    line: &str,
-    (text, status): (&str, u8),
-    output: &[u8],
-) -> Result<(), Fail> {
-    let line = with_sizes(alloc, line, SMALL_SIZES)?;
-    assert_own(
-        rt,
-        alloc,
-        files,
-        line.as_str(),
-        (text.as_bytes(), status, output),
-    )
-}
-
-/// A line over files that each hold an image, but `new.bin`, which holds other bytes.
-#[derive(Clone, Copy)]
-pub struct Run {
-    pub image: Contents,
-    pub new: Contents,
-    pub line: &'static str,
-    /// What is printed, and the exit status.
-    pub answer: (&'static str, u8),
-    /// What is written.
-    pub output: Contents,
-}
-
-/// Asserts what each run answers and writes.
-pub fn assert_runs(rt: &impl Abort, alloc: Global, runs: &[Run]) -> Result<(), Fail> {
-    for run in runs {
-        let (image, new) = (run.image.bytes(alloc)?, run.new.bytes(alloc)?);
-        let output = run.output.bytes(alloc)?;
-        let (files, output) = ((image.as_slice(), new.as_slice()), output.as_slice());
-        assert_both(rt, alloc, files, run.line, run.answer, output)?;
-    }
+    let (outcome, written) = run_over(alloc, files, broken, line)?;
+    let is = is_answer(&outcome, answer) && written.as_slice() == output;
+    assert!(*rt; is, "of {line}, {broken:?}");
     Ok(())
 }

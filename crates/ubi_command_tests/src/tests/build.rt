@@ -1,7 +1,7 @@
 //! The command `build` over files that hold a config and the contents of a volume, and over files that fail.
 
 use super::answers::{assert_over, is_answer, run_over};
-use super::contents::{Contents, EMPTY};
+use super::contents::Contents;
 use super::fake::Broken;
 use std::io::ErrorKind;
 use std::test::Fail;
@@ -80,137 +80,14 @@ fn tells_which_of_two_files_fails(rt: HostRuntime) -> Result<(), Fail> {
     Ok(())
 }
 
-/// Configs, what `new.bin` holds, and what is answered. Nothing is written.
-static REFUSED: [(&[u8], Contents, (&str, u8)); 14] = [
-    (
-        b"mode=ubi\n[a]\n",
-        EMPTY,
-        ("refused I6 NoSection line=1\n", 1),
-    ),
-    (
-        b"\n[a]\nmode=ubi\nvol_name=root\nvol_size=1\n",
-        EMPTY,
-        ("refused I12 Missing line=2 vol_id\n", 1),
-    ),
-    (
-        b"[a]\nmode=ubi\nvol_id=00\n",
-        EMPTY,
-        ("refused I5 Unfit line=3\n", 1),
-    ),
-    (CONFIG, EMPTY, ("refused I13 Empty line=2\n", 1)),
-    (
-        b"[a]\nmode=ubi\nvol_id=0\nvol_name=root\nvol_flags=skip-check\nimage=new.bin\n",
-        CONTENT,
-        ("refused I18 SkipCheck line=1\n", 1),
-    ),
-    (
-        b"[a]\nmode=ubi\nvol_id=0\nvol_name=root\nvol_size=1151\nimage=new.bin\n",
-        CONTENT,
-        ("refused I14 LongImage line=1\n", 1),
-    ),
-    (
-        b"[a]\nmode=ubi\nvol_id=0\nvol_name=root\nvol_alignment=65\nimage=new.bin\n",
-        CONTENT,
-        ("refused I15 Record line=1 AlignmentPage\n", 1),
-    ),
-    (
-        b"[a]\nmode=ubi\nvol_id=0\nvol_name=root\nvol_size=768GiB\n",
-        EMPTY,
-        ("refused I16 TooLarge line=1\n", 1),
-    ),
-    // The second section's file is missing, or may be the output.
-    (
-        b"[a]\nmode=ubi\nvol_id=0\nvol_name=root\nimage=new.bin\n[b]\nmode=ubi\nvol_id=1\nvol_name=b\nimage=b\n",
-        CONTENT,
-        ("cannot read b\n", 1),
-    ),
-    (
-        b"[a]\nmode=ubi\nvol_id=0\nvol_name=root\nimage=b.img\n",
-        CONTENT,
-        ("cannot read b.img\n", 1),
-    ),
-    // The path isn't text.
-    (
-        b"[a]\nmode=ubi\nvol_id=0\nvol_name=root\nimage=\xFF\n",
-        CONTENT,
-        ("refused I5 Unfit line=1\n", 1),
-    ),
-    // The device has 32 eraseblocks and two slots.
-    (
-        b"[a]\nmode=ubi\nvol_id=2\nvol_name=root\nimage=new.bin\n",
-        CONTENT,
-        ("refused I17 IdRange line=1\n", 1),
-    ),
-    (
-        b"[a]\nmode=ubi\nvol_id=0\nvol_name=root\nvol_size=11521\n",
-        EMPTY,
-        ("refused M5 NoSpace\n", 1),
-    ),
-    (
-        b"[a]\nmode=ubi\nvol_id=0\nvol_name=root\nvol_type=static\nimage=new.bin\n[b]\nmode=ubi\nvol_id=1\nvol_name=root\n",
-        CONTENT,
-        ("refused I10 SameName line=10\n", 1),
-    ),
-];
-
 #[test]
-fn builds_of_files_or_tells_why_not(rt: HostRuntime) -> Result<(), Fail> {
+fn tells_of_files_that_fail(rt: HostRuntime) -> Result<(), Fail> {
     let alloc = rt.alloc();
     let (content, image) = (CONTENT.bytes(alloc)?, Contents::NormalRoot.bytes(alloc)?);
     for (broken, answer, count) in &WAYS {
         let written = image.as_slice().get(..*count).ok_or("short")?;
         let files = (CONFIG, content.as_slice());
         assert_over(&rt, alloc, files, *broken, LINE, *answer, written)?;
-    }
-    for (config, content, answer) in &REFUSED {
-        let content = content.bytes(alloc)?;
-        let files = (*config, content.as_slice());
-        assert_over(&rt, alloc, files, Broken::Nothing, LINE, *answer, &[])?;
-    }
-    Ok(())
-}
-
-/// Configs of a static volume, what `new.bin` holds, and what `list` prints for the image that is built.
-static STATIC: [(&[u8], Contents, (&str, u8)); 3] = [
-    (
-        b"[a]\nmode=ubi\nvol_id=0\nvol_name=root\nvol_type=static\nvol_flags=skip-check\nimage=new.bin\n",
-        CONTENT,
-        (
-            "geometry peb=512 page=64 vid=64 data=128 leb=384 slots=2 pebs=32\n\
-            volume 0 static reserved=3 alignment=1 usable=384 flags=02 bytes=1152 name=root\nvolumes 1\n",
-            0,
-        ),
-    ),
-    (
-        b"[a]\nmode=ubi\nvol_id=0\nvol_name=root\nvol_type=static\nimage=new.bin\n",
-        EMPTY,
-        (
-            "geometry peb=512 page=64 vid=64 data=128 leb=384 slots=2 pebs=32\n\
-            volume 0 static reserved=1 alignment=1 usable=384 flags=00 bytes=0 name=root\nvolumes 1\n",
-            0,
-        ),
-    ),
-    (
-        b"[a]\nmode=ubi\nvol_id=1\nvol_name=root\nvol_type=static\nvol_size=769\nimage=new.bin\n",
-        EMPTY,
-        (
-            "geometry peb=512 page=64 vid=64 data=128 leb=384 slots=2 pebs=32\n\
-            volume 1 static reserved=3 alignment=1 usable=384 flags=00 bytes=0 name=root\nvolumes 1\n",
-            0,
-        ),
-    ),
-];
-
-#[test]
-fn builds_static_volumes_that_are_empty_or_unchecked(rt: HostRuntime) -> Result<(), Fail> {
-    let alloc = rt.alloc();
-    for (config, content, listed) in &STATIC {
-        let content = content.bytes(alloc)?;
-        let files = (*config, content.as_slice());
-        let (_, image) = run_over(alloc, files, Broken::Nothing, LINE)?;
-        let files = (image.as_slice(), content.as_slice());
-        let (outcome, _) = run_over(alloc, files, Broken::Nothing, "list a.img")?;
-        assert!(rt; is_answer(&outcome, *listed), "{}", listed.0);
     }
     Ok(())
 }

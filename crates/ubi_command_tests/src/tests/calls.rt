@@ -5,9 +5,7 @@
 use super::answers::run_over;
 use super::contents::{Contents, EMPTY};
 use super::fake::Broken;
-use super::geometry::SMALL;
-use super::rename::LINES;
-use super::shown::{CHANGED, ROOT_CHECKED, ROOT_LISTED, ROOT_SHOWN};
+use super::shown::{CHANGED, RENAMED, ROOT_CHECKED, ROOT_LISTED, ROOT_SHOWN, SMALL};
 use std::alloc::Global;
 use std::process::Abort;
 use std::test::Fail;
@@ -316,7 +314,7 @@ fn plans_with_pages(rt: HostRuntime) -> Result<(), Fail> {
     let (status, lines, pages) = planned(alloc, None, ALL_GOOD)?;
     assert!(rt; status == 0 && lines.as_slice() == CHANGED.as_bytes() && pages == want);
     let (status, lines, pages) = planned(alloc, Some(b"data"), ALL_GOOD)?;
-    assert!(rt; status == 0 && lines.as_slice() == LINES.as_bytes() && pages.len() == 16 * 64);
+    assert!(rt; status == 0 && lines.as_slice() == RENAMED.as_bytes() && pages.len() == 16 * 64);
     let (status, lines, pages) = planned(alloc, Some(b"\\"), ALL_GOOD)?;
     assert!(rt;
         status == 1 && lines.as_slice() == "refused N1 BadName\n".as_bytes() && pages.is_empty()

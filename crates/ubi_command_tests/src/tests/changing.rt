@@ -3,10 +3,8 @@
 use std::alloc::Global;
 use std::test::Fail;
 use ubi_change::Avoided;
-use ubi_commands::{
-    Comparison, Format, NewBytes, Reading, run_change, run_change_from, run_rename, run_rename_from,
-};
 use ubi_compose::normalise_to;
+use ubi_dumps::Format;
 use ubi_files::Outcome;
 use ubi_probe::pebs::{
     A, B, BOOT_0, BOOT_1, C, ERASED, FIRST, FIRST_BOOT, FIRST_OF_5, FIRST_UPDATING, NEWER_BOOT_0,
@@ -14,8 +12,10 @@ use ubi_probe::pebs::{
     WRONG_6, WRONG_9, small, small_image,
 };
 use ubi_probe::{ChangingSource, Failure, ProbeWriter};
+use ubi_reading::{Comparison, Reading};
 use ubi_scan::{MemorySource, StreamError};
 use ubi_volume::{Places, attach_places};
+use ubi_writing::{NewBytes, run_change, run_change_from, run_rename, run_rename_from};
 
 /// Whether each logical eraseblock of the first two volumes lies in one of so many eraseblocks.
 fn lie_within(places: &Places, count: usize) -> bool {

@@ -1,121 +1,13 @@
-//! The command `extract`.
+//! The command `extract` into writers that fail.
 
-use super::answers::assert_both;
-use super::contents::{Contents, EMPTY};
+use super::contents::Contents;
 use std::alloc::Global;
 use std::io::ErrorKind;
 use std::test::Fail;
-use ubi_commands::{VolumeKey, run_extract};
 use ubi_files::ToolError;
 use ubi_probe::pebs::small;
 use ubi_probe::{Failure, ProbeWriter};
-
-/// An image, the words that name a volume, what is answered, and what is written.
-static EXTRACTED: [(Contents, &str, (&str, u8), Contents); 16] = [
-    (
-        Contents::Root,
-        "--id 0",
-        ("bytes 7680\n", 0),
-        Contents::RootText,
-    ),
-    (
-        Contents::Root,
-        "--name root",
-        ("bytes 7680\n", 0),
-        Contents::RootText,
-    ),
-    (
-        Contents::Root,
-        "--name r\\x6fo\\x74",
-        ("bytes 7680\n", 0),
-        Contents::RootText,
-    ),
-    (
-        Contents::Root,
-        "--name roo",
-        ("refused L1 NoVolume\n", 1),
-        EMPTY,
-    ),
-    (
-        Contents::Root,
-        "--name Root",
-        ("refused L1 NoVolume\n", 1),
-        EMPTY,
-    ),
-    (
-        Contents::Root,
-        "--name roo\\x7",
-        ("refused L1 NoVolume\n", 1),
-        EMPTY,
-    ),
-    (Contents::EmptyBoot, "--id 0", ("bytes 0\n", 0), EMPTY),
-    (
-        Contents::WholeBoot,
-        "--id 0",
-        ("bytes 385\n", 0),
-        Contents::Runs(&[(b"A", 384), (b"\xFF", 1)]),
-    ),
-    (
-        Contents::WholeBoot,
-        "--name boot",
-        ("bytes 385\n", 0),
-        Contents::Runs(&[(b"A", 384), (b"\xFF", 1)]),
-    ),
-    (
-        Contents::Updating,
-        "--id 0",
-        ("refused L2 Updating\n", 1),
-        EMPTY,
-    ),
-    (
-        Contents::Updating,
-        "--id 1",
-        ("refused L1 NoVolume\n", 1),
-        EMPTY,
-    ),
-    (
-        Contents::Updating,
-        "--id 200",
-        ("refused L1 NoVolume\n", 1),
-        EMPTY,
-    ),
-    (
-        Contents::DamagedBoot,
-        "--name boot",
-        ("refused L3 Damaged\n", 1),
-        EMPTY,
-    ),
-    (
-        Contents::DamagedBoot,
-        "--id 4294967295",
-        ("refused L1 NoVolume\n", 1),
-        EMPTY,
-    ),
-    (
-        Contents::Faulty,
-        "--id 0",
-        ("refused S4 ImageSeq block=3\n", 1),
-        EMPTY,
-    ),
-    (
-        Contents::Faulty,
-        "--name none",
-        ("refused S4 ImageSeq block=3\n", 1),
-        EMPTY,
-    ),
-];
-
-#[test]
-fn extracts_volumes(rt: HostRuntime) -> Result<(), Fail> {
-    let alloc = rt.alloc();
-    for (image, volume, answer, output) in &EXTRACTED {
-        let (image, output) = (image.bytes(alloc)?, output.bytes(alloc)?);
-        let line = format!(in alloc; "extract a.img {volume} --out b.img")?;
-        let (files, line) = ((image.as_slice(), image.as_slice()), line.as_str());
-        assert_both(&rt, alloc, files, line, *answer, output.as_slice())?;
-    }
-    Ok(())
-}
+use ubi_writing::{VolumeKey, run_extract};
 
 /// Whether a writer that fails once it has so many bytes is reported, and receives as many of the first bytes.
 fn is_cut(

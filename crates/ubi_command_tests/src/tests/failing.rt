@@ -3,10 +3,7 @@
 use super::answers::assert_over;
 use super::contents::{Contents, EMPTY};
 use super::fake::Broken;
-use super::folder_configs::ROOT_CONFIG;
-use super::geometry::SMALL;
-use super::rename::LINES;
-use super::shown::{BLANK_SHOWN, CHANGED};
+use super::shown::{BLANK_SHOWN, CHANGED, RENAMED, ROOT_CONFIG, SMALL};
 use std::alloc::Global;
 use std::io::ErrorKind;
 use std::process::Abort;
@@ -164,6 +161,42 @@ static READERS: [Failing; 7] = [
     },
 ];
 
+/// What is answered as JSON of a file that can't be read.
+const UNREAD_OBJECT: (&str, u8) = ("{\"error\":\"cannot read a.img\"}\n", 1);
+
+const UNREAD_WAYS: &[(Broken, (&str, u8), usize)] = &[
+    (Broken::OpenRead, UNREAD_OBJECT, 0),
+    (Broken::Read(ErrorKind::Other, 640), UNREAD_OBJECT, 0),
+];
+
+/// One that can't be read, of which `check` answers as JSON; and what other lines do.
+const UNREAD_CHECK: Failing = Failing {
+    image: Contents::Root,
+    line: "check a.img --format json",
+    ways: UNREAD_WAYS,
+    output: EMPTY,
+};
+
+static OBJECTS: [Failing; 5] = [
+    UNREAD_CHECK,
+    Failing {
+        line: "list a.img --format json",
+        ..UNREAD_CHECK
+    },
+    Failing {
+        line: "geometry a.img --format json",
+        ..UNREAD_CHECK
+    },
+    Failing {
+        line: "same a.img new.bin --format json",
+        ..UNREAD_CHECK
+    },
+    Failing {
+        line: "diff a.img new.bin --format json",
+        ..UNREAD_CHECK
+    },
+];
+
 /// Commands that write a file. What fails isn't tried again.
 static WRITERS: [Failing; 12] = [
     Failing {
@@ -171,6 +204,8 @@ static WRITERS: [Failing; 12] = [
         line: "normalise a.img --out b.img",
         ways: &[
             (Broken::Nothing, ("blocks 2\n", 0), 1024),
+            (Broken::Whole, ("blocks 2\n", 0), 1024),
+            (Broken::Places, ("blocks 2\n", 0), 1024),
             (Broken::Short(100), ("blocks 2\n", 0), 1024),
             (Broken::OpenRead, UNREAD, 0),
             (Broken::Read(ErrorKind::Other, 0), UNREAD, 0),
@@ -185,6 +220,7 @@ static WRITERS: [Failing; 12] = [
         image: Contents::Root,
         line: "normalise a.img --out b.img",
         ways: &[
+            (Broken::Whole, ("blocks 5\n", 0), 2560),
             (Broken::Read(ErrorKind::Other, 2048 + 128), UNREAD, 2048),
             (Broken::Read(ErrorKind::Other, 2048 + 127), UNREAD, 0),
             (Broken::Cut, UNREAD, 0),
@@ -289,9 +325,9 @@ static WRITERS: [Failing; 12] = [
         image: Contents::Pebs(&[FIRST, SECOND, A, B, C, FREE, FREE, ORPHAN], &[]),
         line: "rename a.img --id 0 --name data --out b.img --stop 0",
         ways: &[
-            (Broken::Nothing, (LINES, 0), 4096),
-            (Broken::Short(100), (LINES, 0), 4096),
-            (Broken::Places, (LINES, 0), 4096),
+            (Broken::Nothing, (RENAMED, 0), 4096),
+            (Broken::Short(100), (RENAMED, 0), 4096),
+            (Broken::Places, (RENAMED, 0), 4096),
             (Broken::OpenRead, UNREAD, 0),
             (Broken::Read(ErrorKind::Other, 3711), UNREAD, 0),
             (Broken::Read(ErrorKind::Other, 3712), UNREAD, 3584),
@@ -363,7 +399,12 @@ fn assert_failing(rt: &impl Abort, alloc: Global, case: &Failing) -> Result<(), 
 
 #[test]
 fn tells_of_files_that_fail(rt: HostRuntime) -> Result<(), Fail> {
-    for cases in [READERS.as_slice(), WRITERS.as_slice(), ONTO.as_slice()] {
+    for cases in [
+        READERS.as_slice(),
+        OBJECTS.as_slice(),
+        WRITERS.as_slice(),
+        ONTO.as_slice(),
+    ] {
         for case in cases {
             assert_failing(&rt, rt.alloc(), case)?;
         }

@@ -1,59 +1,15 @@
-//! Printed lines.
+//! Printed lines and objects that no image of a test can bring about: great numbers, paths with any bytes.
 
 use std::alloc::AllocError;
 use std::process::Abort;
-use ubi_commands::blocks_line;
-use ubi_files::{geometry_line, refusal_line};
-use ubi_media::{EcFault, GeometryError, RecFault, Refusal, VidFault};
-
-/// The causes for which images are refused, with their lines.
-static REFUSALS: [(Refusal, &str); 14] = [
-    (Refusal::Length, "refused S1 Length\n"),
-    (Refusal::TooMany, "refused S2 TooMany\n"),
-    (
-        Refusal::Ec(3, EcFault::Version),
-        "refused S3 Ec block=3 Version\n",
-    ),
-    (Refusal::ImageSeq(3), "refused S4 ImageSeq block=3\n"),
-    (
-        Refusal::Vid(0, VidFault::UsedEbs),
-        "refused S5 Vid block=0 UsedEbs\n",
-    ),
-    (
-        Refusal::Incompatible(5, 2_147_479_552),
-        "refused S6 Incompatible block=5 volume=2147479552\n",
-    ),
-    (Refusal::Layout(7), "refused S7 Layout block=7\n"),
-    (
-        Refusal::SameSqnum(4, 2),
-        "refused S8 SameSqnum block=4 earlier=2\n",
-    ),
-    (Refusal::NoTable, "refused T1 NoTable\n"),
-    (Refusal::BothCorrupt, "refused T2 BothCorrupt\n"),
-    (
-        Refusal::Record(0, 1, RecFault::Alignment),
-        "refused T3 Record block=0 slot=1 Alignment\n",
-    ),
-    (
-        Refusal::SameName(0, 1, 3),
-        "refused T4 SameName block=0 slot=1 slot=3\n",
-    ),
-    (Refusal::NoSpace, "refused T5 NoSpace\n"),
-    (
-        Refusal::Mismatch(u32::MAX),
-        "refused V1 Mismatch block=4294967295\n",
-    ),
-];
-
-/// The limits that a geometry breaks, with their lines.
-static LIMITS: [(GeometryError, &str); 6] = [
-    (GeometryError::Page, "refused G1 Page\n"),
-    (GeometryError::PebSize, "refused G2 PebSize\n"),
-    (GeometryError::VidOffset, "refused G3 VidOffset\n"),
-    (GeometryError::DataOffset, "refused G4 DataOffset\n"),
-    (GeometryError::LebTooSmall, "refused G5 LebTooSmall\n"),
-    (GeometryError::Pebs, "refused G6 Pebs\n"),
-];
+use std::test::Fail;
+use ubi_compare::Difference;
+use ubi_detect::{Detected, Span};
+use ubi_dumps::blocks_line;
+use ubi_files::{FilePart, refusal_line};
+use ubi_json::{differences_line, error_line, geometry_line};
+use ubi_media::Refusal;
+use ubi_probe::pebs::small;
 
 /// Asserts that a line was made, and is another.
 fn assert_made(rt: &impl Abort, made: Result<Vec<u8>, AllocError>, line: &str) {
@@ -64,14 +20,70 @@ fn assert_made(rt: &impl Abort, made: Result<Vec<u8>, AllocError>, line: &str) {
     assert!(*rt; is, "{line}");
 }
 
+/// What begins at the last byte that a number can give.
+const LAST: FilePart = FilePart {
+    start: u64::MAX,
+    length: None,
+};
+
+/// What can't be read, and the object: a path that has a quote, the end of a line and a letter of two bytes; bytes that are no text;
+/// and nothing.
+static ERRORS: [(&[u8], &str); 3] = [
+    (
+        b"cannot read a\"b\nc\xC3\xA9\n",
+        "{\"error\":\"cannot read a\\\"b\\nc\u{e9}\"}\n",
+    ),
+    (b"a\xFF\n", "{\"error\":\"a\u{fffd}\"}\n"),
+    (b"", "{\"error\":\"\"}\n"),
+];
+
 #[test]
-fn prints_refusals_limits_and_counts(rt: HostRuntime) {
+fn prints_great_numbers_and_any_path(rt: HostRuntime) -> Result<(), Fail> {
     let alloc = rt.alloc();
-    for (cause, line) in REFUSALS {
-        assert_made(&rt, refusal_line(alloc, cause), line);
-    }
-    for (limit, line) in LIMITS {
-        assert_made(&rt, geometry_line(alloc, limit), line);
-    }
+    let refused = refusal_line(alloc, Refusal::Mismatch(u32::MAX));
+    assert_made(&rt, refused, "refused V1 Mismatch block=4294967295\n");
     assert_made(&rt, blocks_line(alloc, 1_048_576), "blocks 1048576\n");
+    let told = "{\"refused\":{\"block\":4294967295,\"cause\":\"Mismatch\",\"code\":\"V1\"}}\n";
+    let object = ubi_json::refusal_line(alloc, Refusal::Mismatch(u32::MAX));
+    assert_made(&rt, object, told);
+    let differences = [
+        Difference::Bytes {
+            id: 127,
+            left: u64::MAX,
+            right: 0,
+        },
+        Difference::Lebs {
+            id: u32::MAX,
+            first: 0,
+            last: u32::MAX,
+        },
+    ];
+    let told = "{\"differences\":[\
+        {\"id\":127,\"left\":18446744073709551615,\"right\":0,\"what\":\"bytes\"},\
+        {\"first\":0,\"id\":4294967295,\"last\":4294967295,\"what\":\"lebs\"}],\"same\":false}\n";
+    assert_made(&rt, differences_line(alloc, &differences), told);
+    let detected = Detected {
+        geometry: small()?,
+        oob: 64,
+        start: 1,
+        length: 2,
+    };
+    let spans = [
+        Span {
+            start: 0,
+            length: 7,
+        },
+        Span {
+            start: 1,
+            length: 1 << 33,
+        },
+    ];
+    let told =
+        "{\"geometries\":[{\"data\":128,\"length\":2,\"oob\":64,\"page\":64,\"peb\":512,\"start\":\"18446744073709551616\",\"vid\":64}],\
+        \"images\":[{\"length\":7,\"start\":18446744073709551615},{\"length\":8589934592,\"start\":\"18446744073709551616\"}]}\n";
+    assert_made(&rt, geometry_line(alloc, LAST, &[detected], &spans), told);
+    for (printed, told) in ERRORS {
+        assert_made(&rt, error_line(alloc, printed), told);
+    }
+    Ok(())
 }

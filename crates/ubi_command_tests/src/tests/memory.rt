@@ -6,26 +6,24 @@
 use super::answers::run_line;
 use super::build::CONFIG;
 use super::fake::{Broken, FakeFiles, Left};
-use super::geometry::SMALL;
 use super::opened::opens_right;
-use super::rename::LINES;
 use super::shown::{
-    CHANGED, ROOT_CHECKED, ROOT_COUNTS, ROOT_LISTED, ROOT_SHOWN, ROOT_VOLUMES, SMALL_OBJECT,
+    CHANGED, RENAMED, ROOT_CHECKED, ROOT_COUNTS, ROOT_LISTED, ROOT_SHOWN, ROOT_VOLUMES, SMALL,
+    SMALL_OBJECT,
 };
 use std::alloc::{AllocError, Global};
 use std::process::Abort;
 use std::test::Fail;
-use ubi_commands::{
-    Comparison, Format, VolumeKey, run_change, run_check, run_compose, run_extract, run_geometry,
-    run_list, run_normalise, run_rename, run_show,
-};
+use ubi_dumps::Format;
 use ubi_files::{Outcome, SidesError, ToolError};
 use ubi_media::Geometry;
 use ubi_probe::pebs::{
     NORMAL_A, NORMAL_B, NORMAL_C, Peb, ROOT_FIRST, ROOT_SECOND, UNNAMED_FREE, image_of, small,
 };
 use ubi_probe::texts::bytes_of;
+use ubi_reading::{Comparison, run_check, run_geometry, run_list, run_show};
 use ubi_scan::MemorySource;
+use ubi_writing::{VolumeKey, run_change, run_compose, run_extract, run_normalise, run_rename};
 
 /// A text of a dynamic and a static volume, with an eraseblock each.
 const SPEC: &[u8] = b"volume 0 dynamic 20 1 00 root\nleb 0 1 6162\n\
@@ -181,7 +179,7 @@ fn tells_all(rt: &impl Abort, alloc: Global, geometry: &Geometry) -> Result<bool
         ),
         is_told(rt, run_compose(alloc, geometry, SPEC, 1, 0), "blocks 5\n"),
         is_told(rt, changed, CHANGED),
-        is_told(rt, renamed, LINES),
+        is_told(rt, renamed, RENAMED),
     ];
     Ok(!told.contains(&false))
 }
@@ -195,7 +193,7 @@ fn tells_all_or_runs_out_of_memory(rt: HostRuntime) -> Result<(), Fail> {
 }
 
 /// The words of a command, how many bytes of the image they are over, what is answered, and how many bytes are written.
-static WORDS: [(&str, usize, &str, usize); 16] = [
+static WORDS: [(&str, usize, &str, usize); 17] = [
     ("geometry a", 2560, SMALL, 0),
     ("geometry a --format json", 2560, SMALL_OBJECT, 0),
     (
@@ -212,6 +210,7 @@ static WORDS: [(&str, usize, &str, usize); 16] = [
     ),
     ("list a --peb 512 --page 64 --pebs 32", 2560, ROOT_LISTED, 0),
     ("show a --block 4 --peb 512 --page 64", 2560, ROOT_SHOWN, 0),
+    ("map a --peb 512 --page 64", 2560, "      0 ttuuu\n", 0),
     (
         "extract a --id 0 --out b --peb 512 --page 64",
         2560,
@@ -260,7 +259,7 @@ static WORDS: [(&str, usize, &str, usize); 16] = [
     (
         "rename a --id 0 --name data --out b --peb 512 --page 64",
         3584,
-        LINES,
+        RENAMED,
         3584,
     ),
 ];

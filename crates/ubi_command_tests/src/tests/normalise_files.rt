@@ -1,19 +1,18 @@
-//! The command `normalise` over sources and writers that fail, and over files that are linked, piped or endless.
+//! The command `normalise` over sources and writers that fail, and over files that are linked or cut short.
 
 use super::answers::assert_line;
 use super::contents::Contents;
 use std::alloc::Global;
-use std::io::{ErrorKind, Write};
+use std::fs;
+use std::io::ErrorKind;
 use std::os::unix::fs::symlink;
-use std::os::unix::io::AsRawFd;
 use std::test::Fail;
-use std::{fs, io};
-use ubi_commands::run_normalise;
 use ubi_compose::normalise_to;
 use ubi_files::ToolError;
 use ubi_probe::pebs::small;
 use ubi_probe::{Failure, ProbeSource, ProbeWriter};
 use ubi_scan::{BlockSource, FileSource, MemorySource, StreamError};
+use ubi_writing::run_normalise;
 
 /// The reads of the image of `root`, counted from 1, each with its eraseblock and the number of bytes that are written
 /// before it.
@@ -184,45 +183,5 @@ fn normalises_a_file_onto_itself(rt: HostRuntime) -> Result<(), Fail> {
             fs::remove_file(&rt, path)?;
         }
     }
-    Ok(())
-}
-
-#[test]
-fn normalises_what_a_pipe_gives(rt: HostRuntime) -> Result<(), Fail> {
-    let (reader, mut writer) = io::pipe(&rt)?;
-    writer.write_all(&[0xFF; 1536])?;
-    drop(writer);
-    let end = reader.as_raw_fd();
-    let line = format!(in rt.alloc(); "normalise /proc/self/fd/{end} --out piped.img")?;
-    assert_line(&rt, rt.alloc(), line.as_str(), ("blocks 2\n", 0))?;
-    drop(reader);
-    let (piped, want) = (
-        fs::read(&rt, "piped.img")?,
-        Contents::NormalNothing.bytes(rt.alloc())?,
-    );
-    assert!(rt; piped.as_slice() == want.as_slice());
-    fs::remove_file(&rt, "piped.img")?;
-    Ok(())
-}
-
-/// The words of each command that reads a file, over a character device that has no end.
-static ENDLESS: [&str; 9] = [
-    "list /dev/zero",
-    "check /dev/zero",
-    "show /dev/zero --block 0",
-    "extract /dev/zero --id 0 --out endless.bin",
-    "normalise /dev/zero --out endless.bin",
-    "normalise /dev/zero --out /dev/zero",
-    "same /dev/zero /dev/zero",
-    "change /dev/zero --id 0 --lnum 0 --from /dev/zero --out endless.bin --bad=",
-    "compose /dev/zero --out endless.bin",
-];
-
-#[test]
-fn reads_no_file_without_an_end(rt: HostRuntime) -> Result<(), Fail> {
-    for line in ENDLESS {
-        assert_line(&rt, rt.alloc(), line, ("cannot read /dev/zero\n", 1))?;
-    }
-    assert!(rt; !fs::exists(&rt, "endless.bin")?);
     Ok(())
 }

@@ -1,81 +1,13 @@
-//! The command `same`.
+//! The command `same` over sources that fail.
 
-use super::answers::assert_both;
 use super::contents::Contents;
 use std::alloc::Global;
-use std::process::Abort;
 use std::test::Fail;
-use ubi_commands::{Comparison, Format};
+use ubi_dumps::Format;
 use ubi_files::SidesError;
 use ubi_probe::ProbeSource;
 use ubi_probe::pebs::small;
-
-/// Images that mean the same. The last five are what composing makes of texts, and damaged ones.
-static THE_SAME: [(Contents, Contents); 8] = [
-    (Contents::Root, Contents::Reversed),
-    (Contents::Reversed, Contents::Root),
-    (Contents::NormalRoot, Contents::Reversed),
-    (Contents::NormalRoot, Contents::Root),
-    (Contents::NormalAlignedRoot, Contents::AlignedRoot),
-    (Contents::NormalBoot, Contents::WholeBoot),
-    (Contents::DamagedBoot, Contents::NormalDamagedBoot),
-    (Contents::NormalUpdating, Contents::Updating),
-];
-
-/// Images that mean something else, in both orders.
-static OTHERS: [(Contents, Contents); 5] = [
-    (Contents::Root, Contents::Unnamed),
-    (Contents::Root, Contents::Rivals),
-    (Contents::Root, Contents::Updating),
-    (Contents::Root, Contents::Runs(&[(b"\xFF", 512)])),
-    (Contents::WholeBoot, Contents::DamagedBoot),
-];
-
-/// Images of which one is refused, or both.
-static REFUSED: [(Contents, Contents, &str); 6] = [
-    (Contents::Odd, Contents::Root, "left refused S1 Length\n"),
-    (Contents::Root, Contents::Odd, "right refused S1 Length\n"),
-    (Contents::Odd, Contents::Faulty, "left refused S1 Length\n"),
-    (Contents::Odd, Contents::Odd, "left refused S1 Length\n"),
-    (
-        Contents::Faulty,
-        Contents::Odd,
-        "left refused S4 ImageSeq block=3\n",
-    ),
-    (
-        Contents::Root,
-        Contents::Faulty,
-        "right refused S4 ImageSeq block=3\n",
-    ),
-];
-
-/// Asserts what is answered of two files.
-fn assert_compares(
-    rt: &impl Abort,
-    alloc: Global,
-    (left, right): (&Contents, &Contents),
-    answer: (&str, u8),
-) -> Result<(), Fail> {
-    let (left, right) = (left.bytes(alloc)?, right.bytes(alloc)?);
-    let files = (left.as_slice(), right.as_slice());
-    assert_both(rt, alloc, files, "same a.img new.bin", answer, &[])
-}
-
-#[test]
-fn tells_what_means_the_same_or_is_refused(rt: HostRuntime) -> Result<(), Fail> {
-    let alloc = rt.alloc();
-    for (left, right) in &THE_SAME {
-        assert_compares(&rt, alloc, (left, right), ("same\n", 0))?;
-    }
-    for (left, right) in &OTHERS {
-        assert_compares(&rt, alloc, (left, right), ("different\n", 1))?;
-        assert_compares(&rt, alloc, (right, left), ("different\n", 1))?;
-    }
-    for (left, right, line) in &REFUSED {
-        assert_compares(&rt, alloc, (left, right), (line, 1))?;
-    }
-    Ok(())
-}
+use ubi_reading::Comparison;
 
 /// Whether a comparison, of which each side fails at one read, counted from 1, answers a line with its status, or the
 /// side that failed. 0 is no read.

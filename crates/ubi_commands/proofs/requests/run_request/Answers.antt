@@ -1,5 +1,5 @@
 use Rattle.ubi_commands.proofs.Prelude.{IfOk-weaker}
-use Rattle.ubi_commands.proofs.Ended.{both}
+use Rattle.ubi_dumps.proofs.Ended.{both}
 use Rattle.ubi_commands.proofs.requests.run_request.Goals as goal
 
 pub returns-in-Extract-clause-answer : goal.returns-in-Extract-clause-answer

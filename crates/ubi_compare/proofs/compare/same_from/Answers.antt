@@ -1,4 +1,4 @@
-use Rattle.ubi_compare.proofs.Prelude.{◌∙◌, subst, sym, IfErr-weaker, IfOk-weaker, normal_form, IsGeometry, Source, blocks_in, IsSidesError}
+use Rattle.ubi_compare.proofs.Prelude.{subst, sym, IfErr-weaker, IfOk-weaker, Source, blocks_in, IsSidesError, IsGeometry}
 use Rattle.ubi_compare.proofs.Refusals.{sides_refused}
 use Rattle.ubi_compare.proofs.compare.same_from.Goals as goal
 
@@ -14,18 +14,14 @@ returns-clause-answer g c =
     (λ answer tells x xs y ys.
     let h = c.in-Ok.ensures.survey.held x (c.same_surveyed.ensures.left_narrows x xs) in
     let k = c.in-Ok-survey_from.ensures.survey.held y (c.same_surveyed.ensures.right_narrows y ys) in
-    let left = h.attached.accepted.accepted.means in
-    let right = k.attached.accepted.accepted.means in
     let meanings = tells x xs y ys h k in
-    let form = normal_form h.meaning k.meaning (subst IsGeometry (sym left.sizes) c.peb_size.ensures.limits)
-    (left.sizes ∙ sym right.sizes) left.meaning right.meaning in
     record {
       left = h.meaning;
       right = k.meaning;
       left_means = h.attached.accepted;
       right_means = k.attached.accepted;
+      limits = subst IsGeometry (sym h.attached.accepted.accepted.means.sizes) c.peb_size.ensures.limits;
       meanings = meanings;
-      images = ((λ t. form.0 (meanings.0 t)), (λ e. meanings.1 (form.1 e)));
     })
     c.same_surveyed.ensures.answer
 

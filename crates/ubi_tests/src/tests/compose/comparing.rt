@@ -2,10 +2,11 @@
 
 use super::images::Image;
 use std::test::Fail;
-use ubi_compare::{CompareError, CompareFault, same, same_from};
+use ubi_compare::{CompareError, CompareFault, same_from};
 use ubi_media::Refusal;
 use ubi_probe::ProbeSource;
 use ubi_probe::pebs::small;
+use ubi_same::same;
 use ubi_scan::{MemorySource, StreamError};
 
 /// Two images, and whether they mean the same, or the side that is refused.

@@ -3,13 +3,13 @@
 use super::images::composed;
 use std::alloc::Global;
 use std::test::Fail;
-use ubi_compare::same;
 use ubi_compose::{Part, Recipe, build_to, normalise_to};
 use ubi_media::Geometry;
 use ubi_probe::chips::{PAGES, SUBPAGES};
 use ubi_probe::pebs::IMAGE;
 use ubi_probe::records::ROOT;
 use ubi_probe::{Failure, ProbeWriter};
+use ubi_same::same;
 use ubi_scan::MemorySource;
 
 /// A volume of 20 logical eraseblocks, of which 1 begins with two bytes.

@@ -1,6 +1,0 @@
-use Rattle.ubi_commands.proofs.Prelude.{◌≡◌, ◌++◌, take, vec_items, flat_map, state_line}
-use Rattle.ubi_commands.proofs.check.put_counts.Given as goal
-
-abbrev pub invariant-loop-state : goal.invariant-loop-state
-invariant-loop-state l = vec_items l.text ≡ vec_items l.initial.text
-    ++ flat_map (state_line l.states) (take l.state-index l.named)

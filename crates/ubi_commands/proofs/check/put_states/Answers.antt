@@ -1,6 +1,0 @@
-use Rattle.ubi_commands.proofs.Prelude.{printed_states}
-use Rattle.ubi_commands.proofs.check.put_states.Goals as goal
-
-pub returns : goal.returns
-unfolding printed_states
-returns c = search

@@ -1,8 +1,0 @@
-use Rattle.ubi_commands.proofs.Prelude.{◌∙◌}
-use Rattle.ubi_commands.proofs.ListedLines.{listing_object}
-use Rattle.ubi_commands.proofs.list.list_object.Goals as goal
-
-pub returns-clause-text : goal.returns-clause-text
-returns-clause-text g c = λ bytes holds h.
-    listing_object c.args.geometry.now c.args.places.now bytes h _ _
-    (c.as_slice.ensures.value ∙ c.in_ok-keep_volumes.ensures.volumes bytes holds h) c.in_ok-list_line.ensures.text

@@ -1,6 +1,0 @@
-use Rattle.ubi_commands.proofs.Prelude.{arith, common_steps, room_words}
-use Rattle.ubi_commands.proofs.list.put_room.Goals as goal
-
-pub returns : goal.returns
-unfolding room_words
-returns c = grind (arith, common_steps)

@@ -1,6 +1,0 @@
-use Rattle.ubi_commands.proofs.Prelude.{arith, common_steps, sizes_line}
-use Rattle.ubi_commands.proofs.list.put_sizes.Goals as goal
-
-pub returns : goal.returns
-unfolding sizes_line
-returns c = grind (arith, common_steps)

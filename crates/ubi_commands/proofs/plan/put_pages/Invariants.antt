@@ -1,5 +1,0 @@
-use Rattle.ubi_commands.proofs.Prelude.{◌≡◌, ◌++◌, take, vec_items, programmed}
-use Rattle.ubi_commands.proofs.plan.put_pages.Given as goal
-
-abbrev pub invariant-loop-step : goal.invariant-loop-step
-invariant-loop-step l = vec_items l.pages ≡ vec_items l.initial.pages ++ programmed (take l.step-index l.steps)

@@ -1,0 +1,2 @@
+-- Definitions that only private functions' contracts and proofs cite.
+pub mod Pictured

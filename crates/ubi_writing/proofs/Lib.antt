@@ -1,0 +1,13 @@
+pub mod AtOnce
+pub mod BuiltInto
+pub mod ComposedInto
+pub mod Cut
+pub mod Edited
+pub mod Extracted
+pub mod FolderConfigs
+pub mod GatheredParts
+pub mod Into
+pub mod Normalised
+pub mod Planned
+pub mod Unpacked
+pub mod Prelude

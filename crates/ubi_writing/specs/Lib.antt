@@ -1,0 +1,12 @@
+pub mod Build
+pub mod Change
+pub mod Compose
+pub mod Extract
+pub mod Key
+pub mod Normalise
+pub mod Outputs
+pub mod Plan
+pub mod Rename
+pub mod Unpack
+pub mod Writes
+pub mod inner

@@ -1,0 +1,7 @@
+-- Definitions that only private functions' contracts and proofs cite.
+pub mod Built
+pub mod Extracting
+pub mod Folder
+pub mod Gathering
+pub mod Planning
+pub mod Replaced

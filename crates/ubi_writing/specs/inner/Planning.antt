@@ -1,0 +1,24 @@
+-- What a plan that is cut leaves, and a file that is written with it.
+use Rattle.std.specs.Prelude.{◌≡◌, ◌≢◌, ℕ, List, Some, length}
+use Rattle.ubi_media.specs.Geometry.{Sizes}
+use Rattle.ubi_change.specs.Steps.{blocks_after}
+use Rattle.ubi_change.specs.declared.step.Step.{Step}
+use Rattle.ubi_scan.specs.Image.{Image, eraseblocks, image_of, of_blocks}
+use Rattle.ubi_scan.specs.Source.{Agreed, WhereHeld}
+use Rattle.ubi_files.specs.Answer.{Gives}
+use Rattle.ubi_files.specs.declared.outcome.Outcome.{Outcome}
+use Rattle.ubi_writing.specs.Plan.{cut_bytes}
+
+-- an outcome, with these bytes as its file if the work was done
+pub data HasFile (work : Outcome) (bytes : List ℕ) (o : Outcome) : Type 0 where
+  done : work.status ≡ 0 → Gives o (record { text = work.text.items; status = 0; file = Some bytes }) → HasFile work bytes o
+  refused_file : work.status ≢ 0 → o ≡ work → HasFile work bytes o
+
+-- the bytes after the first k steps are as many as before, and cut into the eraseblocks that these steps leave
+pub record IsCutAfter (image : Image) (steps : List Step) (k : ℕ) : Type 0 where
+  pub same : length (cut_bytes image steps k) ≡ length image.bytes
+  pub done : eraseblocks (record image { bytes = cut_bytes image steps k }) ≡ of_blocks blocks_after image steps k
+
+-- so are the bytes after the first k steps, whatever a source may hold
+abbrev pub AreCut : Sizes → Agreed → List Step → ℕ → Type 0
+AreCut s agrees steps k = WhereHeld agrees (λ bytes. IsCutAfter (image_of s bytes) steps k)

@@ -1,0 +1,473 @@
+//! The commands that plan steps, over files: the image after the steps, and the pages that they program.
+
+ghost use Rattle.std.specs.Option.{ForSome};
+ghost use Rattle.std.specs.Prelude.{◌≡◌, ◌≢◌, ◌⊎◌, ◌%◌, IfOk, IfSome, IsFalse, IsTrue, None, OnErr, Some, codes, true};
+ghost use Rattle.ubi_writing.specs.Change.{ChangesFrom, HasPlan};
+ghost use Rattle.ubi_files.specs.Disk.{AllStay, Files, OthersStay, OthersStayBeside, Receives, Stays};
+ghost use Rattle.ubi_files.specs.Answer.{Gives, says};
+ghost use Rattle.ubi_files.specs.Dump.{begins_with_block, raw_size, seen};
+ghost use Rattle.ubi_files.specs.Opened.{IsOpened, IsUnreadOf};
+ghost use Rattle.ubi_files.specs.OverFile.{OfFile, OfImage};
+ghost use Rattle.ubi_dumps.specs.Asked.{ReadsAll};
+ghost use Rattle.ubi_writing.specs.Outputs.{KeepsImage, KeepsPart, OnGrid, PlanStays, WithList, WritesPlan, avoided, start_line};
+ghost use Rattle.ubi_writing.specs.Rename.{HasRename, RenamesFrom};
+ghost use Rattle.ubi_dumps.specs.Ended.{Works};
+ghost use Rattle.ubi_writing.specs.inner.Replaced.{FinishesAtOnce};
+ghost use Rattle.ubi_writing.specs.Writes.{HasWork, writes};
+ghost use Rattle.ubi_files.specs.Lines.{file_line};
+ghost use Rattle.ubi_scan.specs.Source.{Narrows};
+
+use crate::change::NewBytes;
+use crate::orders::{Change, Plan, Rename};
+use crate::writers::{Way, Writing, replaced, write_opened};
+use std::alloc::{AllocError, Global};
+use std::marker::Brand;
+use ubi_change::Avoided;
+use ubi_dumps::{Opening, Output, Paths, opening_of, unwritten_line, write_bytes};
+use ubi_files::{
+    DONE, Disk, Dump, DumpSource, FAILED, Frame, HeldFile, OpenImage, Outcome, Seen, Target,
+    ToolError, frame_of, load, nothing, open_beside, put_number, put_word, unread_line,
+};
+use ubi_media::Geometry;
+use ubi_scan::{BlockSource, MemorySource, PlacedFile};
+
+/// What is printed for a device whose bad eraseblocks aren't listed.
+const NO_LIST: &str =
+    "error: '--bad <LIST>' is needed for a device: the numbers of its bad eraseblocks, or '' for none
+
+For more information, try '--help'.
+";
+
+/// Whether a plan needs a list of bad eraseblocks that it doesn't have; if so, that is printed to standard error.
+fn lacks_list<D: Disk + Eprint>(disk: &D, dump: &Dump<'_>, image: &str) -> bool
+    ensures bad { result ≡ true → dump.now.bad ≡ None }
+    ensures device { result ≡ true → (D.files disk.now).holds image.now ≡ None }
+{
+    let lacks = dump.bad.is_none() && disk.is_flash(image);
+    if lacks {
+        let _ = disk.eprint(NO_LIST);
+    }
+    lacks
+}
+
+/// Whether the pages may be written to a path: it may not be a file that a plan has read or written.
+fn may_write_pages<D: Disk>(disk: &D, plan: &Plan<'_>, from: Option<&str>, pages: &str) -> bool
+    ensures out { result ≡ true → pages.now ≢ plan.now.paths.out.now }
+    ensures image { result ≡ true → pages.now ≢ plan.now.paths.image.now }
+    ensures from { result ≡ true → ForSome from.entry (λ f. pages.now ≢ f.now) }
+{
+    let Paths { image, out } = plan.paths;
+    let is_from = match from {
+        Some(from) => disk.may_be_one(from, pages),
+        None => false,
+    };
+    !is_from && !disk.may_be_one(image, pages) && !disk.may_be_one(out, pages)
+}
+
+/// How the output of a plan is opened, which may be the image; not at all if it could be another file that was read for the plan.
+fn opening_for<D: Disk + Eprint>(
+    disk: &D,
+    dump: &Dump<'_>,
+    plan: &Plan<'_>,
+    from: Option<&str>,
+) -> Opening
+    ensures late { result ≡ Opening.Late → plan.now.paths.image.now ≢ plan.now.paths.out.now }
+    ensures all { result ≡ Opening.AtOnce → ReadsAll (D.files disk.now) dump.now plan.now.paths.image.now }
+    ensures from { result ≢ Opening.Never → ForSome from.entry (λ f. f.now ≢ plan.now.paths.out.now) }
+{
+    let out = plan.paths.out;
+    match from {
+        Some(from) if disk.may_be_one(from, out) => {
+            let _ = disk.eprintln(format_args!("{out}: it may be {from}, which is read"));
+            Opening::Never
+        }
+        _ => opening_of(disk, dump, &plan.paths, true),
+    }
+}
+
+/// Writes the pages of a plan to a path, and says whether they were written. They aren't if it may be a file that the plan reads or
+/// writes.
+fn put_pages<D: Disk + Eprint>(
+    disk: &mut D,
+    plan: &Plan<'_>,
+    from: Option<&str>,
+    pages: &[u8],
+    output: Output<'_>,
+) -> bool
+    ensures written { result ≡ true → Receives (D.files disk.old) (D.files disk.new) output.entry.path.now (Some pages.now) }
+    ensures apart { result ≡ true → output.entry.path.now ≢ plan.now.paths.out.now }
+    ensures others { OthersStay (D.files disk.old) (D.files disk.new) output.entry.path.now }
+    ensures out { Stays (D.files disk.old) (D.files disk.new) plan.now.paths.out.now }
+    ensures image { Stays (D.files disk.old) (D.files disk.new) plan.now.paths.image.now }
+    ensures from { ForSome from.entry (λ f. Stays (D.files disk.old) (D.files disk.new) f.now) }
+{
+    let path = output.path;
+    if !may_write_pages(disk, plan, from, path) {
+        let _ = disk.eprintln(format_args!("{path}: it may be a file that is read or written"));
+        return false;
+    }
+    write_bytes(disk, pages, output).is_ok()
+}
+
+/// Writes the pages of a plan that was carried out to a path, and answers with its outcome; or with the line of a file
+/// that can't be written, such as one that the plan has read or written.
+fn write_pages<D: Disk + Eprint>(
+    disk: &mut D,
+    outcome: Outcome,
+    plan: &Plan<'_>,
+    from: Option<&str>,
+    pages: &[u8],
+    output: Output<'_>,
+    unwritten: Outcome,
+) -> Outcome
+    ensures answer { ((result ≡ outcome) × Receives (D.files disk.old) (D.files disk.new) output.entry.path.now (Some pages.now)) ⊎ (result ≡ unwritten) }
+    ensures others { OthersStay (D.files disk.old) (D.files disk.new) output.entry.path.now }
+    ensures out { Stays (D.files disk.old) (D.files disk.new) plan.now.paths.out.now }
+    ensures image { Stays (D.files disk.old) (D.files disk.new) plan.now.paths.image.now }
+    ensures from { ForSome from.entry (λ f. Stays (D.files disk.old) (D.files disk.new) f.now) }
+{
+    if put_pages(disk, plan, from, pages, output) {
+        outcome
+    } else {
+        unwritten
+    }
+}
+
+/// Does the work of a plan over an image that was opened: writes the image after its steps, if that may be opened, and then the pages, if
+/// there is a path for them. `from` is the file that was read for it, if one was.
+fn plan_late<D: Disk + Eprint>(
+    disk: &mut D,
+    alloc: Global,
+    opened: OpenImage<DumpSource<'_, D::Placed>>,
+    plan: &Plan<'_>,
+    from: Option<&str>,
+    may_open: bool,
+    command: &Writing<'_>,
+) -> Result<Outcome, AllocError>
+    requires image { may_open ≡ true → plan.now.paths.image.now ≢ plan.now.paths.out.now }
+    requires from { may_open ≡ true → ForSome from (λ f. f.now ≢ plan.now.paths.out.now) }
+    ensures answer { (d : Files) (dump : Dump) → IsOpened (λ s. IsUnreadOf (seen dump d) plan.now.paths.image.now (⟦<Seen<'static, D::Placed> as PlacedFile>⟧.bytes s.file) s.failures) d plan.now.paths.image.now dump opened.entry → IfOk result (OfFile d dump plan.now.paths.image.now (λ s k agrees. WritesPlan plan.now.paths.out.now plan.now.pages (D.files disk.old) (D.files disk.new) (writes command.now s k agrees) (HasWork command.now s k agrees))) }
+    ensures stays { PlanStays (D.files disk.old) (D.files disk.new) plan.now }
+    ensures image { Stays (D.files disk.old) (D.files disk.new) plan.now.paths.image.now }
+    ensures from { ForSome from.entry (λ f. Stays (D.files disk.old) (D.files disk.new) f.now) }
+    ensures memory { OnErr result (AllStay (D.files disk.old) (D.files disk.new)) }
+{
+    let way = Way {
+        paths: plan.paths,
+        may_open,
+        is_watched: false,
+    };
+    let mut pages = Vec::new(alloc);
+    let Some(path) = plan.pages else {
+        return write_opened(disk, alloc, opened, &way, command, &mut pages);
+    };
+    // Made before a file is opened, so that nothing is written if memory runs out.
+    let unwritten = unwritten_line(alloc, path)?;
+    let outcome = write_opened(disk, alloc, opened, &way, command, &mut pages)?;
+    if outcome.status != DONE {
+        return Ok(outcome);
+    }
+    let output = Output { path };
+    let pages = pages.as_slice();
+    Ok(write_pages(disk, outcome, plan, from, pages, output, unwritten))
+}
+
+/// What is answered if a file of a plan fails. It is made before a file is written, so that nothing is if memory runs out.
+#[derive(Drop)]
+struct PlanFaults {
+    /// The answer if the image can't be read.
+    unread: Outcome,
+    /// The answer if the output can't be written.
+    unwritten: Outcome,
+    /// The answer if the pages can't be written, if there is a path for them.
+    unpaged: Outcome,
+}
+
+/// What is answered if a file of a plan fails.
+///
+/// # Errors
+///
+/// Memory ran out.
+fn plan_faults(alloc: Global, plan: &Plan<'_>) -> Result<PlanFaults, AllocError>
+    ensures unread { IfOk result (λ faults. Gives faults.unread (says (file_line (codes "cannot read ") plan.now.paths.image.now) 1)) }
+    ensures unwritten { IfOk result (λ faults. Gives faults.unwritten (says (file_line (codes "cannot write ") plan.now.paths.out.now) 1)) }
+    ensures unpaged { IfOk result (λ faults. ForSome plan.now.pages (λ path. Gives faults.unpaged (says (file_line (codes "cannot write ") path.now) 1))) }
+{
+    Ok(PlanFaults {
+        unread: unread_line(alloc, plan.paths.image)?,
+        unwritten: unwritten_line(alloc, plan.paths.out)?,
+        unpaged: unwritten_line(alloc, plan.pages.unwrap_or(""))?,
+    })
+}
+
+/// Writes the pages of a plan that is done, if there is a path for them, and then gives the output all of its bytes at once.
+fn finish_at_once<D: Disk + Eprint>(
+    disk: &mut D,
+    alloc: Global,
+    outcome: Outcome,
+    plan: &Plan<'_>,
+    from: Option<&str>,
+    pages: &[u8],
+    bytes: &[u8],
+    faults: PlanFaults,
+) -> Outcome
+    requires done { outcome.status ≡ 0 }
+    requires unwritten { Gives faults.unwritten (says (file_line (codes "cannot write ") plan.now.paths.out.now) 1) }
+    requires unpaged { ForSome plan.now.pages (λ path. Gives faults.unpaged (says (file_line (codes "cannot write ") path.now) 1)) }
+    requires from { ForSome from (λ f. f.now ≢ plan.now.paths.out.now) }
+    ensures answer { FinishesAtOnce (D.files disk.old) (D.files disk.new) plan.now pages.now bytes.now outcome result }
+    ensures others { OthersStayBeside (D.files disk.old) (D.files disk.new) plan.now.paths.out.now plan.now.pages }
+    ensures kept { KeepsImage (D.files disk.old) (D.files disk.new) plan.now.paths.image.now result }
+    ensures image { plan.now.paths.image.now ≢ plan.now.paths.out.now → Stays (D.files disk.old) (D.files disk.new) plan.now.paths.image.now }
+    ensures from { ForSome from.entry (λ f. Stays (D.files disk.old) (D.files disk.new) f.now) }
+{
+    let PlanFaults {
+        unpaged,
+        unwritten,
+        ..
+    } = faults;
+    let out = plan.paths.out;
+    match plan.pages {
+        None => replaced(disk, alloc, outcome, bytes, out, unwritten),
+        Some(path) => {
+            if !put_pages(disk, plan, from, pages, Output { path }) {
+                return unpaged;
+            }
+            replaced(disk, alloc, outcome, bytes, out, unwritten)
+        }
+    }
+}
+
+/// Does the work of a plan over a source: writes the pages, if there is a path for them, and then gives the output all of its bytes at
+/// once.
+fn plan_at_once<D: Disk + Eprint, S: BlockSource, K: Target>(
+    disk: &mut D,
+    alloc: Global,
+    geometry: &Geometry,
+    source: &mut S,
+    plan: &Plan<'_>,
+    from: Option<&str>,
+    command: &Writing<'_>,
+    faults: PlanFaults,
+) -> Result<Outcome, AllocError>
+    requires files { D.files disk.old ≡ K.files }
+    requires unread { Gives faults.unread (says (file_line (codes "cannot read ") plan.now.paths.image.now) 1) }
+    requires unwritten { Gives faults.unwritten (says (file_line (codes "cannot write ") plan.now.paths.out.now) 1) }
+    requires unpaged { ForSome plan.now.pages (λ path. Gives faults.unpaged (says (file_line (codes "cannot write ") path.now) 1)) }
+    requires from { ForSome from (λ f. f.now ≢ plan.now.paths.out.now) }
+    ensures narrows { Narrows (S.agrees source.old) (S.agrees source.new) }
+    ensures answer { IfOk result (Works (S.known source.old) (S.known source.new) plan.now.paths.image.now (WritesPlan plan.now.paths.out.now plan.now.pages (D.files disk.old) (D.files disk.new) (writes command.now geometry.now (S.known source.old) (S.agrees source.new)) (HasWork command.now geometry.now (S.known source.old) (S.agrees source.new)))) }
+    ensures stays { PlanStays (D.files disk.old) (D.files disk.new) plan.now }
+    ensures kept { IfOk result (KeepsImage (D.files disk.old) (D.files disk.new) plan.now.paths.image.now) }
+    ensures from { ForSome from.entry (λ f. Stays (D.files disk.old) (D.files disk.new) f.now) }
+    ensures memory { OnErr result (AllStay (D.files disk.old) (D.files disk.new)) }
+{
+    let mut held: HeldFile<K> = HeldFile::new(alloc);
+    let mut pages = Vec::new(alloc);
+    match command.answer(alloc, geometry, source, &mut held, &mut pages) {
+        Ok(outcome) => {
+            if outcome.status != DONE {
+                return Ok(outcome);
+            }
+            let pages = pages.as_slice();
+            Ok(finish_at_once(
+                disk,
+                alloc,
+                outcome,
+                plan,
+                from,
+                pages,
+                held.bytes(),
+                faults,
+            ))
+        }
+        Err(ToolError::Read) => Ok(faults.unread),
+        // What is kept takes all bytes, unless it can't grow.
+        Err(ToolError::Write | ToolError::Memory) => Err(AllocError),
+    }
+}
+
+/// Does the work of a plan over a source, as [`plan_at_once`] does.
+fn plan_into<D: Disk + Eprint, S: BlockSource>(
+    disk: &mut D,
+    alloc: Global,
+    geometry: &Geometry,
+    source: &mut S,
+    plan: &Plan<'_>,
+    from: Option<&str>,
+    command: &Writing<'_>,
+) -> Result<Outcome, AllocError>
+    requires { ForSome from (λ f. f.now ≢ plan.now.paths.out.now) }
+    ensures narrows { Narrows (S.agrees source.old) (S.agrees source.new) }
+    ensures answer { IfOk result (Works (S.known source.old) (S.known source.new) plan.now.paths.image.now (WritesPlan plan.now.paths.out.now plan.now.pages (D.files disk.old) (D.files disk.new) (writes command.now geometry.now (S.known source.old) (S.agrees source.new)) (HasWork command.now geometry.now (S.known source.old) (S.agrees source.new)))) }
+    ensures stays { PlanStays (D.files disk.old) (D.files disk.new) plan.now }
+    ensures kept { IfOk result (KeepsImage (D.files disk.old) (D.files disk.new) plan.now.paths.image.now) }
+    ensures from { ForSome from.entry (λ f. Stays (D.files disk.old) (D.files disk.new) f.now) }
+    ensures memory { OnErr result (AllStay (D.files disk.old) (D.files disk.new)) }
+{
+    let faults = plan_faults(alloc, plan)?;
+    plan_at_once::<D, S, Brand>(disk, alloc, geometry, source, plan, from, command, faults)
+}
+
+/// Does the work of a plan over an image that was opened, whose output gets all of its bytes at once, after the pages.
+fn plan_over<D: Disk + Eprint>(
+    disk: &mut D,
+    alloc: Global,
+    opened: OpenImage<DumpSource<'_, D::Placed>>,
+    plan: &Plan<'_>,
+    from: Option<&str>,
+    command: &Writing<'_>,
+) -> Result<Outcome, AllocError>
+    requires { ForSome from (λ f. f.now ≢ plan.now.paths.out.now) }
+    ensures answer { (d : Files) (dump : Dump) → IsOpened (λ s. IsUnreadOf (seen dump d) plan.now.paths.image.now (⟦<Seen<'static, D::Placed> as PlacedFile>⟧.bytes s.file) s.failures) d plan.now.paths.image.now dump opened.entry → IfOk result (OfFile d dump plan.now.paths.image.now (λ s k agrees. WritesPlan plan.now.paths.out.now plan.now.pages (D.files disk.old) (D.files disk.new) (writes command.now s k agrees) (HasWork command.now s k agrees))) }
+    ensures stays { PlanStays (D.files disk.old) (D.files disk.new) plan.now }
+    ensures kept { IfOk result (KeepsImage (D.files disk.old) (D.files disk.new) plan.now.paths.image.now) }
+    ensures from { ForSome from.entry (λ f. Stays (D.files disk.old) (D.files disk.new) f.now) }
+    ensures memory { OnErr result (AllStay (D.files disk.old) (D.files disk.new)) }
+{
+    let image = plan.paths.image;
+    match opened {
+        OpenImage::AtPlaces(mut file) => {
+            let geometry = file.geometry;
+            let source = &mut file.source;
+            let work = plan_into(disk, alloc, &geometry, source, plan, from, command);
+            command.remark(disk, alloc, &geometry, source, image, &work);
+            work
+        }
+        OpenImage::Whole(file) => {
+            let geometry = file.geometry;
+            let mut source = MemorySource::new(file.bytes.as_slice());
+            let work = plan_into(disk, alloc, &geometry, &mut source, plan, from, command);
+            command.remark(disk, alloc, &geometry, &mut source, image, &work);
+            work
+        }
+    }
+}
+
+/// Does the work of a plan over the image of a dump that was opened: writes the image after its steps, and the pages, if there is a path
+/// for them. If the output may be the image, it gets all of its bytes at once, after the pages. `from` is the file that was read for the
+/// plan, if one was.
+fn write_plan<D: Disk + Eprint>(
+    disk: &mut D,
+    alloc: Global,
+    asked: &Dump<'_>,
+    opened: OpenImage<DumpSource<'_, D::Placed>>,
+    plan: &Plan<'_>,
+    from: Option<&str>,
+    command: &Writing<'_>,
+) -> Result<Outcome, AllocError>
+    ensures answer { (d : Files) (dump : Dump) → IsOpened (λ s. IsUnreadOf (seen dump d) plan.now.paths.image.now (⟦<Seen<'static, D::Placed> as PlacedFile>⟧.bytes s.file) s.failures) d plan.now.paths.image.now dump opened.entry → IfOk result (OfFile d dump plan.now.paths.image.now (λ s k agrees. WritesPlan plan.now.paths.out.now plan.now.pages (D.files disk.old) (D.files disk.new) (writes command.now s k agrees) (HasWork command.now s k agrees))) }
+    ensures stays { PlanStays (D.files disk.old) (D.files disk.new) plan.now }
+    ensures image { IfOk result (KeepsImage (D.files disk.old) (D.files disk.new) plan.now.paths.image.now) }
+    ensures part { KeepsPart (D.files disk.old) (D.files disk.new) asked.now plan.now.paths.image.now }
+    ensures from { ForSome from.entry (λ f. Stays (D.files disk.old) (D.files disk.new) f.now) }
+    ensures memory { OnErr result (AllStay (D.files disk.old) (D.files disk.new)) }
+{
+    match opening_for(disk, asked, plan, from) {
+        Opening::AtOnce => plan_over(disk, alloc, opened, plan, from, command),
+        Opening::Late => plan_late(disk, alloc, opened, plan, from, true, command),
+        Opening::Never => plan_late(disk, alloc, opened, plan, from, false, command),
+    }
+}
+
+/// The line of a part that doesn't begin with an eraseblock of the file.
+fn start_line(alloc: Global, raw: u64, rest: u64) -> Result<Vec<u8>, AllocError>
+    ensures { (dump : Dump) → raw_size dump ≡ raw → dump.part.start % raw ≡ rest → IfOk result (λ line. line.items ≡ start_line dump) }
+{
+    let mut text = Vec::from_slice(alloc, b"refused F11 Start")?;
+    put_number(&mut text, " peb=", raw)?;
+    put_number(&mut text, " rest=", rest)?;
+    put_word(&mut text, "\n")?;
+    Ok(text)
+}
+
+/// What is answered if the part of a dump doesn't begin with an eraseblock of the file: no plan names its eraseblocks.
+fn off_grid(alloc: Global, frame: &Frame<'_>) -> Result<Option<Outcome>, AllocError>
+    ensures on { IfOk result (λ o. o ≡ None → IsTrue (begins_with_block frame.now.dump)) }
+    ensures off { IfOk result (λ o. IfSome o (λ outcome. IsFalse (begins_with_block frame.now.dump) × Gives outcome (says (start_line frame.now.dump) 1))) }
+{
+    let raw = frame.raw_size();
+    let rest = frame.dump.part.start % raw;
+    if rest == 0 {
+        return Ok(None);
+    }
+    Ok(Some(Outcome::saying(start_line(alloc, raw, rest)?, FAILED)))
+}
+
+/// Changes one file into another, with the bytes of a third, which is read before anything is written.
+pub fn change_file<D: Disk + Eprint>(
+    disk: &mut D,
+    alloc: Global,
+    dump: &Dump<'_>,
+    asked: &Change<'_>,
+) -> Result<Outcome, AllocError>
+    ensures answer { IfOk result (WithList (D.files disk.old) (D.files disk.new) dump.now.bad asked.now.plan.paths.image.now (OnGrid (D.files disk.old) (D.files disk.new) dump.now asked.now.plan.paths.image.now (OfFile (D.files disk.old) dump.now asked.now.plan.paths.image.now (λ s k agrees. OfImage (D.files disk.old) dump.now.numbers asked.now.from.now (λ f. WritesPlan asked.now.plan.paths.out.now asked.now.plan.pages (D.files disk.old) (D.files disk.new) (ChangesFrom (avoided dump.now asked.now.plan) asked.now.id asked.now.lnum f.bytes asked.now.plan.stop s k agrees) (HasPlan (avoided dump.now asked.now.plan) asked.now.id asked.now.lnum f.bytes s k agrees)))))) }
+    ensures stays { PlanStays (D.files disk.old) (D.files disk.new) asked.now.plan }
+    ensures image { IfOk result (KeepsImage (D.files disk.old) (D.files disk.new) asked.now.plan.paths.image.now) }
+    ensures part { KeepsPart (D.files disk.old) (D.files disk.new) dump.now asked.now.plan.paths.image.now }
+    ensures from { Stays (D.files disk.old) (D.files disk.new) asked.now.from.now }
+    ensures memory { OnErr result (AllStay (D.files disk.old) (D.files disk.new)) }
+{
+    let Paths { image, out } = asked.plan.paths;
+    if lacks_list(disk, dump, image) {
+        return Ok(nothing(alloc));
+    }
+    let frame = match frame_of(alloc, dump) {
+        Ok(frame) => frame,
+        Err(unread) => return unread.answer(),
+    };
+    if let Some(outcome) = off_grid(alloc, &frame)? {
+        return Ok(outcome);
+    }
+    let opened = match open_beside(disk, alloc, &frame, image, out) {
+        Ok(opened) => opened,
+        Err(unread) => return unread.answer(),
+    };
+    let file = match load(disk, alloc, dump.numbers, asked.from) {
+        Ok(file) => file,
+        Err(unread) => return unread.answer(),
+    };
+    let avoided = Avoided::new(frame.marks.as_slice(), asked.plan.keeps_blank);
+    let new = NewBytes {
+        id: asked.id,
+        lnum: asked.lnum,
+        bytes: file.bytes.as_slice(),
+    };
+    let command = Writing::Change(new, &avoided, asked.plan.stop);
+    let from = Some(asked.from);
+    write_plan(disk, alloc, dump, opened, &asked.plan, from, &command)
+}
+
+/// Renames a volume of one file, and writes the result to another.
+pub fn rename_file<D: Disk + Eprint>(
+    disk: &mut D,
+    alloc: Global,
+    dump: &Dump<'_>,
+    asked: &Rename<'_>,
+) -> Result<Outcome, AllocError>
+    ensures answer { IfOk result (WithList (D.files disk.old) (D.files disk.new) dump.now.bad asked.now.plan.paths.image.now (OnGrid (D.files disk.old) (D.files disk.new) dump.now asked.now.plan.paths.image.now (OfFile (D.files disk.old) dump.now asked.now.plan.paths.image.now (λ s k agrees. WritesPlan asked.now.plan.paths.out.now asked.now.plan.pages (D.files disk.old) (D.files disk.new) (RenamesFrom (avoided dump.now asked.now.plan) asked.now.id asked.now.name.now asked.now.plan.stop s k agrees) (HasRename (avoided dump.now asked.now.plan) asked.now.id asked.now.name.now s k agrees))))) }
+    ensures stays { PlanStays (D.files disk.old) (D.files disk.new) asked.now.plan }
+    ensures image { IfOk result (KeepsImage (D.files disk.old) (D.files disk.new) asked.now.plan.paths.image.now) }
+    ensures part { KeepsPart (D.files disk.old) (D.files disk.new) dump.now asked.now.plan.paths.image.now }
+    ensures memory { OnErr result (AllStay (D.files disk.old) (D.files disk.new)) }
+{
+    let Paths { image, out } = asked.plan.paths;
+    if lacks_list(disk, dump, image) {
+        return Ok(nothing(alloc));
+    }
+    let frame = match frame_of(alloc, dump) {
+        Ok(frame) => frame,
+        Err(unread) => return unread.answer(),
+    };
+    if let Some(outcome) = off_grid(alloc, &frame)? {
+        return Ok(outcome);
+    }
+    let opened = match open_beside(disk, alloc, &frame, image, out) {
+        Ok(opened) => opened,
+        Err(unread) => return unread.answer(),
+    };
+    let avoided = Avoided::new(frame.marks.as_slice(), asked.plan.keeps_blank);
+    let word = asked.name.as_bytes();
+    let command = Writing::Rename(asked.id, word, &avoided, asked.plan.stop);
+    write_plan(disk, alloc, dump, opened, &asked.plan, None, &command)
+}
