@@ -20,6 +20,7 @@ each cause. The last line is 'N passed, M failed', and the exit status is 0 if n
 made again by its number.
 """
 import os
+import subprocess
 
 import config
 import rules
@@ -245,6 +246,15 @@ class Hostile(Runner):
     def build(self, config, line, status, written=None, out=None):
         self.expect(["build", self.put("config", config), "--out", out or self.out], line, status, written)
 
+    def unread(self, name, reason, out=None):
+        """An image file that isn't read: the answer names it, and standard error has the reason."""
+        path, out = os.path.join(self.folder, name), out or self.out
+        self.build(self.config % name.encode(), f"cannot read {path}\n", 1, out=out)
+        words = self.whole(["build", self.put("config", self.config % name.encode()), "--out", out])
+        error = subprocess.run([self.tool, *words], capture_output=True).stderr
+        if error != f"{path}: {reason}\n".encode():
+            raise Failure(f"{words} says {error}, and not that of {path} {reason}")
+
     def long_configs(self):
         records = {0: rules.Record(1, 1, 1, 0, b"a", 0)}
         image = rules.normal_image(Meaning(self.geometry, 0, records, {0: {0: b"content".ljust(384, b"\xFF")}}))
@@ -260,17 +270,21 @@ class Hostile(Runner):
         os.symlink(content, self.path("soft"))
         os.link(content, self.path("hard"))
         for name in ("content", "./content", "soft", "hard"):
-            self.build(self.config % b"content", f"cannot read {content}\n", 1, out=self.path(name))
-            self.build(self.config % name.encode(), f"cannot read {self.path(name)}\n", 1, out=content)
+            self.unread("content", "it may be the output", out=self.path(name))
+            self.unread(name, "it may be the output", out=content)
         with open(content, "rb") as file:
             if file.read() != b"content":
                 raise Failure("an image file that is also the output is lost")
 
     def images(self):
         os.mkfifo(self.path("pipe"))
-        for name in ("pipe", ".", "..", "no/such", "missing", "/dev/zero", "/dev/null", "/"):
-            path = name if name.startswith("/") else f"{self.folder}/{name}"
-            self.build(self.config % name.encode(), f"cannot read {path}\n", 1)
+        self.unread("pipe", "it can't be read at places, as a pipe can't")
+        for name in (".", "..", "/"):
+            self.unread(name, "it is a folder")
+        for name in ("no/such", "missing"):
+            self.unread(name, "No such file or directory (os error 2)")
+        for name in ("/dev/zero", "/dev/null"):
+            self.unread(name, "it is a device without a size")
 
     def unpack(self, image, folder, lines, status):
         self.expect(["unpack", image, "--out", folder], lines, status)

@@ -10,7 +10,7 @@ ghost use Rattle.ubi_reading.specs.List.{Lists};
 ghost use Rattle.ubi_reading.specs.Map.{Maps};
 ghost use Rattle.ubi_reading.specs.Show.{Shows};
 ghost use Rattle.ubi_reading.specs.declared.comparison.Comparison.TheVariants as comparison;
-ghost use Rattle.ubi_dumps.specs.declared.format.Format.TheVariants as format;
+ghost use Rattle.ubi_reading.specs.declared.format.Format.TheVariants as format;
 ghost use Rattle.ubi_calls.specs.Calls.{Fills, FillsBoth, Streams, Under, printed};
 ghost use Rattle.ubi_calls.specs.Contents.{Normal, ReadsContents};
 ghost use Rattle.ubi_calls.specs.Edits.{PlansChange, PlansRename, image_without, spared};

@@ -10,17 +10,16 @@ ghost use Rattle.ubi_reading.specs.List.{Lists};
 ghost use Rattle.ubi_reading.specs.Map.{Maps};
 ghost use Rattle.ubi_reading.specs.Show.{Shows};
 ghost use Rattle.ubi_reading.specs.declared.comparison.Comparison.TheVariants as comparison;
-ghost use Rattle.ubi_dumps.specs.declared.format.Format.TheVariants as format;
+ghost use Rattle.ubi_reading.specs.declared.format.Format.TheVariants as format;
 ghost use Rattle.ubi_calls.specs.Calls.{Fills, Under, printed};
 ghost use Rattle.ubi_calls.specs.inner.Asking.{answers};
 
 use crate::answer::{hand_outcome, limit_outcome};
 use crate::numbers::{DeviceSizes, geometry_of};
 use std::alloc::{AllocError, Global};
-use ubi_dumps::Format;
 use ubi_files::{Outcome, SidesError};
 use ubi_media::Geometry;
-use ubi_reading::{Comparison, run_check, run_geometry, run_list, run_map, run_show};
+use ubi_reading::{Comparison, Format, run_check, run_geometry, run_list, run_map, run_show};
 use ubi_scan::MemorySource;
 
 /// A question about images of one geometry.

@@ -2,7 +2,7 @@
 use Rattle.ubi_commands.proofs.Prelude.{Accepts, Accepts-unique, Answer, ComesTo, Composes, ComposesOf, Gives, Image, List, Lists, MeaningCause, Meant, Ok, Outcome, Sizes, Some, SpecCause, ap, arith, fits, image_of, list_lines, meaning_line, never_accepted_and_refused, one_first, option_map, same_Some, says, spec_line, subst, sym, volumes_of, ℕ, ◌∙◌, ◌≡◌, accepted}
 use Rattle.ubi_writing.specs.Compose.{crowded, described, unmade, unread}
 use Rattle.ubi_reading.specs.List.{refused}
-use Rattle.ubi_dumps.specs.declared.format.Format.TheVariants as way
+use Rattle.ubi_reading.specs.declared.format.Format.TheVariants as way
 
 same_sizes : (s z : Sizes) (bytes : List ℕ) → s ≡ z → ◌≡◌ {A = Image} (image_of s bytes) (image_of z bytes)
 same_sizes s z bytes e = ap (λ (t : Sizes). record { sizes = t; bytes = bytes }) e

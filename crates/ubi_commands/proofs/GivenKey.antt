@@ -1,7 +1,7 @@
 -- What the words of a request say: the volume that they name, what they list as bad, and what they keep.
 use Rattle.ubi_commands.proofs.Prelude.{◌≡◌, ◌∙◌, ◌&&◌, ◌||◌, Bool, List, Some, ap, ap₂, false, not, refl, subst, sym, true, true≢false, ℕ, Bor, ForSome, same_Some, find, is_some, option_and_then, option_map, slice_get, bytes_eq, without_leading_plus, Row, Text, first_of, one_of, is_block_list, Asks, AsksAsked, AsksBlank, AsksDump, AsksKey, AsksPlan, HasNumber, HasText, IsRequest, MayHaveText, command_name, gives_word, gives_no_geometry, HasOneVolume, Mean, finds, gives_bytes, gives_part, gives_sizes, plans, reads_dump, takes_geometry, takes_part, Asked, Dump, Plan, Request, VolumeKey, reading_command, inl, inr, ◌⊎◌, AsksFormat, format_word, formats, Format, comparing_command, comparison_format, None, most_number, Option}
 use Rattle.std.proofs.Common.{codes, unwrap_or}
-use Rattle.ubi_dumps.specs.declared.format.Format.TheVariants as told
+use Rattle.ubi_reading.specs.declared.format.Format.TheVariants as told
 use Rattle.ubi_reading.specs.declared.comparison.Comparison.TheVariants as comparison
 use Rattle.ubi_dumps.specs.declared.asked.Asked.TheVariants as way
 use Rattle.ubi_reading.specs.declared.readers.Reading.TheVariants as reading

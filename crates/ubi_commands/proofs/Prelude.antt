@@ -74,7 +74,7 @@ pub use Rattle.ubi_compose.proofs.Normal.{fine_normal}
 pub use Rattle.ubi_compose.proofs.NormalForm.{normalising}
 pub use Rattle.ubi_compose.proofs.PartsAgain.{parts_build_again, read_fits, read_some}
 pub use Rattle.ubi_compose.specs.Building.{image_built}
-pub use Rattle.ubi_compose.specs.Built.{Parts, Reaches, text_of}
+pub use Rattle.ubi_compose.specs.Built.{Parts}
 pub use Rattle.ubi_compose.specs.BuiltAgain.{AreItsParts}
 pub use Rattle.ubi_compose.specs.BuiltLaws.{text_read}
 pub use Rattle.ubi_compose.specs.Composed.{composed, spare}
@@ -82,7 +82,6 @@ pub use Rattle.ubi_compose.specs.Normal.{IsNormalised, laid_bytes, layout_block,
 unfoldable pub use Rattle.ubi_compose.specs.Normal.{normal_bytes}
 pub use Rattle.ubi_compose.specs.Spec.{volumes_of}
 pub use Rattle.ubi_compose.specs.TextLaws.{ComesTo}
-pub use Rattle.ubi_compose.specs.declared.built_image.Part.{Part}
 pub use Rattle.ubi_compose.specs.declared.errors.SpecCause.{SpecCause}
 pub use Rattle.ubi_config.proofs.CanSay.{is_said, reserved_some}
 pub use Rattle.ubi_config.proofs.GivenRecord.{section_gives_record}
@@ -111,12 +110,10 @@ pub use Rattle.ubi_detect.specs.declared.groups.Group.{Group}
 pub use Rattle.ubi_detect.specs.declared.heads.Key.{Key}
 pub use Rattle.ubi_dumps.proofs.Outcomes.{not_both}
 pub use Rattle.ubi_dumps.specs.Asked.{IsDump, OfAsked, TellFirst, told_dump}
-pub use Rattle.ubi_dumps.specs.Formats.{format_word}
-pub use Rattle.ubi_dumps.specs.InFormat.{OfAskedIn, OfRead}
+pub use Rattle.ubi_dumps.specs.Read.{OfRead}
 pub use Rattle.ubi_dumps.specs.declared.asked.Asked.{Asked}
 pub use Rattle.ubi_dumps.specs.declared.asked.Paths.{Paths}
 pub use Rattle.ubi_dumps.specs.declared.asked.Sought.{Sought}
-pub use Rattle.ubi_dumps.specs.declared.format.Format.{Format}
 pub use Rattle.ubi_files.proofs.FileRows.{sum_cons}
 pub use Rattle.ubi_files.specs.Answer.{Answer, Gives, says}
 pub use Rattle.ubi_files.specs.BadBlocks.{is_block_list}
@@ -130,6 +127,8 @@ pub use Rattle.ubi_json.specs.Line.{json_line}
 pub use Rattle.ubi_json.specs.Told.{error_data}
 pub use Rattle.ubi_laid.proofs.Lists.{all_from}
 pub use Rattle.ubi_laid.specs.Laid.{CanBeLaid, Laid}
+pub use Rattle.ubi_laid.specs.Parts.{Reaches, text_of}
+pub use Rattle.ubi_laid.specs.declared.part.Part.{Part}
 pub use Rattle.ubi_media.proofs.Cases.{below_same_or_above}
 pub use Rattle.ubi_media.proofs.EmptyRecord.{length-empty_record}
 pub use Rattle.ubi_media.proofs.KeptLimits.{kept_limits}
@@ -148,9 +147,12 @@ pub use Rattle.ubi_media.specs.Vid.{vid_bytes, vid_magic}
 unfoldable pub use Rattle.ubi_media.specs.Vid.{fields_from}
 pub use Rattle.ubi_media.specs.declared.record.VolumeRecord.{VolumeRecord}
 pub use Rattle.ubi_reading.specs.Comparisons.{comparison_format}
+pub use Rattle.ubi_reading.specs.Formats.{format_word}
+pub use Rattle.ubi_reading.specs.InFormat.{OfAskedIn}
 pub use Rattle.ubi_reading.specs.List.{Lists, accepted, list_lines}
 pub use Rattle.ubi_reading.specs.Map.{MapsOf, PicturesInto, PicturesOf}
 pub use Rattle.ubi_reading.specs.Reads.{format_of, reads}
+pub use Rattle.ubi_reading.specs.declared.format.Format.{Format}
 pub use Rattle.ubi_scan.proofs.Chunks.{first_chunks-concat, get_or-first_chunks}
 pub use Rattle.ubi_scan.proofs.FilledWithBlanks.{filled-by, filled-is, length-filled}
 pub use Rattle.ubi_scan.proofs.Finite.{rising_at}

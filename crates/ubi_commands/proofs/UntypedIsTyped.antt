@@ -2,11 +2,11 @@
 use Rattle.ubi_commands.proofs.Prelude.{inl, inr, ℕ, List, Some, Sizes, Agreed, Source, Files, Gives, Outcome, says, Detected, Dump, json_line, error_data, OfAskedIn, OfRead, MapsOf, PicturesInto, PicturesOf, IsDump, OfAsked, TellFirst, told_dump, format_of, reads, FindsNothing, UntypedIsTyped, Asked, Sought, Format}
 use Rattle.std.specs.Prelude.{None}
 use Rattle.std.specs.Prelude.{◌⊎◌}
-use Rattle.ubi_dumps.specs.InFormat as in_format
+use Rattle.ubi_reading.specs.InFormat as in_format
 use Rattle.ubi_reading.specs.Map as map
 use Rattle.ubi_dumps.specs.Asked as program
 use Rattle.ubi_dumps.specs.declared.asked.Asked.TheVariants as asked
-use Rattle.ubi_dumps.specs.declared.format.Format.TheVariants as format
+use Rattle.ubi_reading.specs.declared.format.Format.TheVariants as format
 use Rattle.ubi_commands.specs.declared.requests.Request.TheVariants as request
 
 module _ (d : Files) (path : List ℕ) (sought : Sought) where

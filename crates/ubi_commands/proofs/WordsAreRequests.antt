@@ -1,7 +1,7 @@
 -- Words that the command line takes are a request.
 use Rattle.ubi_commands.proofs.Prelude.{◌≡◌, ◌∙◌, ◌&&◌, ◌||◌, ◌∷◌, [], Bool, List, Some, ap, cond, false, not, refl, sym, subst, true, true≢false, ℕ, Bor, then_some, ForSome, is_some, option_map, unwrap_or, find, list_all, list_any, bytes_eq, same_Some, bytes_eq-Decides, fault_of, level_fault, Shape, argument_words, label_of, subcommand_of, Row, Text, answers_to, first_of, nothing_held, rows_after, both, is_block_list, Asks, AsksAsked, AsksBlank, AsksDump, AsksNewImage, AsksNumbers, AsksPart, AsksPaths, AsksPlan, IsRequest, HasNumber, HasText, MayHaveNumber, MayHaveText, command_name, gives_word, gives_bytes, gives_no_geometry, most_bytes, takes_geometry, takes_part, Mean, Takes, finds, plans, reads_dump, tool, Asked, Change, Dump, Extract, NewImage, Paths, Plan, Rename, Request, Sought, Numbers, FilePart, inl, inr, ◌⊎◌, AsksFormat, format_word, formats, Format, None, most_number, Option}
 use Rattle.std.proofs.Common.{codes}
-use Rattle.ubi_dumps.specs.declared.format.Format.TheVariants as told
+use Rattle.ubi_reading.specs.declared.format.Format.TheVariants as told
 use Rattle.clap.specs.Simple.{built}
 use Rattle.ubi_dumps.specs.declared.asked.Asked.TheVariants as way
 use Rattle.ubi_reading.specs.declared.readers.Reading.TheVariants as reading

@@ -18,7 +18,7 @@ use Rattle.ubi_writing.specs.Normalise.{HasMeaning, NormalisesOf}
 use Rattle.ubi_dumps.specs.Asked.{OfAsked}
 use Rattle.ubi_writing.specs.Outputs.{KeepsImage, KeepsPart, OfText, OnGrid, PlanStays, WithList, WritesInto, WritesPlan, avoided}
 use Rattle.ubi_files.specs.OverFile.{OfFile, OfImage}
-use Rattle.ubi_dumps.specs.InFormat.{OfAskedIn, OfBothIn, OfFileIn}
+use Rattle.ubi_reading.specs.InFormat.{OfAskedIn, OfBothIn, OfFileIn}
 use Rattle.ubi_reading.specs.Reads.{format_of, reads}
 use Rattle.ubi_writing.specs.Rename.{HasRename, RenamesFrom}
 use Rattle.ubi_commands.specs.Tool.{Mean, answer_format, command as takes, image_part, needed, number, on_image, option, output, plan_options, volume}

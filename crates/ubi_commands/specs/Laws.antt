@@ -8,7 +8,7 @@ use Rattle.ubi_files.specs.Answer.{Answer, Gives, says}
 use Rattle.ubi_writing.specs.Compose.{Composes}
 use Rattle.ubi_reading.specs.List.{Lists, list_lines}
 use Rattle.ubi_files.specs.declared.outcome.Outcome.{Outcome}
-use Rattle.ubi_dumps.specs.declared.format.Format.TheVariants as format
+use Rattle.ubi_reading.specs.declared.format.Format.TheVariants as format
 
 -- what composing answers is a function of the text, the number of spares and the image sequence number: each run gives
 -- the same

@@ -12,8 +12,9 @@ ghost use Rattle.ubi_commands.specs.inner.CommandLine.{words_in};
 
 use crate::byte_numbers::bytes_within;
 use clap::ArgMatches;
-use ubi_dumps::{Asked, Format, Paths, Sought};
+use ubi_dumps::{Asked, Paths, Sought};
 use ubi_files::{Dump, FilePart, Numbers, is_block_list};
+use ubi_reading::Format;
 use ubi_writing::{Change, Extract, NewImage, Plan, Rename, VolumeKey};
 
 /// The last place in a file that an option can give, which has 63 bits.

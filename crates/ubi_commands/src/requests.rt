@@ -14,9 +14,9 @@ use crate::given::{
 };
 use clap::ArgMatches;
 use std::alloc::{AllocError, Global};
-use ubi_dumps::{Asked, Format, KnownDump, Paths};
+use ubi_dumps::{Asked, KnownDump, Paths};
 use ubi_files::{Disk, Dump, FilePart, Numbers, Outcome};
-use ubi_reading::{Comparison, Reading, compare_files, map_file, read_dump, read_file};
+use ubi_reading::{Comparison, Format, Reading, compare_files, map_file, read_dump, read_file};
 use ubi_writing::{
     Change, Extract, NewImage, Rename, Writing, build_file, change_file, compose_file, rename_file,
     unpack_file, write_file,

@@ -18,12 +18,9 @@ pub use Rattle.ubi_media.specs.Fields.{blank, same_bytes}
 pub use Rattle.ubi_media.specs.Geometry.{IsGeometry, Sizes, leb_size, slots}
 pub use Rattle.ubi_media.specs.Record.{rec_fault, usable}
 pub use Rattle.ubi_media.specs.declared.record.VolumeRecord.{VolumeRecord}
-pub use Rattle.ubi_media.specs.declared.refusal.Refusal.{Refusal}
 pub use Rattle.ubi_media.specs.declared.vid.VolKind.{VolKind}
-pub use Rattle.ubi_scan.specs.Image.{IsLengthFault, IsWholeSize, image_of}
-pub use Rattle.ubi_scan.specs.Source.{Agreed, IsSource, Narrows, Source, WhereHeld, blocks_in, blocks_of}
-pub use Rattle.ubi_scan.specs.Stream.{IsReadFault}
-pub use Rattle.ubi_scan.specs.declared.errors.StreamError.{StreamError}
+pub use Rattle.ubi_scan.specs.Image.{IsWholeSize, image_of}
+pub use Rattle.ubi_scan.specs.Source.{Agreed, Narrows, Source, WhereHeld, blocks_in, blocks_of}
 pub use Rattle.ubi_table.specs.Records.{Records}
 pub use Rattle.ubi_volume.proofs.Blanks.{leb_long}
 pub use Rattle.ubi_volume.proofs.CaseSizes.{size_more, size_none}
@@ -33,11 +30,12 @@ pub use Rattle.ubi_volume.proofs.OfSurvey.{entry_of, has_entry, no_volume, place
 pub use Rattle.ubi_volume.proofs.OfTexts.{piece_text, text_case}
 pub use Rattle.ubi_volume.proofs.OneMeaning.{kept_alike, outside}
 pub use Rattle.ubi_volume.proofs.Pieces.{pieces_few, share_more, shares_all}
+pub use Rattle.ubi_volume.proofs.Unattached.{read_refused}
 pub use Rattle.ubi_volume.proofs.VolumeAt.{content_has, reads_of}
-pub use Rattle.ubi_volume.specs.Accepts.{Accepts, Refuses}
+pub use Rattle.ubi_volume.specs.Accepts.{Accepts}
 pub use Rattle.ubi_volume.specs.Extract.{extent_of, leb_bytes, share_len}
 pub use Rattle.ubi_volume.specs.Meant.{Fits, IsMeaning, IsVolume, KeepsNoBlank, Meant, pieces, share}
-pub use Rattle.ubi_volume.specs.Places.{ArePlacesError, case_of}
+pub use Rattle.ubi_volume.specs.Places.{case_of}
 pub use Rattle.ubi_volume.specs.Reading.{leb_read, leb_text}
 pub use Rattle.ubi_volume.specs.Survey.{IsSurvey, IsSurveyOf, Seen}
 pub use Rattle.ubi_volume.specs.Texts.{PieceIs, SizeIsRead}

@@ -1,22 +1,6 @@
--- Why a source isn't attached, and why two aren't compared.
-use Rattle.ubi_compare.proofs.Prelude.{ℕ, List, inl, inr, subst, sym, Sizes, Refusal, IsLengthFault, IsWholeSize, image_of, Agreed, IsSource, Source, WhereHeld, blocks_in, IsReadFault, StreamError, Accepts, Refuses, Meant, ArePlacesError, IsCompareFault, CompareFault, IsSidesError}
-use Rattle.ubi_scan.specs.declared.errors.StreamError.TheVariants as stream
+-- Why two sources aren't compared.
+use Rattle.ubi_compare.proofs.Prelude.{Sizes, IsWholeSize, image_of, Agreed, Source, WhereHeld, blocks_in, Accepts, Meant, IsCompareFault, CompareFault, IsSidesError, read_refused}
 use Rattle.ubi_compare.specs.declared.errors.CompareFault.TheVariants as fault
-
--- a cause for which a source isn't attached is one for which its bytes are refused
-pub refuses : (s : Sizes) (k : Source) (agrees : Agreed) (bytes : List ℕ) (c : Refusal) → IsSource k agrees → agrees bytes
-    → ArePlacesError s k agrees (stream.Refused c) → Refuses (image_of s bytes) c
-refuses s k agrees bytes c is holds (inl fault) =
-    inl (subst (λ (n : ℕ). IsLengthFault s n c) (sym (is.sized bytes holds)) fault)
-refuses s k agrees bytes c is holds (inr h) = inr (subst (IsWholeSize s) (sym (is.sized bytes holds)) h.0, h.1 bytes holds)
-
--- a read of a source of whole eraseblocks that fails is one that fails while attaching
-read_refused : (s : Sizes) (k : Source) (agrees : Agreed) (e : StreamError) → IsWholeSize s k.size
-    → IsReadFault (blocks_in s k) e → ArePlacesError s k agrees e
-read_refused s k agrees (stream.Refused c) whole h = absurd h
-read_refused s k agrees (stream.Read p n) whole h = (whole, h)
-read_refused s k agrees (stream.Write n) whole h = h
-read_refused s k agrees stream.Memory whole h = tt
 
 -- what keeps two sources from being compared once both are attached
 pub sides_refused : (s : Sizes) (k : Source) (left : Agreed) (l : Source) (right : Agreed) (e : CompareFault)

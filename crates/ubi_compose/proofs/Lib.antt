@@ -19,6 +19,7 @@ pub mod Headers
 pub mod Headings
 pub mod Hexadecimal
 pub mod Image
+pub mod LaidOfRead
 pub mod LaidPieces
 pub mod LesserPage
 pub mod LineForms
@@ -32,7 +33,6 @@ pub mod NormalVectors
 pub mod PartsAgain
 pub mod PiecesOfParts
 pub mod Puts
-pub mod ReadBytes
 pub mod ReadSoFar
 pub mod Received
 pub mod Room

@@ -1,5 +1,5 @@
 -- The pieces of a part: what is written of each is the eraseblock of a LEB of its volume.
-use Rattle.ubi_compose.proofs.Prelude.{◌≡◌, ℕ, ◌+◌, ◌-◌, ◌*◌, ◌<◌, ◌≤◌, ◌==◌, ◌&&◌, Bool, true, false, cond, zero, suc, List, [], ◌++◌, length, slice_range, take, drop, refl, ap, sym, ◌∙◌, arith, inl, inr, append_assoc, length-append, length-blank, None, min, div_ceil, div_ceil_times, mul-le, drop-drop, drop-take, length-take, take-take, take_all, list_all-append, blank, filled, is_blank, IsGeometry, leb_size, crc_of, Sizes, data_pad, usable, plain, ec_bytes, vid_bytes, VidHeader, rec_fault, piece_begins, usable_some, within_or_past, filled-is, length-share, pieces, share, share_most, pieces_few, pieces_suffice, share_len, Parts, text_of, dynamic_block, laid_bytes, new_ec, piece_header, static_part, Part, Device, piece_of_kind, piece_bytes, replicate-append-replicate}
+use Rattle.ubi_compose.proofs.Prelude.{◌≡◌, ℕ, ◌+◌, ◌-◌, ◌*◌, ◌<◌, ◌≤◌, ◌==◌, ◌&&◌, Bool, true, false, cond, zero, suc, List, [], ◌++◌, length, slice_range, take, drop, refl, ap, sym, ◌∙◌, arith, inl, inr, append_assoc, length-append, length-blank, None, min, drop-drop, drop-take, length-take, take-take, take_all, list_all-append, blank, filled, is_blank, IsGeometry, leb_size, crc_of, Sizes, data_pad, usable, plain, ec_bytes, vid_bytes, VidHeader, rec_fault, piece_begins, usable_some, within_or_past, filled-is, length-share, pieces, share, share_most, share_len, Parts, text_of, dynamic_block, laid_bytes, new_ec, piece_header, static_part, Part, Device, piece_of_kind, piece_bytes, replicate-append-replicate}
 use Rattle.ubi_media.specs.declared.vid.VolKind.TheVariants as kind
 use Rattle.ubi_scan.proofs.Parts as parts
 use Rattle.ubi_compose.proofs.BuiltContents.{text_size}
@@ -114,20 +114,3 @@ module _ (ps : Parts) (g : IsGeometry ps.sizes) (p : Part) (sound : rec_fault ps
       ∙ ap (λ b. cond b [] (laid part)) (sym (blank_filled size part))
       ∙ ap (λ x. cond (is_blank (filled size part)) [] x)
       (sym (laid_filled ps.sizes g ps.image_seq h size part most (omega arith)))
-
--- the pieces of a length are its quotient, rounded up
-pub div_ceil-pieces : (n size : ℕ) → 1 ≤ size → div_ceil n size ≡ pieces size n
-div_ceil-pieces n size some =
-    let up : ℕ = div_ceil n size in
-    let bounds = div_ceil_times n size some in
-    let low = bounds.0 in
-    let high = bounds.1 in
-    let few = pieces_few size some n up low in
-    let all = pieces_suffice size some n in
-    let most : up ≤ pieces size n = elim (within_or_past up (pieces size n)) [
-      | inl few ↦ few
-      | inr more ↦ absurd (let m = mul-le (pieces size n + 1) size up size (omega arith) (omega arith) in
-          let next : (pieces size n + 1) * size ≡ pieces size n * size + size = omega arith in
-          omega (arith, m, next, all, high))
-    ] in
-    omega (arith, few, most)

@@ -3,11 +3,11 @@ pub use Rattle.std.proofs.Common.{Bool, Bor, Less, List, [], add-zero, ap, appen
 pub use Rattle.std.proofs.KnownBytes.{Appends-nil}
 pub use Rattle.std.proofs.Math.Nat.{mul-add-mod_self_right, mul-div_cancel}
 pub use Rattle.std.proofs.Math.Path.{ap₂}
-pub use Rattle.std.proofs.Math.Seq.{drop-append-add, drop-append_seam, take-append-add, take-append_seam}
+pub use Rattle.std.proofs.Math.Seq.{drop-append-add, take-append-add}
 pub use Rattle.std.proofs.lemmas.Bool.{and_parts, cases_eq, cases_order, eqb-true}
 pub use Rattle.std.proofs.lemmas.Bool.Decides.{nat_tests}
 pub use Rattle.std.proofs.lemmas.Cmp.{ranked}
-pub use Rattle.std.proofs.lemmas.Grind.{common_steps, div_ceil_times, flat_map-append}
+pub use Rattle.std.proofs.lemmas.Grind.{common_steps, flat_map-append}
 pub use Rattle.std.proofs.lemmas.Iterator.{YieldsList-from_take}
 pub use Rattle.std.proofs.lemmas.Iterator.Consumers.{YieldsList-end, YieldsList-turn}
 pub use Rattle.std.proofs.lemmas.Iterator.Search.{any_from_yields_List}
@@ -30,7 +30,7 @@ pub use Rattle.std.specs.Cmp.{nat_cmp_total}
 pub use Rattle.std.specs.FinMap.{FinMap, from_entries, from_entries_push, nat_cmp-IsAntisymmetric, put}
 pub use Rattle.std.specs.FinMap.Entries.{by_order}
 unfoldable pub use Rattle.std.specs.Fmt.{digits}
-pub use Rattle.std.specs.Int.{div_ceil, ◌∣◌}
+pub use Rattle.std.specs.Int.{◌∣◌}
 pub use Rattle.std.specs.Io.KnownBytes.{Appends}
 pub use Rattle.std.specs.Iterator.Adapters.{take_source}
 pub use Rattle.std.specs.List.{AllByRecursion, concat, enumerate_from, list_all, list_any, position_from, range_with_len, repeat, slice_split}
@@ -48,9 +48,15 @@ pub use Rattle.ubi_laid.proofs.AllVolumes.{apart_blocks, fine_blocks, its_volume
 pub use Rattle.ubi_laid.proofs.Contents.{laid_read}
 pub use Rattle.ubi_laid.proofs.DistinctLebs.{one_place}
 pub use Rattle.ubi_laid.proofs.Lists.{Holds, all_at, all_from, held_entry, slice_get_left}
+pub use Rattle.ubi_laid.proofs.ReadBytes.{text_held, text_is}
 pub use Rattle.ubi_laid.proofs.Rising.{Rises, entries_rise}
 pub use Rattle.ubi_laid.specs.Laid.{AreApart, CanBeLaid, Differ, Laid, damaged_block, dynamic_block, laid_blocks, piece_header, static_block, static_blocks, static_part, volume_blocks}
 pub use Rattle.ubi_laid.specs.LaidIn.{AreLaidIn, IsLaidAt}
+pub use Rattle.ubi_laid.specs.Parts.{Reaches, content_of, is_long_part, item_of, items_of, lebs_of, pieces_of, text_of}
+pub use Rattle.ubi_laid.specs.Pieces.{IsInBuffer, IsReadOf, IsReadable, LiesIn, built_piece, checked_header, given_check, is_left_out, part_header, piece_of_kind}
+pub use Rattle.ubi_laid.specs.declared.part.Part.{Part}
+pub use Rattle.ubi_laid.specs.declared.pieces.Origin.{Origin}
+pub use Rattle.ubi_laid.specs.declared.pieces.Piece.{Piece}
 pub use Rattle.ubi_media.proofs.Cases.{within_or_past}
 pub use Rattle.ubi_media.proofs.First.{found_passes}
 pub use Rattle.ubi_media.proofs.Headers.{ec_read_back, fields_fit, vid_read_back}
@@ -77,7 +83,7 @@ pub use Rattle.ubi_media.specs.declared.record.VolumeRecord.{VolumeRecord}
 pub use Rattle.ubi_media.specs.declared.refusal.Refusal.{Refusal}
 pub use Rattle.ubi_media.specs.declared.vid.VidHeader.{VidHeader}
 pub use Rattle.ubi_media.specs.declared.vid.VolKind.{VolKind}
-pub use Rattle.ubi_scan.proofs.Chunks.{first_chunks-concat, get_or-first_chunks, length-concat}
+pub use Rattle.ubi_scan.proofs.Chunks.{first_chunks-concat, length-concat}
 pub use Rattle.ubi_scan.proofs.Clean.{none_from_clean}
 pub use Rattle.ubi_scan.proofs.Decided.{Wins-unique}
 pub use Rattle.ubi_scan.proofs.Entries.{first_entry, sorted_entries}
@@ -132,7 +138,7 @@ pub use Rattle.ubi_volume.specs.declared.errors.MeaningCause.{MeaningCause}
 pub use Rattle.ubi_volume.specs.declared.places.PlaceContent.{PlaceContent}
 unfoldable pub use Rattle.ubi_words.specs.Words.{is_number, number_within}
 pub use Rattle.ubi_compose.specs.Building.{CanBuild, those}
-pub use Rattle.ubi_compose.specs.Built.{HaveMeaning, Parts, Reaches, built, content_of, item_of, items_of, lebs_of, most_blocks, pieces_of, text_of}
+pub use Rattle.ubi_compose.specs.Built.{HaveMeaning, Parts, built, most_blocks}
 pub use Rattle.ubi_compose.specs.BuiltAgain.{AreItsParts, AreVolumesOf, BuiltAgain, PartsBuildAgain}
 pub use Rattle.ubi_compose.specs.BuiltLaws.{text_read}
 pub use Rattle.ubi_compose.specs.Composed.{HasRoom, composed, spare}
@@ -149,16 +155,13 @@ pub use Rattle.ubi_compose.specs.Streamed.{HasGot, IsNormaliseToError, IsNormali
 pub use Rattle.ubi_compose.specs.TextLaws.{ComesTo}
 pub use Rattle.ubi_compose.specs.Words.{escaped, escaped_byte, is_escape, only_byte, some_name}
 unfoldable pub use Rattle.ubi_compose.specs.Words.{flags_of, hex_of, kind_named, shown_bytes, shown_name}
-pub use Rattle.ubi_compose.specs.declared.built_image.Part.{Part}
 pub use Rattle.ubi_compose.specs.declared.errors.LineError.{LineError}
 pub use Rattle.ubi_compose.specs.declared.errors.PutError.{PutError}
 pub use Rattle.ubi_compose.specs.declared.errors.SpecCause.{SpecCause}
 pub use Rattle.ubi_compose.specs.declared.line.Form.{Form}
 pub use Rattle.ubi_compose.specs.declared.line.Line.{Line}
-pub use Rattle.ubi_compose.specs.declared.pieces.Device.{Device}
-pub use Rattle.ubi_compose.specs.declared.pieces.Origin.{Origin}
-pub use Rattle.ubi_compose.specs.declared.pieces.Piece.{Piece}
-pub use Rattle.ubi_compose.specs.inner.Building.{HasParts, built_piece, built_pieces, empty_of, is_long_part, part_at, part_header, piece_of_kind, stand_in, stand_in_item, table_of}
+pub use Rattle.ubi_compose.specs.declared.sourced.Device.{Device}
+pub use Rattle.ubi_compose.specs.inner.Building.{HasParts, built_pieces, empty_of, part_at, stand_in, stand_in_item, table_of}
 pub use Rattle.ubi_compose.specs.inner.Drafts.{AreDrafts, AreFaultless, IsRefusedLine, changed, changed_at, error_at, opened, place_of, read, taken, with_line}
-pub use Rattle.ubi_compose.specs.inner.Pieces.{HasPut, IsFirstFrom, IsInBuffer, IsNext, IsReadIn, IsReadOf, IsReadable, LiesIn, NoRead, Pieces, checked_header, first_lebs, first_volumes, given_check, image_bytes, is_left_out, known_put, leb_written, piece_bytes, piece_text, spares_bytes, table_block, tables_bytes, volume_bytes}
+pub use Rattle.ubi_compose.specs.inner.Pieces.{HasPut, IsFirstFrom, IsNext, IsReadIn, NoRead, Pieces, first_lebs, first_volumes, image_bytes, known_put, leb_written, piece_bytes, spares_bytes, table_block, tables_bytes, volume_bytes}
 pub use Rattle.ubi_compose.specs.inner.Stored.{dynamic_piece, static_piece, stored_count, stored_piece, stored_pieces}

@@ -3,7 +3,7 @@ use Rattle.ubi_compose.proofs.Prelude.{◌≡◌, ◌⊎◌, inl, inr, ℕ, ◌*
 use Rattle.std.specs.FinMap as finite
 use Rattle.ubi_media.specs.declared.vid.VolKind.TheVariants as kind
 use Rattle.ubi_volume.specs.declared.places.PlaceContent.TheVariants as place
-use Rattle.ubi_compose.specs.declared.pieces.Origin.TheVariants as origin
+use Rattle.ubi_laid.specs.declared.pieces.Origin.TheVariants as origin
 
 module _ (p : Placed) (id : ℕ) (r : VolumeRecord) (recorded : finite.get p.records.of id ≡ Some r) (c : PlaceContent)
     (listed : finite.get p.contents id ≡ Some c) where

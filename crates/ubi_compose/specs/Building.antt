@@ -3,8 +3,9 @@ use Rattle.std.specs.Prelude.{◌≡◌, ℕ, ◌+◌, ◌<◌, ◌≤◌, List,
 use Rattle.ubi_scan.specs.Source.{Agreed, Source, failed}
 use Rattle.ubi_volume.specs.Wrote.{First, NotAll, Wanted, Wrote}
 use Rattle.ubi_compose.specs.Composed.{composed}
-use Rattle.ubi_compose.specs.Built.{Parts, Reaches, built, most_blocks}
-use Rattle.ubi_compose.specs.declared.built_image.Part.{Part}
+use Rattle.ubi_compose.specs.Built.{Parts, built, most_blocks}
+use Rattle.ubi_laid.specs.Parts.{Reaches}
+use Rattle.ubi_laid.specs.declared.part.Part.{Part}
 use Rattle.ubi_compose.specs.declared.errors.BuildError.{BuildError}
 use Rattle.ubi_compose.specs.declared.errors.BuildError.TheVariants as build
 

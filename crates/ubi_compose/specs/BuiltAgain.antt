@@ -7,8 +7,9 @@ use Rattle.ubi_volume.specs.Accepts.{Accepts}
 use Rattle.ubi_volume.specs.Meant.{Meant, records_of}
 use Rattle.ubi_volume.specs.Reading.{read_volume}
 use Rattle.ubi_volume.specs.declared.content.Volume.{Volume}
-use Rattle.ubi_compose.specs.Built.{HaveMeaning, Parts, Reaches, built, most_blocks, text_of}
-use Rattle.ubi_compose.specs.declared.built_image.Part.{Part}
+use Rattle.ubi_compose.specs.Built.{HaveMeaning, Parts, built, most_blocks}
+use Rattle.ubi_laid.specs.Parts.{Reaches, text_of}
+use Rattle.ubi_laid.specs.declared.part.Part.{Part}
 
 -- parts are the volumes of a meaning: each volume has a part, and each part has the record of a volume and the bytes that it reads
 pub record AreVolumesOf (m : Meant) (ps : Parts) (bytes : List ℕ) : Type 0 where

@@ -7,9 +7,10 @@ use Rattle.ubi_media.specs.declared.vid.VolKind.TheVariants as kind
 use Rattle.ubi_scan.specs.Image.{image_of}
 use Rattle.ubi_volume.specs.Accepts.{Accepts}
 use Rattle.ubi_volume.specs.Reading.{read_volume}
-use Rattle.ubi_compose.specs.Built.{HaveMeaning, Parts, Reaches, built, most_blocks, text_of}
+use Rattle.ubi_compose.specs.Built.{HaveMeaning, Parts, built, most_blocks}
+use Rattle.ubi_laid.specs.Parts.{Reaches, text_of}
 use Rattle.ubi_compose.specs.Composed.{composed}
-use Rattle.ubi_compose.specs.declared.built_image.Part.{Part}
+use Rattle.ubi_laid.specs.declared.part.Part.{Part}
 
 -- what a volume of a number of bytes reads after some were written to it: a static one these, and a dynamic one these and 0xFF after them
 abbrev pub text_read : VolKind → ℕ → List ℕ → List ℕ

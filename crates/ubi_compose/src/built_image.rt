@@ -1,27 +1,28 @@
 //! The normal image of volumes whose bytes lie in a source, into a writer.
 
 ghost use Rattle.std.specs.Option.{ForSome};
-ghost use Rattle.std.specs.Prelude.{◌≡◌, ◌≢◌, ◌+◌, ◌<◌, ◌≤◌, ◌↔◌, ◌==◌, Err, IfErr, IfOk, MatchOption, None, OnOk, find, map, option_copied};
+ghost use Rattle.std.specs.Prelude.{◌≡◌, ◌≢◌, ◌+◌, ◌<◌, ◌≤◌, ◌==◌, Err, IfErr, IfOk, MatchOption, None, OnOk, find, map, option_copied};
 ghost use Rattle.ubi_compose.specs.Building.{CanBuild, IsBuildError, IsNumberedPart, IsRefusedBuild, NamesVolume, WhereNotBegun, image_built, known_after};
-ghost use Rattle.ubi_compose.specs.Built.{HaveMeaning, IsRecipeError, Reaches, built, most_blocks, pieces_of};
+ghost use Rattle.ubi_compose.specs.Built.{HaveMeaning, IsRecipeError, built, most_blocks};
 ghost use Rattle.ubi_compose.specs.Composed.{composed};
-ghost use Rattle.ubi_compose.specs.inner.Building.{built_pieces, empty_of, is_long_part, part_at, stand_in_item};
-ghost use Rattle.ubi_compose.specs.inner.Pieces.{HasPut, IsReadIn, image_bytes, known_put};
-ghost use Rattle.ubi_media.specs.Geometry.{IsGeometry, leb_size};
+ghost use Rattle.ubi_compose.specs.inner.Building.{HasParts, built_pieces, empty_of, part_at, stand_in_item};
+ghost use Rattle.ubi_laid.specs.Parts.{Reaches, is_long_part};
+ghost use Rattle.ubi_media.specs.Geometry.{IsGeometry};
 ghost use Rattle.ubi_media.specs.Record.{rec_fault};
 ghost use Rattle.ubi_scan.specs.Image.{image_of};
-ghost use Rattle.ubi_scan.specs.Source.{Narrows, Source, WhereHeld};
+ghost use Rattle.ubi_scan.specs.Source.{Narrows, WhereHeld};
 ghost use Rattle.ubi_volume.specs.Accepts.{Accepts};
 ghost use Rattle.ubi_volume.specs.Wrote.{All, Wrote};
 
 use crate::errors::{BuildError, PutError, RecipeError};
-use crate::pieces::{Device, piece_count};
 use crate::records::recipe_text;
+use crate::sourced::{Contents, Device};
 use crate::writer::put_image;
 use std::alloc::{AllocError, Global};
 use std::io::Write;
 use std::marker::Model;
-use ubi_media::{Geometry, VolKind, VolumeRecord, rec_fault};
+use ubi_laid::{Part, Piece, piece_count, piece_of};
+use ubi_media::{Geometry, VolKind, rec_fault};
 use ubi_scan::BlockSource;
 use ubi_volume::{Bytes, Content, Lebs, Meaning, Volume};
 
@@ -105,19 +106,6 @@ pub fn build_to<S: BlockSource, W: Write>(
         Err(PutError::Read(id, written)) => Err(BuildError::Read(id, written)),
         Err(PutError::Write(written)) => Err(BuildError::Write(written)),
     }
-}
-
-/// A volume to build.
-#[derive(Clone, Copy, Debug)]
-pub struct Part {
-    /// Its number.
-    pub id: u32,
-    /// Its record.
-    pub entry: VolumeRecord,
-    /// The place in the source at which its bytes begin.
-    pub start: u64,
-    /// How many bytes these are.
-    pub len: u64,
 }
 
 /// Volumes to build, which have a meaning together whatever their bytes are.
@@ -269,5 +257,22 @@ impl Recipe {
         ensures meaning { HaveMeaning self.now }
     {
         numbered(self.parts.as_slice(), id)
+    }
+}
+
+impl Contents for Recipe {
+    ghost sizes = { λ ps. ps.sizes };
+
+    ghost pieces = { λ ps. built_pieces ps };
+
+    ghost LieIn = { λ ps size. HasParts size ps.of };
+
+    fn next(&self, geometry: &Geometry, id: u32, from: u32) -> Option<Piece> {
+        let part = self.part(id)?;
+        if from < piece_count(geometry, part) {
+            Some(piece_of(geometry, part, from))
+        } else {
+            None
+        }
     }
 }

@@ -23,7 +23,6 @@ mod header;
 pub mod laws;
 mod line;
 mod memory_image;
-mod pieces;
 mod records;
 mod shown;
 mod source_image;
@@ -31,7 +30,7 @@ mod sourced;
 mod spec_text;
 mod writer;
 
-pub use built_image::{Part, Recipe, build_to};
+pub use built_image::{Recipe, build_to};
 pub use errors::{BuildError, ComposeError, RecipeError, SpecCause, SpecError};
 pub use memory_image::{compose, normalise};
 pub use shown::shown_name;

@@ -12,12 +12,11 @@ ghost use Rattle.ubi_scan.specs.Stream.{NamesBlock, after};
 ghost use Rattle.ubi_volume.specs.Places.{AreWithin};
 
 use crate::errors::PutError;
-use crate::pieces::{Device, Origin, Piece};
-use crate::sourced::Contents;
+use crate::sourced::{Contents, Device};
 use crate::writer::put_image;
 use std::alloc::Global;
 use std::io::Write;
-use ubi_laid::{damaged_header, piece_header};
+use ubi_laid::{Origin, Piece, damaged_header, piece_header};
 use ubi_media::{Geometry, VidHeader, VolKind, VolumeRecord};
 use ubi_scan::{BlockSource, StreamError};
 use ubi_volume::{PlaceContent, Places, attach_places, share_len};

@@ -1,11 +1,21 @@
-//! What a normal image is written from.
+//! What a normal image is written from, and for which device.
 
-ghost use Rattle.std.specs.Prelude.{◌≡◌, ℕ, ◌≤◌, Option, IfSome};
+ghost use Rattle.std.specs.Prelude.{◌≡◌, ℕ, Option, IfSome};
 ghost use Rattle.ubi_media.specs.Geometry.{Sizes};
-ghost use Rattle.ubi_compose.specs.inner.Pieces.{IsNext, LiesIn, Pieces};
+ghost use Rattle.ubi_compose.specs.inner.Pieces.{IsNext, Pieces};
+ghost use Rattle.ubi_laid.specs.Pieces.{LiesIn};
 
-use crate::pieces::{Device, Piece};
+use ubi_laid::Piece;
 use ubi_media::Geometry;
+
+/// A device that a normal image is written for.
+#[derive(Clone, Copy)]
+pub struct Device {
+    /// Its geometry.
+    pub geometry: Geometry,
+    /// The image sequence number that its erase-counter headers have.
+    pub image_seq: u32,
+}
 
 /// The contents of volumes, whose bytes lie in a source.
 pub trait Contents {

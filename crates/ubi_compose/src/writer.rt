@@ -1,8 +1,9 @@
 //! The one writer of normal images: each eraseblock is laid out in a buffer, and written.
 
-ghost use Rattle.std.specs.Prelude.{◌≡◌, ℕ, ◌+◌, ◌<◌, ◌≤◌, ◌^◌, ◌++◌, ◌-◌, IfOk, drop, length, take};
+ghost use Rattle.std.specs.Prelude.{◌≡◌, ◌+◌, ◌<◌, ◌≤◌, ◌^◌, ◌++◌, ◌-◌, IfOk, drop, length, take};
 ghost use Rattle.ubi_compose.specs.Composed.{spare};
-ghost use Rattle.ubi_compose.specs.inner.Pieces.{HasPut, IsInBuffer, IsReadIn, IsReadOf, LiesIn, NoRead, first_volumes, image_bytes, known_put, piece_bytes, spares_bytes, table_block, tables_bytes, volume_bytes};
+ghost use Rattle.ubi_compose.specs.inner.Pieces.{HasPut, IsReadIn, NoRead, first_volumes, image_bytes, known_put, piece_bytes, spares_bytes, table_block, tables_bytes, volume_bytes};
+ghost use Rattle.ubi_laid.specs.Pieces.{IsInBuffer, IsReadOf, LiesIn};
 ghost use Rattle.ubi_compose.specs.Normal.{laid_bytes, new_ec};
 ghost use Rattle.ubi_media.specs.Fields.{blank};
 ghost use Rattle.ubi_media.specs.Geometry.{leb_size, slots};
@@ -12,9 +13,9 @@ ghost use Rattle.ubi_scan.specs.Source.{Narrows};
 use crate::errors::PutError;
 use crate::header::copy_header;
 use crate::memory_image::{HEADER_SIZE, new_ec};
-use crate::pieces::{Device, Piece, fetch, header_of, is_left_out};
-use crate::sourced::Contents;
+use crate::sourced::{Contents, Device};
 use std::io::Write;
+use ubi_laid::{Piece, fetch, header_of, is_left_out};
 use ubi_media::{Geometry, VidHeader, write_ec, write_vid};
 use ubi_scan::BlockSource;
 use ubi_volume::write_all;

@@ -54,8 +54,7 @@ pub use Rattle.ubi_scan.specs.Source.{Agreed, Narrows, Source, WhereHeld, holds,
 pub use Rattle.ubi_dumps.specs.Asked.{IsDump, IsToldFirst, TellsNothing, given, is_split, no_geometry, several, told, told_dump}
 pub use Rattle.ubi_dumps.specs.Ended.{IsEnded, IsTold, IsUnreadSide, Works, answered, done, left_failed, no_read, no_source, no_write, outcome, read_failed, right_failed, unopened}
 pub use Rattle.ubi_dumps.specs.FileAnswers.{kept, lost}
-pub use Rattle.ubi_dumps.specs.Formatted.{its_own, printed}
-pub use Rattle.ubi_dumps.specs.InFormat.{OfRead, OfReadDumps}
 pub use Rattle.ubi_dumps.specs.Lines.{span_words}
 unfoldable pub use Rattle.ubi_dumps.specs.Lines.{layout_words}
+pub use Rattle.ubi_dumps.specs.Read.{OfRead, OfReadDumps}
 pub use Rattle.ubi_dumps.specs.declared.asked.Sought.{Sought}

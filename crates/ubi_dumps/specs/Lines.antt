@@ -1,16 +1,13 @@
--- Printed lines.
-use Rattle.std.specs.Prelude.{ℕ, Bool, true, false, List, ◌++◌, codes, decimal}
+-- Printed lines of dumps that aren't found, or have other geometries; and the words of geometries and volumes.
+use Rattle.std.specs.Prelude.{ℕ, List, ◌++◌, codes, decimal}
 use Rattle.std.specs.List.{flat_map}
 use Rattle.ubi_media.specs.Geometry.{Sizes}
-use Rattle.ubi_media.specs.declared.refusal.Refusal.{Refusal}
 use Rattle.ubi_detect.specs.ErrorTexts.{undetected_text}
 use Rattle.ubi_detect.specs.declared.detect.Undetected.{Undetected}
 use Rattle.ubi_detect.specs.declared.images.Span.{Span}
 use Rattle.ubi_volume.specs.declared.block.Amount.{Amount}
 use Rattle.ubi_volume.specs.declared.block.Amount.TheVariants as amount
-use Rattle.ubi_compare.specs.declared.difference.Side.{Side}
-use Rattle.ubi_files.specs.Lines.{refusal_line, refused_line}
-use Rattle.ubi_json.specs.Words.{side_word}
+use Rattle.ubi_files.specs.Lines.{refused_line}
 
 -- the line of a file in which no geometry is found
 abbrev pub undetected_line : Undetected → List ℕ
@@ -28,12 +25,6 @@ span_words span = codes " start=" ++ decimal span.start ++ codes " length=" ++ d
 abbrev pub images_side_line : List ℕ → List Span → List ℕ
 images_side_line side spans = side ++ codes "refused F10 Images" ++ flat_map span_words spans ++ codes "\n"
 
--- the numbers of a geometry except how many eraseblocks there are
-unfoldable pub layout_words : Sizes → List ℕ
-layout_words s =
-    codes "peb=" ++ decimal s.peb_size ++ codes " page=" ++ decimal s.page ++ codes " vid=" ++ decimal s.vid_offset
-    ++ codes " data=" ++ decimal s.data_offset
-
 -- how much a volume reads, or why it can't be read
 abbrev pub amount_word : Amount → List ℕ
 amount_word amount.Updating = codes "updating"
@@ -41,27 +32,12 @@ amount_word amount.Damaged = codes "damaged"
 amount_word (amount.Bytes bytes) = codes "bytes=" ++ decimal bytes
 amount_word (amount.Lebs count) = codes "lebs=" ++ decimal count
 
+-- the numbers of a geometry except how many eraseblocks there are
+unfoldable pub layout_words : Sizes → List ℕ
+layout_words s =
+    codes "peb=" ++ decimal s.peb_size ++ codes " page=" ++ decimal s.page ++ codes " vid=" ++ decimal s.vid_offset
+    ++ codes " data=" ++ decimal s.data_offset
+
 -- the line of two images whose own geometries differ
 abbrev pub unlike_line : Sizes → Sizes → List ℕ
 unlike_line left right = refused_line (codes "F9 Geometries left " ++ layout_words left ++ codes " right " ++ layout_words right)
-
--- the line of one of two images that is refused, after the side on which it stands
-abbrev pub side_line : Side → Refusal → List ℕ
-side_line side c = side_word side ++ codes " " ++ refusal_line c
-
--- the line of two images that mean the same, or don't
-abbrev pub comparison_line : Bool → List ℕ
-comparison_line true = codes "same\n"
-comparison_line false = codes "different\n"
-
--- the line of an eraseblock that isn't in the image
-abbrev pub no_block_line : List ℕ
-no_block_line = refused_line (codes "B1 Block")
-
--- the line of a number of bytes
-abbrev pub bytes_line : ℕ → List ℕ
-bytes_line n = codes "bytes " ++ decimal n ++ codes "\n"
-
--- the line of a number of eraseblocks
-abbrev pub blocks_line : ℕ → List ℕ
-blocks_line n = codes "blocks " ++ decimal n ++ codes "\n"

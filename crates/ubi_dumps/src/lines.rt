@@ -1,20 +1,16 @@
-//! Printed lines.
+//! Printed lines of dumps that aren't found, or have other geometries; and the words of geometries and volumes.
 
 ghost use Rattle.std.specs.List.{flat_map};
-ghost use Rattle.std.specs.Prelude.{◌≡◌, ◌+◌, ◌++◌, ◌∷◌, ◌≤◌, [], IfOk, IsOk, OnOk, codes, decimal, length, unwrap_or, vec_capacity, vec_len};
-ghost use Rattle.hex.specs.Hex.{encode_lower};
-ghost use Rattle.ubi_dumps.specs.Lines.{amount_word, blocks_line, bytes_line, comparison_line, images_side_line, layout_words, no_block_line, side_line, span_words, undetected_line, undetected_side_line, unlike_line};
+ghost use Rattle.std.specs.Prelude.{◌≡◌, ◌++◌, IfOk, OnOk, unwrap_or};
+ghost use Rattle.ubi_dumps.specs.Lines.{amount_word, images_side_line, layout_words, span_words, undetected_line, undetected_side_line, unlike_line};
 ghost use Rattle.ubi_files.specs.Numbers.{sizes_of};
-ghost use Rattle.ubi_json.specs.Words.{shown};
+ghost use Rattle.ubi_words.specs.Shown.{shown};
 
-use itoa::Buffer;
 use std::alloc::{AllocError, Global};
-use ubi_compare::Side;
 use ubi_detect::{Span, Undetected};
-use ubi_files::{Numbers, put_number, put_word, refusal_line, refused};
-use ubi_json::{shown_text, side_word};
-use ubi_media::Refusal;
+use ubi_files::{Numbers, put_number, put_word, refused};
 use ubi_volume::Amount;
+use ubi_words::shown_text;
 
 /// The line of a file in which no geometry is found.
 pub fn undetected_line(alloc: Global, why: Undetected) -> Result<Vec<u8>, AllocError>
@@ -65,6 +61,26 @@ pub fn images_side_line(alloc: Global, side: &str, spans: &[Span]) -> Result<Vec
     Ok(text)
 }
 
+/// Adds a name as it is shown.
+pub fn put_shown(alloc: Global, text: &mut Vec<u8>, name: &[u8]) -> Result<(), AllocError>
+    ensures { OnOk result (text.new.items ≡ text.old.items ++ shown name.now) }
+{
+    let shown = shown_text(alloc, name)?;
+    put_word(text, shown.as_str())
+}
+
+/// Adds how much a volume reads, or why it can't be read.
+pub fn put_amount(text: &mut Vec<u8>, amount: Amount) -> Result<(), AllocError>
+    ensures { OnOk result (text.new.items ≡ text.old.items ++ amount_word amount) }
+{
+    match amount {
+        Amount::Updating => put_word(text, "updating"),
+        Amount::Damaged => put_word(text, "damaged"),
+        Amount::Bytes(bytes) => put_number(text, "bytes=", bytes),
+        Amount::Lebs(count) => put_number(text, "lebs=", u64::from(count)),
+    }
+}
+
 /// Adds the numbers of a geometry, except how many eraseblocks there are.
 pub fn put_layout(text: &mut Vec<u8>, numbers: Numbers) -> Result<(), AllocError>
     ensures { OnOk result (text.new.items ≡ text.old.items ++ layout_words (sizes_of numbers)) }
@@ -95,104 +111,5 @@ pub fn unlike_line(alloc: Global, left: Numbers, right: Numbers) -> Result<Vec<u
     put_word(&mut text, " right ")?;
     put_layout(&mut text, right)?;
     put_word(&mut text, "\n")?;
-    Ok(text)
-}
-
-/// Adds a byte as two digits.
-pub fn put_digits(alloc: Global, text: &mut Vec<u8>, byte: u8) -> Result<(), AllocError>
-    ensures { OnOk result (text.new.items ≡ text.old.items ++ encode_lower (byte ∷ [])) }
-{
-    let digits = hex::encode(alloc, [byte])?;
-    put_word(text, digits.as_str())
-}
-
-/// Adds a name as it is shown.
-pub fn put_shown(alloc: Global, text: &mut Vec<u8>, name: &[u8]) -> Result<(), AllocError>
-    ensures { OnOk result (text.new.items ≡ text.old.items ++ shown name.now) }
-{
-    let shown = shown_text(alloc, name)?;
-    put_word(text, shown.as_str())
-}
-
-/// Adds how much a volume reads, or why it can't be read.
-pub fn put_amount(text: &mut Vec<u8>, amount: Amount) -> Result<(), AllocError>
-    ensures { OnOk result (text.new.items ≡ text.old.items ++ amount_word amount) }
-{
-    match amount {
-        Amount::Updating => put_word(text, "updating"),
-        Amount::Damaged => put_word(text, "damaged"),
-        Amount::Bytes(bytes) => put_number(text, "bytes=", bytes),
-        Amount::Lebs(count) => put_number(text, "lebs=", u64::from(count)),
-    }
-}
-
-/// The line of one of two images that is refused, after the side on which it stands.
-pub fn side_line(alloc: Global, side: Side, cause: Refusal) -> Result<Vec<u8>, AllocError>
-    ensures { IfOk result (λ text. text.items ≡ side_line side cause) }
-{
-    let mut text = Vec::from_slice(alloc, side_word(side).as_bytes())?;
-    put_word(&mut text, " ")?;
-    text.extend_from_slice(refusal_line(alloc, cause)?.as_slice())?;
-    Ok(text)
-}
-
-/// Adds the line of two images that mean the same, or don't.
-pub fn put_comparison(text: &mut Vec<u8>, is_same: bool) -> Result<(), AllocError>
-    ensures { OnOk result (text.new.items ≡ text.old.items ++ comparison_line is_same) }
-{
-    put_word(text, if is_same { "same\n" } else { "different\n" })
-}
-
-/// The line of an eraseblock that isn't in the image.
-pub fn no_block_line(alloc: Global) -> Result<Vec<u8>, AllocError>
-    ensures { IfOk result (λ text. text.items ≡ no_block_line) }
-{
-    refused(alloc, &"B1 Block")
-}
-
-/// The length of the longest line of a count in bytes: its word, twenty digits and the line's end.
-pub const LONGEST_COUNT_LINE: usize = 28;
-
-/// Adds a word, a number and the end of a line. If there is space for the longest number, it allocates no memory.
-fn put_count_line(text: &mut Vec<u8>, word: &[u8], count: u64) -> Result<(), AllocError>
-    ensures line { OnOk result (text.new.items ≡ text.old.items ++ (word.now ++ decimal count ++ codes "\n")) }
-    ensures room { vec_len text.old + length word.now + 21 ≤ vec_capacity text.old → IsOk result }
-{
-    let mut buffer = Buffer::new();
-    text.extend_from_slice(word)?;
-    text.extend_from_slice(buffer.format(count).as_bytes())?;
-    text.extend_from_slice(b"\n")
-}
-
-/// Adds the line of a number of bytes. If there is space for the longest one, it allocates no memory.
-///
-/// # Errors
-///
-/// Memory ran out.
-pub fn put_bytes_line(text: &mut Vec<u8>, count: u64) -> Result<(), AllocError>
-    ensures line { OnOk result (text.new.items ≡ text.old.items ++ bytes_line count) }
-    ensures room { vec_len text.old + 28 ≤ vec_capacity text.old → IsOk result }
-{
-    put_count_line(text, b"bytes ", count)
-}
-
-/// Adds the line of a number of eraseblocks. If there is space for the longest one, it allocates no memory.
-///
-/// # Errors
-///
-/// Memory ran out.
-pub fn put_blocks_line(text: &mut Vec<u8>, count: u64) -> Result<(), AllocError>
-    ensures line { OnOk result (text.new.items ≡ text.old.items ++ blocks_line count) }
-    ensures room { vec_len text.old + 28 ≤ vec_capacity text.old → IsOk result }
-{
-    put_count_line(text, b"blocks ", count)
-}
-
-/// The line of a number of eraseblocks.
-pub fn blocks_line(alloc: Global, count: usize) -> Result<Vec<u8>, AllocError>
-    ensures { IfOk result (λ text. text.items ≡ blocks_line count) }
-{
-    let mut text = Vec::new(alloc);
-    put_blocks_line(&mut text, count as u64)?;
     Ok(text)
 }

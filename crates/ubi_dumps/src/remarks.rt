@@ -5,9 +5,8 @@ ghost use Rattle.std.specs.Prelude.{◌≡◌, ◌↔◌, IsOkAnd, IsTrue};
 use crate::dump::KnownDump;
 use std::alloc::{AllocError, Global};
 use ubi_files::{DONE, FilePart, Frame, Outcome, Unread};
-use ubi_map::{count_passed_over, first_anchor};
 use ubi_media::Geometry;
-use ubi_scan::{BlockSource, block_count};
+use ubi_scan::{BlockSource, block_count, count_passed_over, first_anchor};
 
 /// Says which bytes of a file are read, if its headers show that these aren't all `len` bytes of the part in which they were looked for.
 pub fn remark_part<R: Eprint>(

@@ -76,6 +76,9 @@ pub trait Disk {
         ensures apart { IfSome result (λ _. path.now ≢ out.now) }
         ensures none { path.now ≢ out.now → result ≡ None → opens self.now path.now ≡ false };
 
+    /// Says on standard error why the file at a path isn't read at places while the file at `out` is written.
+    fn tell_unplaced(&self, path: &str, out: &str);
+
     /// Whether what is written to the second path may be written into the file at the first.
     fn may_be_one(&self, path: &str, other: &str) -> bool
         ensures { path.now ≡ other.now → result ≡ true };

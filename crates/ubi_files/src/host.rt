@@ -6,7 +6,9 @@ use crate::disk::{Disk, OutputFile, WholeFile};
 use crate::file_row::SizedFile;
 use crate::folder::make_folder;
 use crate::host_file::{HostFile, tell_path};
-use crate::image_source::{is_flash, may_be_one, placed_at, placed_beside, refuse_printed};
+use crate::image_source::{
+    is_flash, may_be_one, placed_at, placed_beside, refuse_printed, tell_unplaced,
+};
 use crate::outcome::ToolError;
 use crate::read::{expected_len, open_whole};
 use crate::replaced::replace;
@@ -109,6 +111,10 @@ where
             return None;
         }
         placed_beside(self.rt, read_path(path), written_path(out))
+    }
+
+    fn tell_unplaced(&self, path: &str, out: &str) {
+        tell_unplaced(self.rt, read_path(path), written_path(out));
     }
 
     fn may_be_one(&self, path: &str, other: &str) -> bool {

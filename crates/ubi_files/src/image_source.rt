@@ -3,7 +3,7 @@
 ghost use Rattle.std.specs.Prelude.{◌≡◌, ◌≢◌, IfSome, true};
 
 use crate::file_row::SizedFile;
-use crate::host_file::HostFile;
+use crate::host_file::{HostFile, tell_path};
 use crate::standard::OUTPUT;
 use std::fs::{FileType, Files, Metadata};
 use std::io::ErrorKind;
@@ -161,4 +161,40 @@ where
     let file = open_sized(rt, path, kind)?;
     // Judged once it is open: a link to a descriptor of the process leads to it only now.
     stays(rt, &metadata, out).then_some(file)
+}
+
+/// Describes a file; one that may have places is opened to find out whether that can be done.
+///
+/// # Errors
+///
+/// There is none, or it can't be opened.
+fn try_open<R: Files>(rt: &R, path: &str) -> io::Result<Metadata> {
+    let metadata = fs::metadata(rt, path)?;
+    if may_have_places(metadata.file_type()) {
+        fs::open(rt, path)?;
+    }
+    Ok(metadata)
+}
+
+/// Why a file that can be opened isn't read at places while the file at `out` is written.
+fn why_unplaced<R: Files>(rt: &R, path: &str, metadata: &Metadata, out: &str) -> &'static str {
+    let kind = metadata.file_type();
+    if kind.is_dir() {
+        "it is a folder"
+    } else if !may_have_places(kind) {
+        "it can't be read at places, as a pipe can't"
+    } else if path == out || !stays(rt, metadata, out) {
+        "it may be the output"
+    } else {
+        "it is a device without a size"
+    }
+}
+
+/// Says on standard error why the file at a path isn't read at places while the file at `out` is written.
+pub fn tell_unplaced<R: Files + Eprint>(rt: &R, path: &str, out: &str) {
+    let why = match try_open(rt, path) {
+        Ok(metadata) => io::Error::other(why_unplaced(rt, path, &metadata, out)),
+        Err(error) => error,
+    };
+    tell_path(rt, path, &why);
 }

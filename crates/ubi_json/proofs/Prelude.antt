@@ -1,5 +1,5 @@
 -- The names that the proofs of this crate speak of, and where they come from.
-pub use Rattle.std.proofs.Common.{Bool, List, [], ap, append-nil, append_assoc, arith, codes, cond, false, inl, inr, map, nat_lt, refl, string_bytes, subst, suc, sym, take, true, zero, ℕ, ◌%◌, ◌&&◌, ◌++◌, ◌+◌, ◌/◌, ◌<◌, ◌==◌, ◌^◌, ◌∙◌, ◌∷◌, ◌≡◌, ◌≤◌, ◌⊎◌}
+pub use Rattle.std.proofs.Common.{Bool, List, [], ap, append-nil, append_assoc, arith, codes, cond, false, inl, inr, map, nat_lt, refl, subst, suc, sym, take, true, zero, ℕ, ◌%◌, ◌&&◌, ◌++◌, ◌+◌, ◌/◌, ◌<◌, ◌==◌, ◌^◌, ◌∙◌, ◌∷◌, ◌≡◌, ◌≤◌, ◌⊎◌}
 pub use Rattle.std.proofs.lemmas.Bool.{cases_lt, le-leb}
 pub use Rattle.std.proofs.lemmas.List.Folds.{list_all-append}
 pub use Rattle.std.proofs.lemmas.Result.{IfOk-weaker}
@@ -32,5 +32,5 @@ pub use Rattle.ubi_json.specs.Geometry.{detected_data, geometries_data, place_da
 pub use Rattle.ubi_json.specs.Laws.{refused_at}
 pub use Rattle.ubi_json.specs.List.{listed_data, record_members, volume_data, with_amount}
 pub use Rattle.ubi_json.specs.Told.{refusal_told, told_text, undetected_told, with_numbers}
-pub use Rattle.ubi_json.specs.Words.{same_state, shown, side_word}
+pub use Rattle.ubi_json.specs.Words.{same_state, side_word}
 pub use Rattle.ubi_json.specs.declared.list.ListedVolume.{ListedVolume}

@@ -5,7 +5,8 @@ use Rattle.serde_json.specs.View.{items_of}
 use Rattle.ubi_compare.specs.declared.difference.Difference.{Difference}
 use Rattle.ubi_compare.specs.declared.difference.Difference.TheVariants as difference
 use Rattle.ubi_json.specs.Line.{numbered, worded}
-use Rattle.ubi_json.specs.Words.{condition_word, kind_word, shown, side_word}
+use Rattle.ubi_json.specs.Words.{condition_word, kind_word, side_word}
+use Rattle.ubi_words.specs.Shown.{shown}
 
 -- whether two images mean the same
 abbrev pub same_data : Bool → Data

@@ -13,7 +13,8 @@ use Rattle.ubi_volume.specs.declared.block.Amount.TheVariants as amount
 use Rattle.ubi_volume.specs.declared.content.Volume.{Volume}
 use Rattle.ubi_json.specs.declared.list.ListedVolume.{ListedVolume}
 use Rattle.ubi_json.specs.Line.{numbered, worded}
-use Rattle.ubi_json.specs.Words.{kind_word, shown}
+use Rattle.ubi_json.specs.Words.{kind_word}
+use Rattle.ubi_words.specs.Shown.{shown}
 
 -- the sizes of a device
 abbrev pub sizes_data : Sizes → Data

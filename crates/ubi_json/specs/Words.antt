@@ -11,14 +11,6 @@ use Rattle.ubi_compare.specs.declared.difference.Condition.TheVariants as condit
 use Rattle.ubi_compare.specs.declared.difference.Side.{Side}
 use Rattle.ubi_compare.specs.declared.difference.Side.TheVariants as side
 
--- a byte of a name as it is shown: a printable one, except the backslash, as it is, and any other as its two digits
-abbrev pub byte_shown : ℕ → List ℕ
-byte_shown b = if nat_le 0x21 b && nat_le b 0x7E && not (b == 0x5C) then b ∷ [] else codes "\\x" ++ encode_lower (b ∷ [])
-
--- a name as it is shown
-abbrev pub shown : List ℕ → List ℕ
-shown name = flat_map byte_shown name
-
 -- the word for the kind of a volume
 abbrev pub kind_word : VolKind → List ℕ
 kind_word kind.Dynamic = codes "dynamic"

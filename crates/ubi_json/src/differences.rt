@@ -5,15 +5,16 @@ ghost use Rattle.serde_json.specs.View.{view};
 ghost use Rattle.ubi_json.specs.Differences.{difference_data, differences_data, numbers_data, same_data, sides_data, words_data};
 ghost use Rattle.ubi_compare.specs.declared.difference.Difference.TheVariants as difference;
 ghost use Rattle.ubi_json.specs.Line.{IsLineOf};
-ghost use Rattle.ubi_json.specs.Words.{condition_word, shown, side_word};
+ghost use Rattle.ubi_json.specs.Words.{condition_word, side_word};
+ghost use Rattle.ubi_words.specs.Shown.{shown};
 
 use crate::line::line_of;
 use crate::list::kind_word;
-use crate::shown::shown_text;
 use serde_json::{Value, json};
 use std::alloc::{AllocError, Global};
 use ubi_compare::{Condition, Difference, Side};
 use ubi_media::VolName;
+use ubi_words::shown_text;
 
 /// The word of one of two images.
 pub fn side_word(side: Side) -> &'static str

@@ -8,12 +8,10 @@ mod geometry;
 pub mod laws;
 mod line;
 mod list;
-mod shown;
 mod told;
 
 pub use check::{check_line, check_value, count_of};
 pub use differences::{condition_word, differences_line, same_line, side_word};
 pub use geometry::geometry_line;
 pub use list::{ListedVolume, kind_word, list_line, listed_value, sizes_value};
-pub use shown::shown_text;
 pub use told::{error_line, refusal_line, refusal_value, side_line, undetected_line};

@@ -8,12 +8,12 @@ ghost use Rattle.ubi_json.specs.List.{listed_data, record_members, sizes_data, v
 ghost use Rattle.ubi_json.specs.Words.{kind_word};
 
 use crate::line::line_of;
-use crate::shown::shown_text;
 use crate::told::numbers_object;
 use serde_json::{Map, Value, json, put};
 use std::alloc::{AllocError, Global};
 use ubi_media::{Geometry, VolKind, VolumeRecord};
 use ubi_volume::Amount;
+use ubi_words::shown_text;
 
 /// What is listed of a volume.
 #[derive(Clone, Copy)]

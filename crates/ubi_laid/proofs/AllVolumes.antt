@@ -1,18 +1,7 @@
 -- The eraseblocks of volumes by their numbers.
+use Rattle.ubi_laid.proofs.Prelude.{◌≡◌, ℕ, List, length, refl, sym, ap, ◌∙◌, subst, same_Some, AllByRecursion, range_with_len, IfSome, Option, Some, IsGeometry, Sizes, data_pad, usable, VolumeRecord, IsVolume, VolumeMap, pieces, Content, Volume, AreApart, CanBeLaid, Laid, laid_blocks, dynamic_block, static_part, volume_blocks, AllApart, EachIsVolume, EachCanBeLaid}
 use Rattle.std.specs.FinMap as finite
-use Rattle.std.proofs.Common.{◌≡◌, ℕ, List, length, refl, sym, ap, ◌∙◌, subst}
-use Rattle.std.proofs.lemmas.Option.{same_Some}
-use Rattle.std.specs.List.{AllByRecursion, range_with_len}
-use Rattle.std.specs.Prelude.{IfSome, Option, Some}
-use Rattle.ubi_media.specs.Geometry.{IsGeometry, Sizes}
-use Rattle.ubi_media.specs.Record.{data_pad, usable}
-use Rattle.ubi_media.specs.declared.record.VolumeRecord.{VolumeRecord}
-use Rattle.ubi_volume.specs.Meant.{IsVolume, VolumeMap, pieces}
-use Rattle.ubi_volume.specs.declared.content.Content.{Content}
 use Rattle.ubi_volume.specs.declared.content.Content.TheVariants as content
-use Rattle.ubi_volume.specs.declared.content.Volume.{Volume}
-use Rattle.ubi_laid.specs.Laid.{AreApart, CanBeLaid, Laid, laid_blocks, dynamic_block, static_part, volume_blocks}
-use Rattle.ubi_laid.specs.Laws.{AllApart, EachIsVolume, EachCanBeLaid}
 use Rattle.ubi_laid.proofs.Lists.{Holds, all_at, all_flat_map, all_from, entry_held, flat_map_holds, held_entry, holds_flat_map}
 use Rattle.ubi_laid.proofs.Rising.{apart_flat_map, apart_map, entries_rise, range_rises}
 use Rattle.ubi_laid.proofs.Volumes.{IsLike, fine_volume, like_blocks, own_blocks, plain_volume}

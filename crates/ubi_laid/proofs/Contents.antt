@@ -1,33 +1,7 @@
 -- What volumes read that are laid out, wherever each of their LEBs lies.
+use Rattle.ubi_laid.proofs.Prelude.{◌≡◌, ℕ, zero, suc, ◌+◌, ◌-◌, ◌*◌, ◌<◌, ◌≤◌, inl, inr, List, [], ◌∷◌, length, take, refl, sym, ap, ◌∙◌, subst, arith, take-replicate, take_at, FinMap, range_with_len, option_map_or, nat_cmp, IfSome, None, Option, Some, unwrap_or, usable_some, check_from, crc_of, remainder, blank, IsGeometry, Sizes, data_pad, usable, VolumeRecord, VidHeader, NoFault, block, leb, Leb, NoMember, leb_of, pieces_few, share_more, share_none, shares_all, damaged_piece, piece_checked, piece_unchecked, read_more, read_none, static_reads, LebReads, VolumeReads, Fits, VolumeMap, pieces, share, AreRead, PieceIs, UsedIs, Content, Volume, Laid, laid_blocks, damaged_block, dynamic_block, static_part, volume_blocks, AreLaidIn, IsLaidAt, LaidRead}
 use Rattle.std.specs.FinMap as finite
-use Rattle.std.proofs.Common.{◌≡◌, ℕ, zero, suc, ◌+◌, ◌-◌, ◌*◌, ◌<◌, ◌≤◌, inl, inr, List, [], ◌∷◌, length, take, refl, sym, ap, ◌∙◌, subst, arith}
-use Rattle.std.proofs.lemmas.List.{take-replicate, take_at}
-use Rattle.std.specs.FinMap.{FinMap}
-use Rattle.std.specs.List.{range_with_len}
-use Rattle.std.specs.Option.{option_map_or}
-use Rattle.std.specs.Ordering.{nat_cmp}
-use Rattle.std.specs.Prelude.{IfSome, None, Option, Some, unwrap_or}
-use Rattle.ubi_media.proofs.Records.{usable_some}
-use Rattle.ubi_media.specs.Check.{check_from, crc_of, remainder}
-use Rattle.ubi_media.specs.Fields.{blank}
-use Rattle.ubi_media.specs.Geometry.{IsGeometry, Sizes}
-use Rattle.ubi_media.specs.Record.{data_pad, usable}
-use Rattle.ubi_media.specs.declared.record.VolumeRecord.{VolumeRecord}
-use Rattle.ubi_media.specs.declared.vid.VidHeader.{VidHeader}
-use Rattle.ubi_scan.specs.Faults.{NoFault}
-use Rattle.ubi_scan.specs.Image.{block, leb}
-use Rattle.ubi_scan.specs.Members.{Leb, NoMember, leb_of}
-use Rattle.ubi_volume.proofs.Pieces.{pieces_few, share_more, share_none, shares_all}
-use Rattle.ubi_volume.proofs.Static.{damaged_piece, piece_checked, piece_unchecked, read_more, read_none, static_reads}
-use Rattle.ubi_volume.specs.Means.{LebReads, VolumeReads}
-use Rattle.ubi_volume.specs.Meant.{Fits, VolumeMap, pieces, share}
-use Rattle.ubi_volume.specs.Texts.{AreRead, PieceIs, UsedIs}
-use Rattle.ubi_volume.specs.declared.content.Content.{Content}
 use Rattle.ubi_volume.specs.declared.content.Content.TheVariants as content
-use Rattle.ubi_volume.specs.declared.content.Volume.{Volume}
-use Rattle.ubi_laid.specs.Laid.{Laid, laid_blocks, damaged_block, dynamic_block, static_part, volume_blocks}
-use Rattle.ubi_laid.specs.LaidIn.{AreLaidIn, IsLaidAt}
-use Rattle.ubi_laid.specs.Laws.{LaidRead}
 use Rattle.ubi_laid.proofs.AllVolumes.{own_only, own_there, volume_at}
 use Rattle.ubi_laid.proofs.Lists.{Holds, all_at, all_from, entry_held, held_entry, holds_map, holds_range, map_holds, range_holds}
 

@@ -1,10 +1,5 @@
 -- Eraseblocks of different LEBs.
-use Rattle.std.proofs.Common.{◌≡◌, ℕ, zero, suc, List, [], ◌∷◌, ◌++◌, refl, ap, sym, ◌∙◌}
-use Rattle.std.proofs.lemmas.Option.{same_Some}
-use Rattle.std.specs.List.{AllByRecursion}
-use Rattle.std.specs.Prelude.{Some, slice_get}
-use Rattle.ubi_scan.specs.Members.{leb_of}
-use Rattle.ubi_laid.specs.Laid.{AreApart, Differ, Laid}
+use Rattle.ubi_laid.proofs.Prelude.{◌≡◌, ℕ, zero, suc, List, [], ◌∷◌, ◌++◌, refl, ap, sym, ◌∙◌, same_Some, AllByRecursion, Some, slice_get, leb_of, AreApart, Differ, Laid}
 use Rattle.ubi_laid.proofs.Lists.{all_append, all_at}
 
 pub apart_append : (ks ls : List Laid) → AreApart ks → AreApart ls

@@ -1,14 +1,6 @@
 -- The headers of the LEBs of volumes break no rule.
+use Rattle.ubi_laid.proofs.Prelude.{◌≡◌, ℕ, ◌+◌, ◌-◌, ◌/◌, ◌^◌, ◌<◌, ◌≤◌, true, arith, nat_tests, None, Sizes, leb_size, plain, vid_fault, breaks, fields_from, first_fault, VidFits, VidHeader, IsMislaid, has_members}
 use Rattle.ubi_media.specs.declared.vid.VolKind.TheVariants as kind
-use Rattle.std.proofs.Common.{◌≡◌, ℕ, ◌+◌, ◌-◌, ◌/◌, ◌^◌, ◌<◌, ◌≤◌, true, arith}
-use Rattle.std.proofs.lemmas.Bool.Decides.{nat_tests}
-use Rattle.std.specs.Prelude.{None}
-use Rattle.ubi_media.specs.Geometry.{Sizes, leb_size}
-use Rattle.ubi_media.specs.Vid.{plain, vid_fault, breaks, fields_from, first_fault}
-use Rattle.ubi_media.specs.Widths.{VidFits}
-use Rattle.ubi_media.specs.declared.vid.VidHeader.{VidHeader}
-use Rattle.ubi_scan.specs.Faults.{IsMislaid}
-use Rattle.ubi_scan.specs.Members.{has_members}
 
 -- a volume of a user
 pub user_known : (vol : ℕ) → vol < 128 → has_members vol ≡ true

@@ -4,5 +4,8 @@ pub mod DistinctLebs
 pub mod Headers
 pub mod ListedVolumes
 pub mod Lists
+pub mod PieceCounts
+pub mod ReadBytes
 pub mod Rising
 pub mod Volumes
+pub mod Prelude

@@ -1,18 +1,5 @@
 -- The volumes of an image whose places are known, as its table lists them.
-use Rattle.std.proofs.Common.{◌≡◌, ℕ, ◌<◌, List, length, map, get_or, ap, sym, ◌∙◌, subst, arith}
-use Rattle.std.specs.Prelude.{Some}
-use Rattle.std.specs.Cmp.{nat_cmp_total}
-use Rattle.std.proofs.lemmas.List.{get_or-map, length-map}
-use Rattle.ubi_media.specs.Geometry.{Sizes}
-use Rattle.ubi_media.specs.declared.record.VolumeRecord.{VolumeRecord}
-use Rattle.ubi_scan.specs.Image.{image_of}
-use Rattle.ubi_scan.proofs.Revalued.{entries_revalued}
-use Rattle.ubi_scan.proofs.Finite.{find_at}
-use Rattle.ubi_table.specs.Records.{Records}
-use Rattle.ubi_volume.specs.Meant.{Meant, records_of}
-use Rattle.ubi_volume.specs.Places.{ArePlaces, Placed}
-use Rattle.ubi_volume.specs.declared.content.Volume.{Volume}
-use Rattle.ubi_volume.proofs.Gathered.{record_at}
+use Rattle.ubi_laid.proofs.Prelude.{◌≡◌, ℕ, ◌<◌, List, length, map, get_or, ap, sym, ◌∙◌, subst, arith, Some, nat_cmp_total, get_or-map, length-map, Sizes, VolumeRecord, image_of, entries_revalued, find_at, Records, Meant, records_of, ArePlaces, Placed, Volume, record_at}
 use Rattle.std.specs.FinMap as finite
 
 -- the entries of the records of a meaning are those of its volumes

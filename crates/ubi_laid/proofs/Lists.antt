@@ -1,13 +1,6 @@
 -- The elements of lists by their places.
+use Rattle.ubi_laid.proofs.Prelude.{◌≡◌, ℕ, zero, suc, ◌+◌, ◌<◌, ◌≤◌, ◌⊎◌, inl, inr, List, [], ◌∷◌, ◌++◌, length, map, refl, ap, sym, ◌∙◌, arith, subst, get_or_from_slice_get, slice_get-get_or, slice_get-map, slice_get_within, same_Some, nat_cmp_total, FinMap, nat_cmp-IsAntisymmetric, find, AllByRecursion, range_with_len, nat_cmp, Some, flat_map, option_map, slice_get, find_at, place_of}
 use Rattle.std.specs.FinMap as finite
-use Rattle.std.proofs.Common.{◌≡◌, ℕ, zero, suc, ◌+◌, ◌<◌, ◌≤◌, ◌⊎◌, inl, inr, List, [], ◌∷◌, ◌++◌, length, map, refl, ap, sym, ◌∙◌, arith, subst}
-use Rattle.std.proofs.lemmas.Option.{get_or_from_slice_get, slice_get-get_or, slice_get-map, slice_get_within, same_Some}
-use Rattle.std.specs.Cmp.{nat_cmp_total}
-use Rattle.std.specs.FinMap.{FinMap, nat_cmp-IsAntisymmetric, find}
-use Rattle.std.specs.List.{AllByRecursion, range_with_len}
-use Rattle.std.specs.Ordering.{nat_cmp}
-use Rattle.std.specs.Prelude.{Some, flat_map, option_map, slice_get}
-use Rattle.ubi_scan.proofs.Finite.{find_at, place_of}
 
 -- x stands in the list
 abbrev pub Holds : {X : Type 0} → List X → X → Type 0

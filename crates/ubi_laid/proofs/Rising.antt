@@ -1,16 +1,5 @@
 -- Elements whose numbers rise, and the eraseblocks that are made of them.
-use Rattle.std.proofs.Common.{◌≡◌, ℕ, zero, suc, ◌+◌, ◌<◌, T, List, [], ◌∷◌, map, refl, sym, ap, arith}
-use Rattle.std.proofs.lemmas.Cmp.{ranked}
-use Rattle.std.specs.FinMap.{is_sorted}
-use Rattle.std.specs.FinMap.Entries.{below_all}
-use Rattle.std.specs.List.{AllByRecursion, range_with_len}
-use Rattle.std.specs.Ordering.{is_lt, nat_cmp}
-use Rattle.std.specs.Prelude.{flat_map}
-use Rattle.std.specs.declared.cmp.Ordering.{Ordering}
-use Rattle.std.specs.declared.cmp.Ordering.TheVariants.{Less, Equal, Greater}
-use Rattle.ubi_scan.proofs.TrueTests.{both_left, both_right}
-use Rattle.ubi_scan.specs.Members.{Leb}
-use Rattle.ubi_laid.specs.Laid.{Laid, AreApart, Differ}
+use Rattle.ubi_laid.proofs.Prelude.{◌≡◌, ℕ, zero, suc, ◌+◌, ◌<◌, T, List, [], ◌∷◌, map, refl, sym, ap, arith, ranked, is_sorted, below_all, AllByRecursion, range_with_len, is_lt, nat_cmp, flat_map, Ordering, Less, Equal, Greater, both_left, both_right, Leb, Laid, AreApart, Differ}
 use Rattle.ubi_laid.proofs.DistinctLebs.{apart_append}
 use Rattle.ubi_laid.proofs.Lists.{all_at, all_flat_map, all_from, all_map, range_holds}
 

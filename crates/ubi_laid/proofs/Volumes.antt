@@ -1,23 +1,7 @@
 -- The eraseblocks of one volume.
+use Rattle.ubi_laid.proofs.Prelude.{◌≡◌, ℕ, ◌^◌, ◌<◌, ◌≤◌, List, length, map, refl, sym, subst, arith, FinMap, AllByRecursion, range_with_len, nat_cmp, IfSome, Option, check_from-lt, half_pad, reserved_within, usable_some, crc_of, IsGeometry, Sizes, data_pad, usable, VolumeRecord, pieces_few, share_full, share_most, share_some, Fits, IsVolume, pieces, share, Content, Volume, Laid, damaged_block, dynamic_block, static_blocks, static_part, volume_blocks, CanBeLaid}
 use Rattle.std.specs.FinMap as finite
 use Rattle.ubi_volume.specs.declared.content.Content.TheVariants as content
-use Rattle.std.proofs.Common.{◌≡◌, ℕ, ◌^◌, ◌<◌, ◌≤◌, List, length, map, refl, sym, subst, arith}
-use Rattle.std.specs.FinMap.{FinMap}
-use Rattle.std.specs.List.{AllByRecursion, range_with_len}
-use Rattle.std.specs.Ordering.{nat_cmp}
-use Rattle.std.specs.Prelude.{IfSome, Option}
-use Rattle.ubi_media.proofs.Checks.{check_from-lt}
-use Rattle.ubi_media.proofs.Padding.{half_pad, reserved_within}
-use Rattle.ubi_media.proofs.Records.{usable_some}
-use Rattle.ubi_media.specs.Check.{crc_of}
-use Rattle.ubi_media.specs.Geometry.{IsGeometry, Sizes}
-use Rattle.ubi_media.specs.Record.{data_pad, usable}
-use Rattle.ubi_media.specs.declared.record.VolumeRecord.{VolumeRecord}
-use Rattle.ubi_volume.proofs.Pieces.{pieces_few, share_full, share_most, share_some}
-use Rattle.ubi_volume.specs.Meant.{Fits, IsVolume, pieces, share}
-use Rattle.ubi_volume.specs.declared.content.Content.{Content}
-use Rattle.ubi_volume.specs.declared.content.Volume.{Volume}
-use Rattle.ubi_laid.specs.Laid.{Laid, damaged_block, dynamic_block, static_blocks, static_part, volume_blocks, CanBeLaid}
 use Rattle.ubi_laid.proofs.Headers.{IsPart, IsUsers, dynamic_fits, dynamic_sound, static_fits, static_sound, user_known, user_placed}
 use Rattle.ubi_laid.proofs.Lists.{Holds, all_map, held_entry, range_holds}
 

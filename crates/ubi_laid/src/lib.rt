@@ -1,5 +1,5 @@
 //! The eraseblocks in which volumes are laid out: the header and the text of each logical eraseblock. Wherever these lie,
-//! they read what the volumes hold.
+//! they read what the volumes hold. Where the bytes of volumes lie in a source ([`Part`]), each eraseblock is read as a piece ([`Piece`]).
 //!
 //! The normal image lays out all volumes of a meaning in order, and a commit writes some into whatever eraseblocks it may
 //! take.
@@ -22,5 +22,9 @@
 
 mod header;
 pub mod laws;
+mod part;
+mod pieces;
 
 pub use header::{damaged_header, piece_header, static_header};
+pub use part::{Part, piece_count, piece_of};
+pub use pieces::{Origin, Piece, fetch, header_of, is_left_out};

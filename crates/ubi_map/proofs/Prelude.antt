@@ -1,9 +1,9 @@
 -- The names that the proofs of this crate speak of, and where they come from.
-pub use Rattle.std.proofs.Common.{Bool, List, [], ap, append-nil, append_assoc, arith, below_more, codes, cond, false, map, not, refl, rules, string_bytes, subst, suc, sym, take, true, zero, ℕ, ◌++◌, ◌+◌, ◌==◌, ◌∙◌, ◌∷◌, ◌≡◌, ◌≤◌}
+pub use Rattle.std.proofs.Common.{Bool, List, [], ap, append-nil, append_assoc, arith, codes, cond, false, map, not, refl, rules, string_bytes, subst, suc, sym, take, true, zero, ℕ, ◌++◌, ◌+◌, ◌==◌, ◌∙◌, ◌∷◌, ◌≡◌}
 pub use Rattle.std.proofs.lemmas.Grind.{common_steps}
 pub use Rattle.std.proofs.lemmas.List.{drop_min, map-append, take_min}
 pub use Rattle.std.proofs.lemmas.List.Folds.{list_all-append}
-pub use Rattle.std.proofs.lemmas.List.FromFn.{map-range_with_len_more, sum_by-map-range_with_len_more}
+pub use Rattle.std.proofs.lemmas.List.FromFn.{map-range_with_len_more}
 pub use Rattle.std.proofs.lemmas.Result.{IfOk-weaker}
 pub use Rattle.std.specs.List.{flat_map, list_all, range_with_len}
 pub use Rattle.serde_json.specs.Data.{Data, string}
@@ -22,4 +22,3 @@ pub use Rattle.ubi_map.specs.Headers.{block_lines}
 pub use Rattle.ubi_map.specs.Letters.{header_letter, header_letters, row, state_letter}
 pub use Rattle.ubi_map.specs.Map.{block_texts, refused_page_data, surveyed_data}
 pub use Rattle.ubi_map.specs.Page.{page_of, script_byte}
-pub use Rattle.ubi_map.specs.PassedOver.{NoneAnchors, count_passed_over, passes_over}

@@ -3,4 +3,3 @@ pub mod Letters
 pub mod Map
 pub mod Page
 pub mod Laws
-pub mod PassedOver

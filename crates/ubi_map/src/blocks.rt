@@ -6,8 +6,7 @@ ghost use Rattle.ubi_map.specs.Letters.{header_letters};
 ghost use Rattle.ubi_map.specs.Map.{block_texts};
 ghost use Rattle.ubi_scan.specs.Image.{block};
 ghost use Rattle.ubi_scan.specs.Source.{Narrows, WhereHeld, blocks_in, blocks_of};
-ghost use Rattle.ubi_scan.specs.Stream.{NamesBlock, after};
-ghost use Rattle.ubi_volume.specs.Places.{IsReadFailure};
+ghost use Rattle.ubi_scan.specs.Stream.{IsReadFailure, NamesBlock, after};
 
 use crate::headers::header_text;
 use crate::letters::header_letter;

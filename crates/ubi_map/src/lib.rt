@@ -10,10 +10,8 @@ mod headers;
 pub mod laws;
 mod letters;
 mod page;
-mod passed_over;
 
 pub use blocks::{block_text, block_texts, header_letters};
 pub use headers::header_text;
 pub use letters::{put_rows, state_letters};
 pub use page::{refused_page, surveyed_page};
-pub use passed_over::{count_passed_over, first_anchor};

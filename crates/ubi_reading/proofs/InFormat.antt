@@ -1,8 +1,8 @@
 -- What is answered in a format for work over a file, or over two.
 use Rattle.ubi_reading.proofs.Prelude.{◌≡◌, ◌∙◌, ap, List, Result, Ok, IfOk, IfErr, IfSome, AllocError, IfOk-at_ok, inl, inr, subst, sym, ℕ, ◌⊎◌, first_broken, Narrows, holds, known_by, memory, after_run, IsJudgedOf, Fits, FitsWhole, seen, sizes_of, IsRead, ToolError, Sizes, Agreed, Source, Files, IsUnseen, file, no_file, places, whole, Tells, Dump, Unread, Outcome, IsUnreadOfAsked, IsUnreadOfBoth, OfAskedIn, OfBoth, OfBothIn, OfReadBoth, WhereRead, alike, no_left, no_right, unlike, OfFileIn, OfRead, OfReadAsked, failed, OfAsked, of_dump, untold, Asked, Format, IsLineIn, IsToldIn, its_own, printed, None, OfFile-weaker, read_at_places, read_by_bytes}
 use Rattle.std.specs.Prelude.{Err}
-use Rattle.ubi_dumps.specs.InFormat.{answered}
-use Rattle.ubi_dumps.specs.declared.format.Format.TheVariants as way
+use Rattle.ubi_reading.specs.InFormat.{answered}
+use Rattle.ubi_reading.specs.declared.format.Format.TheVariants as way
 
 -- what fails in plain lines, or what is answered, is what is told in a format
 told_of : (format : Format) (work : Result Outcome Unread) (fails answers : Outcome → Type 0) (o : Outcome) → IfOk work answers

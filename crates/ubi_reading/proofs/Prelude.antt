@@ -10,7 +10,6 @@ unfoldable pub use Rattle.std.specs.Fmt.{digits}
 pub use Rattle.std.specs.List.{flat_map}
 pub use Rattle.std.specs.Prelude.{All, IfErr, IfOk, IfSome, IsTrue, None, Ok, Result, decimal}
 pub use Rattle.std.specs.declared.alloc.AllocError.{AllocError}
-pub use Rattle.ubi_compare.proofs.Refusals.{refuses}
 pub use Rattle.ubi_compare.specs.declared.difference.Difference.{Difference}
 pub use Rattle.ubi_detect.specs.Detected.{AreDetectedOf, IsDetectError}
 pub use Rattle.ubi_detect.specs.Images.{AreImagesBeside}
@@ -22,12 +21,9 @@ pub use Rattle.ubi_dumps.proofs.Found.{no_read, tells_less}
 pub use Rattle.ubi_dumps.specs.Asked.{OfAsked, OfBoth, alike, no_left, no_right, of_dump, unlike, untold}
 pub use Rattle.ubi_dumps.specs.Ended.{answered, left_failed, right_failed}
 pub use Rattle.ubi_dumps.specs.FileAnswers.{WritesFile, kept, lost}
-pub use Rattle.ubi_dumps.specs.Formats.{undetected_in}
-pub use Rattle.ubi_dumps.specs.Formatted.{IsLineIn, IsToldIn, its_own, printed}
-pub use Rattle.ubi_dumps.specs.InFormat.{IsUnreadOfAsked, IsUnreadOfBoth, OfAskedIn, OfBothIn, OfFileIn, OfRead, OfReadAsked, OfReadBoth, failed}
-pub use Rattle.ubi_dumps.specs.Lines.{no_block_line, undetected_line}
+pub use Rattle.ubi_dumps.specs.Lines.{undetected_line}
+pub use Rattle.ubi_dumps.specs.Read.{IsUnreadOfAsked, IsUnreadOfBoth, OfRead, OfReadAsked, OfReadBoth}
 pub use Rattle.ubi_dumps.specs.declared.asked.Asked.{Asked}
-pub use Rattle.ubi_dumps.specs.declared.format.Format.{Format}
 pub use Rattle.ubi_files.proofs.Tells.{Tells-weaker}
 pub use Rattle.ubi_files.specs.AfterRun.{after_run}
 pub use Rattle.ubi_files.specs.Answer.{Gives, says}
@@ -66,6 +62,7 @@ pub use Rattle.ubi_table.specs.Records.{AreRecords, Records}
 pub use Rattle.ubi_volume.proofs.Gathered.{listed_at, listed_item}
 pub use Rattle.ubi_volume.proofs.NarrowedPlaces.{places_narrowed}
 pub use Rattle.ubi_volume.proofs.OfSurvey.{survey_narrowed}
+pub use Rattle.ubi_volume.proofs.Unattached.{refuses}
 pub use Rattle.ubi_volume.specs.Accepts.{Refuses}
 pub use Rattle.ubi_volume.specs.Amounts.{AmountIs}
 pub use Rattle.ubi_volume.specs.Meant.{Meant}
@@ -76,12 +73,17 @@ pub use Rattle.ubi_volume.specs.declared.content.Volume.{Volume}
 pub use Rattle.ubi_reading.specs.Check.{accepted, refused, state_line, surveyed, unsurveyed}
 unfoldable pub use Rattle.ubi_reading.specs.Check.{printed_states}
 pub use Rattle.ubi_reading.specs.Comparisons.{AnswersOf, ComparesOf, compared, compared_from, comparison_format, comparison_status, difference_line, differences_told, left_refused, left_refused_from, right_refused, right_refused_from, same_told}
+pub use Rattle.ubi_reading.specs.Formats.{undetected_in}
 pub use Rattle.ubi_reading.specs.Geometry.{Detects, detected, detected_from, geometry_told, options_lines, span_line, undetected, undetected_from}
 unfoldable pub use Rattle.ubi_reading.specs.Geometry.{options, sizes_options}
+pub use Rattle.ubi_reading.specs.InFormat.{OfAskedIn, OfBothIn, OfFileIn, failed}
+pub use Rattle.ubi_reading.specs.Lines.{no_block_line}
 pub use Rattle.ubi_reading.specs.List.{list_lines, listed, record_line, unlisted, volume_line}
 unfoldable pub use Rattle.ubi_reading.specs.List.{room_words, sizes_line}
 pub use Rattle.ubi_reading.specs.Map.{IsPageOf, Maps, MapsFrom, PicturesInto, accepted_page, mapped, mapped_from, no_blocks, no_blocks_from, no_page, pictured, refused_map, refused_map_from, refused_page, unpictured}
 pub use Rattle.ubi_reading.specs.Reads.{format_of, reads}
 pub use Rattle.ubi_reading.specs.Show.{Shows, no_block, no_block_from, no_image, no_size, shown, shown_from}
 pub use Rattle.ubi_reading.specs.declared.comparison.Comparison.{Comparison}
+pub use Rattle.ubi_reading.specs.declared.format.Format.{Format}
+pub use Rattle.ubi_reading.specs.inner.Formatted.{IsLineIn, IsToldIn, its_own, printed}
 pub use Rattle.ubi_reading.specs.inner.Pictured.{IsPageBy, by_cause, by_meaning}

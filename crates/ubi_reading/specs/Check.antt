@@ -15,9 +15,9 @@ use Rattle.ubi_files.specs.Answer.{Gives, says}
 use Rattle.ubi_json.specs.Check.{check_data}
 use Rattle.ubi_json.specs.Line.{json_line}
 use Rattle.ubi_json.specs.Words.{count_of}
-use Rattle.ubi_dumps.specs.Formats.{refusal_by_format}
-use Rattle.ubi_dumps.specs.declared.format.Format.{Format}
-use Rattle.ubi_dumps.specs.declared.format.Format.TheVariants as format
+use Rattle.ubi_reading.specs.Formats.{refusal_by_format}
+use Rattle.ubi_reading.specs.declared.format.Format.{Format}
+use Rattle.ubi_reading.specs.declared.format.Format.TheVariants as format
 use Rattle.ubi_files.specs.declared.outcome.Outcome.{Outcome}
 
 -- a number after its word

@@ -17,12 +17,13 @@ use Rattle.ubi_compare.specs.declared.difference.Side.TheVariants as side
 use Rattle.ubi_files.specs.Answer.{Gives, says}
 use Rattle.ubi_json.specs.Differences.{are_none, differences_data, same_data}
 use Rattle.ubi_json.specs.Line.{json_line}
-use Rattle.ubi_json.specs.Words.{condition_word, kind_word, shown, side_word}
-use Rattle.ubi_dumps.specs.Formats.{side_told}
-use Rattle.ubi_dumps.specs.Lines.{comparison_line}
+use Rattle.ubi_json.specs.Words.{condition_word, kind_word, side_word}
+use Rattle.ubi_words.specs.Shown.{shown}
+use Rattle.ubi_reading.specs.Formats.{side_told}
+use Rattle.ubi_reading.specs.Lines.{comparison_line}
 use Rattle.ubi_files.specs.declared.outcome.Outcome.{Outcome}
-use Rattle.ubi_dumps.specs.declared.format.Format.{Format}
-use Rattle.ubi_dumps.specs.declared.format.Format.TheVariants as format
+use Rattle.ubi_reading.specs.declared.format.Format.{Format}
+use Rattle.ubi_reading.specs.declared.format.Format.TheVariants as format
 use Rattle.ubi_reading.specs.declared.comparison.Comparison.{Comparison}
 use Rattle.ubi_reading.specs.declared.comparison.Comparison.TheVariants as comparison
 

@@ -13,9 +13,9 @@ use Rattle.ubi_detect.specs.declared.images.Span.{Span}
 use Rattle.ubi_files.specs.Answer.{Gives, says}
 use Rattle.ubi_json.specs.Geometry.{geometries_data}
 use Rattle.ubi_json.specs.Line.{json_line}
-use Rattle.ubi_dumps.specs.Formats.{undetected_in}
-use Rattle.ubi_dumps.specs.declared.format.Format.{Format}
-use Rattle.ubi_dumps.specs.declared.format.Format.TheVariants as format
+use Rattle.ubi_reading.specs.Formats.{undetected_in}
+use Rattle.ubi_reading.specs.declared.format.Format.{Format}
+use Rattle.ubi_reading.specs.declared.format.Format.TheVariants as format
 use Rattle.ubi_files.specs.declared.outcome.Outcome.{Outcome}
 use Rattle.ubi_files.specs.declared.view.FilePart.{FilePart}
 

@@ -1,6 +1,9 @@
 pub mod Check
 pub mod Comparisons
+pub mod Formats
 pub mod Geometry
+pub mod InFormat
+pub mod Lines
 pub mod List
 pub mod Map
 pub mod Reads

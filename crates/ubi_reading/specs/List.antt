@@ -17,13 +17,15 @@ use Rattle.ubi_volume.specs.Places.{ArePlacesError, ArePlacesOf, Placed}
 use Rattle.ubi_volume.specs.declared.block.Amount.{Amount}
 use Rattle.ubi_volume.specs.declared.content.Volume.{Volume}
 use Rattle.ubi_files.specs.Answer.{Gives, says}
-use Rattle.ubi_dumps.specs.Lines.{amount_word, layout_words}
+use Rattle.ubi_dumps.specs.Lines.{amount_word}
+use Rattle.ubi_dumps.specs.Lines.{layout_words}
 use Rattle.ubi_json.specs.Line.{json_line}
 use Rattle.ubi_json.specs.List.{list_data}
-use Rattle.ubi_json.specs.Words.{kind_word, shown}
-use Rattle.ubi_dumps.specs.Formats.{refusal_by_format}
-use Rattle.ubi_dumps.specs.declared.format.Format.{Format}
-use Rattle.ubi_dumps.specs.declared.format.Format.TheVariants as format
+use Rattle.ubi_json.specs.Words.{kind_word}
+use Rattle.ubi_words.specs.Shown.{shown}
+use Rattle.ubi_reading.specs.Formats.{refusal_by_format}
+use Rattle.ubi_reading.specs.declared.format.Format.{Format}
+use Rattle.ubi_reading.specs.declared.format.Format.TheVariants as format
 use Rattle.ubi_files.specs.declared.outcome.Outcome.{Outcome}
 
 -- the numbers that follow from sizes, and how many eraseblocks there are

@@ -7,8 +7,8 @@ use Rattle.ubi_reading.specs.List.{ListsOf}
 use Rattle.ubi_reading.specs.Map.{MapsOf, PicturesOf}
 use Rattle.ubi_reading.specs.Show.{ShowsOf}
 use Rattle.ubi_files.specs.declared.outcome.Outcome.{Outcome}
-use Rattle.ubi_dumps.specs.declared.format.Format.{Format}
-use Rattle.ubi_dumps.specs.declared.format.Format.TheVariants as format
+use Rattle.ubi_reading.specs.declared.format.Format.{Format}
+use Rattle.ubi_reading.specs.declared.format.Format.TheVariants as format
 use Rattle.ubi_reading.specs.declared.readers.Reading.{Reading}
 use Rattle.ubi_reading.specs.declared.readers.Reading.TheVariants as reading
 

@@ -6,7 +6,7 @@ use Rattle.ubi_scan.specs.Image.{Image, IsLengthFault, IsSizeFault, IsWholeImage
 use Rattle.ubi_scan.specs.Source.{Agreed, Source, WhereHeld, blocks_in}
 use Rattle.ubi_files.specs.Answer.{Gives, says}
 use Rattle.ubi_map.specs.Headers.{AreHeaderLines, block_lines}
-use Rattle.ubi_dumps.specs.Lines.{no_block_line}
+use Rattle.ubi_reading.specs.Lines.{no_block_line}
 use Rattle.ubi_files.specs.Lines.{refusal_line}
 use Rattle.ubi_files.specs.declared.outcome.Outcome.{Outcome}
 

@@ -1,2 +1,3 @@
 -- Definitions that only private functions' contracts and proofs cite.
+pub mod Formatted
 pub mod Pictured

@@ -7,8 +7,8 @@ ghost use Rattle.ubi_scan.specs.Source.{Narrows, WhereHeld};
 ghost use Rattle.ubi_files.specs.AfterRun.{IsNoWrite, after_run};
 ghost use Rattle.ubi_reading.specs.Check.{Checks, ChecksFrom, check_lines, check_told, number_line, printed_states, state_line, state_word};
 
+use crate::format::{Format, refusal_told};
 use std::alloc::{AllocError, Global};
-use ubi_dumps::{Format, refusal_told};
 use ubi_files::{DONE, FAILED, Outcome, ToolError, in_memory, put_number, put_word};
 use ubi_json::count_of;
 use ubi_media::Geometry;

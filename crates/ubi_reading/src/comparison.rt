@@ -16,19 +16,21 @@ ghost use Rattle.ubi_files.specs.Numbers.{sizes_of};
 ghost use Rattle.ubi_files.specs.OverFile.{IsUnseen};
 ghost use Rattle.ubi_files.specs.Told.{Tells};
 ghost use Rattle.ubi_reading.specs.Comparisons.{AnswersAny, AnswersOf, Compares, ComparesFrom, ComparesOf, comparison_format, comparison_status, differences_text, differences_told, same_told};
-ghost use Rattle.ubi_dumps.specs.Formats.{side_told};
-ghost use Rattle.ubi_dumps.specs.InFormat.{IsUnreadOfBoth, OfBothIn, OfRead, OfReadBoth, OfReadDumps};
+ghost use Rattle.ubi_reading.specs.Formats.{side_told};
+ghost use Rattle.ubi_reading.specs.InFormat.{OfBothIn};
+ghost use Rattle.ubi_dumps.specs.Read.{IsUnreadOfBoth, OfRead, OfReadBoth, OfReadDumps};
 ghost use Rattle.ubi_dumps.specs.Lines.{unlike_line};
 ghost use Rattle.ubi_dumps.specs.Ended.{IsUnreadSide, Works};
-ghost use Rattle.ubi_dumps.specs.Formatted.{IsUnseenOfDumps};
+ghost use Rattle.ubi_dumps.specs.Read.{IsUnseenOfDumps};
 ghost use Rattle.ubi_json.specs.Differences.{are_none};
 
 use crate::differences::put_differences;
+use crate::format::{Format, side_told, told_in};
+use crate::lines::put_comparison;
 use std::alloc::{AllocError, Global};
 use ubi_compare::{CompareFault, Difference, Side, diff_from, same_from};
 use ubi_dumps::{
-    Asked, Format, KnownDump, find_dump, open_known, put_comparison, remark_passed_over,
-    remark_start, side_told, told_in, unlike_line,
+    Asked, KnownDump, find_dump, open_known, remark_passed_over, remark_start, unlike_line,
 };
 use ubi_files::{
     DONE, Disk, Dump, FAILED, OpenImage, Outcome, SidesError, ToolError, Unread, frame_of,

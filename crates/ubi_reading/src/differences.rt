@@ -3,11 +3,12 @@
 ghost use Rattle.std.specs.Prelude.{◌≡◌, ◌++◌, ◌∷◌, [], OnOk, decimal, flat_map};
 ghost use Rattle.hex.specs.Hex.{encode_lower};
 ghost use Rattle.ubi_reading.specs.Comparisons.{difference_line, range_words, side_words, volume_words};
-ghost use Rattle.ubi_json.specs.Words.{shown};
+ghost use Rattle.ubi_words.specs.Shown.{shown};
 
+use crate::lines::put_digits;
 use std::alloc::{AllocError, Global};
 use ubi_compare::Difference;
-use ubi_dumps::{put_digits, put_shown};
+use ubi_dumps::put_shown;
 use ubi_files::{put_number, put_word};
 use ubi_json::{condition_word, kind_word, side_word};
 use ubi_media::VolName;

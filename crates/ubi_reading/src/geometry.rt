@@ -7,10 +7,10 @@ ghost use Rattle.ubi_files.specs.AfterRun.{IsNoWrite, after_run};
 ghost use Rattle.ubi_reading.specs.Geometry.{Detects, DetectsFrom, geometry_lines, geometry_told, is_whole_file, oob_option, options, options_line, options_lines, part_options, sizes_options, span_line};
 ghost use Rattle.ubi_files.specs.Views.{whole_file};
 
+use crate::format::{Format, undetected_told};
 use itoa::Buffer;
 use std::alloc::{AllocError, Global};
 use ubi_detect::{DetectError, Detected, Found, Span, detect_from};
-use ubi_dumps::{Format, undetected_told};
 use ubi_files::{
     DONE, FAILED, FilePart, Outcome, ToolError, WHOLE_FILE, in_memory, put_number, put_word,
 };

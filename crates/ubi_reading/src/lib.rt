@@ -5,7 +5,9 @@
 mod check;
 mod comparison;
 mod differences;
+mod format;
 mod geometry;
+mod lines;
 mod list;
 mod map;
 mod readers;
@@ -13,6 +15,7 @@ mod show;
 
 pub use check::run_check;
 pub use comparison::{Comparison, compare_files};
+pub use format::Format;
 pub use geometry::run_geometry;
 pub use list::run_list;
 pub use map::{map_file, run_map};

@@ -12,8 +12,10 @@ ghost use Rattle.ubi_reading.specs.List.{Lists, ListsFrom, list_lines, list_told
 ghost use Rattle.ubi_json.specs.List.{list_data, listed_volume};
 ghost use Rattle.ubi_json.specs.Line.{json_line};
 
+use crate::format::{Format, refusal_told};
+use crate::lines::put_digits;
 use std::alloc::{AllocError, Global};
-use ubi_dumps::{Format, put_amount, put_digits, put_layout, put_shown, refusal_told};
+use ubi_dumps::{put_amount, put_layout, put_shown};
 use ubi_files::{DONE, FAILED, Numbers, Outcome, ToolError, in_memory, put_number, put_word};
 use ubi_json::{ListedVolume, kind_word, list_line};
 use ubi_media::{Geometry, VolumeRecord};

@@ -6,21 +6,22 @@ ghost use Rattle.ubi_scan.specs.Source.{Narrows};
 ghost use Rattle.ubi_files.specs.AfterRun.{IsNoWrite, after_run};
 ghost use Rattle.ubi_files.specs.Answer.{Gives, says};
 ghost use Rattle.ubi_files.specs.Kept.{IsPartOf};
-ghost use Rattle.ubi_dumps.specs.InFormat.{IsUnreadOfAsked, OfAskedIn, OfFileIn, OfRead, OfReadAsked};
+ghost use Rattle.ubi_reading.specs.InFormat.{OfAskedIn, OfFileIn};
+ghost use Rattle.ubi_dumps.specs.Read.{IsUnreadOfAsked, OfRead, OfReadAsked};
 ghost use Rattle.ubi_files.specs.OverFile.{IsUnseen, OfFile};
 ghost use Rattle.ubi_files.specs.Told.{Tells};
 ghost use Rattle.ubi_files.specs.Lines.{file_line};
 ghost use Rattle.ubi_reading.specs.Reads.{format_of, reads};
 
 use crate::check::run_check_from;
+use crate::format::{Format, told_in};
 use crate::geometry::run_geometry_from;
 use crate::list::run_list_from;
 use crate::map::{run_map_from, run_page_from};
 use crate::show::run_show_from;
 use std::alloc::{AllocError, Global};
 use ubi_dumps::{
-    Asked, Format, KnownDump, find_dump, is_done, open_known, remark_passed_over, remark_start,
-    told_in,
+    Asked, KnownDump, find_dump, is_done, open_known, remark_passed_over, remark_start,
 };
 use ubi_files::{Disk, FilePart, OpenImage, Outcome, ToolError, Unread, frame_of, unread_file};
 use ubi_media::Geometry;

@@ -7,8 +7,8 @@ ghost use Rattle.ubi_files.specs.AfterRun.{IsNoWrite, after_run};
 ghost use Rattle.ubi_map.specs.Headers.{AreHeaderLines, block_lines};
 ghost use Rattle.ubi_reading.specs.Show.{Shows, ShowsFrom};
 
+use crate::lines::no_block_line;
 use std::alloc::{AllocError, Global};
-use ubi_dumps::no_block_line;
 use ubi_files::{DONE, FAILED, Outcome, ToolError, in_memory, refusal_line};
 use ubi_map::block_text;
 use ubi_media::Geometry;

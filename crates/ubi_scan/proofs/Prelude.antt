@@ -1,5 +1,5 @@
 -- The names that the proofs of this crate speak of, and where they come from.
-pub use Rattle.std.proofs.Common.{Bool, List, MutBor, T, [], ap, append_assoc, ap₂, arith, cond, drop, eqb, false, get_or, get_or-set_other, get_or-set_same, inl, inr, length, length-append, length-drop, length-set, length-take, length-take-le, map, not, refl, replicate, rules, set, slice_range, subst, suc, sym, take, true, w64, zero, ℕ, ◌&&◌, ◌*◌, ◌++◌, ◌+◌, ◌-◌, ◌/◌, ◌<◌, ◌==◌, ◌^◌, ◌||◌, ◌∙◌, ◌∷◌, ◌≡◌, ◌≢◌, ◌≤◌, ◌⊎◌}
+pub use Rattle.std.proofs.Common.{Bool, List, MutBor, T, [], ap, append_assoc, ap₂, arith, below_more, cond, drop, eqb, false, get_or, get_or-set_other, get_or-set_same, inl, inr, length, length-append, length-drop, length-set, length-take, length-take-le, map, not, refl, replicate, rules, set, slice_range, subst, suc, sym, take, true, w64, zero, ℕ, ◌&&◌, ◌*◌, ◌++◌, ◌+◌, ◌-◌, ◌/◌, ◌<◌, ◌==◌, ◌^◌, ◌||◌, ◌∙◌, ◌∷◌, ◌≡◌, ◌≢◌, ◌≤◌, ◌⊎◌}
 pub use Rattle.std.proofs.Math.Nat.{div-le_of_le-mul, div-mul-le_self, le-max_left, le-max_right}
 pub use Rattle.std.proofs.Math.Seq.{take-add, take-append-add}
 pub use Rattle.std.proofs.lemmas.Bool.{cases_eq, cases_lt, cases_order}
@@ -9,6 +9,7 @@ pub use Rattle.std.proofs.lemmas.Grind.{common_steps}
 pub use Rattle.std.proofs.lemmas.List.{drop-append-le, drop-drop, drop-replicate, drop-take, drop_at, get_or-take, get_or_append_left, get_or_at, get_or_default, length-replicate, map-append, replicate-append-replicate, same_lists, take-append-le, take-replicate, take-take, take_all, take_at, take_min, take_more}
 pub use Rattle.std.proofs.lemmas.List.Edits.{length-swap}
 pub use Rattle.std.proofs.lemmas.List.Elements.{All-replicate, filter_map-append}
+pub use Rattle.std.proofs.lemmas.List.FromFn.{sum_by-map-range_with_len_more}
 pub use Rattle.std.proofs.lemmas.List.Sorted.{IsPermutation-keeps}
 pub use Rattle.std.proofs.lemmas.List.Sums.{fold-append, sum_by-append}
 pub use Rattle.std.proofs.lemmas.Map.Keys.{le_from_not_gt, sorted_head, sorted_tail}
@@ -61,6 +62,7 @@ pub use Rattle.ubi_scan.specs.Faults.{HasFault, IsFirstFault, IsIncompatible, Is
 pub use Rattle.ubi_scan.specs.Image.{Image, IsLengthFault, IsWholeImage, IsWholeSize, block, ec, eraseblocks, leb, of_blocks, slots_in, vid}
 pub use Rattle.ubi_scan.specs.Members.{IsMember, Leb, NoMember, Wins, foreign, foreign_if, good_at, good_in, has_members, header, header_if, is_right, layout, leb_of, member, member_if, named_in, sqnum_at, sqnum_in}
 pub use Rattle.ubi_scan.specs.Numbers.{CounterFits, carriers, counters, image_seq, is_carrier, mean_ec, seq_if, seq_of, sqnum_in_use, top_sqnum, valid_ec}
+pub use Rattle.ubi_scan.specs.PassedOver.{NoneAnchors, count_passed_over, passes_over}
 pub use Rattle.ubi_scan.specs.Placed.{StandsAt}
 pub use Rattle.ubi_scan.specs.Scan.{AreStates, AreWinners, Found, IsDropped, IsHeader, IsScan, StateIs, kept_header, leb_cmp}
 pub use Rattle.ubi_scan.specs.Source.{Agreed, IsSource, Narrows, Source, WhereHeld, blocks_in, blocks_of, holds, memory}

@@ -32,6 +32,11 @@ abbrev pub IsReadFault : ℕ → StreamError → Type 0
 IsReadFault n (stream.Read p written) = (p < n) × (written ≡ 0)
 IsReadFault n _ = ⊥
 
+-- why a question about n eraseblocks has no answer: a read of one of them failed, or memory ran out
+abbrev pub IsReadFailure : ℕ → StreamError → Type 0
+IsReadFailure n stream.Memory = Unit {0}
+IsReadFailure n e = IsReadFault n e
+
 -- a failed read, which began at a place, names the eraseblock in which the place lies
 abbrev pub NamesBlock : Sizes → ℕ → StreamError → Type 0
 NamesBlock s at (stream.Read p written) = p ≡ at / s.peb_size

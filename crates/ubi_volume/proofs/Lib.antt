@@ -39,6 +39,7 @@ pub mod SomeContent
 pub mod SomeMismatch
 pub mod Static
 pub mod SurveyOf
+pub mod Unattached
 pub mod VolumeAt
 pub mod Winners
 pub mod WithoutBlank

@@ -80,7 +80,7 @@ pub use Rattle.ubi_scan.proofs.ReadParts.{data_of_read, length-leb}
 pub use Rattle.ubi_scan.proofs.Revalued.{find_revalued, get_revalued, order_same, revalued_is, sum_revalued, sums_same}
 pub use Rattle.ubi_scan.proofs.TrueTests.{both_are, true_is}
 pub use Rattle.ubi_scan.specs.Faults.{IsScanFault, NoFault}
-pub use Rattle.ubi_scan.specs.Image.{Image, IsSizeFault, IsWholeImage, IsWholeSize, block, ec, ec_area, eraseblocks, image_of, leb, of_blocks, seen_of, vid, vid_area}
+pub use Rattle.ubi_scan.specs.Image.{Image, IsLengthFault, IsSizeFault, IsWholeImage, IsWholeSize, block, ec, ec_area, eraseblocks, image_of, leb, of_blocks, seen_of, vid, vid_area}
 pub use Rattle.ubi_scan.specs.Members.{IsMember, Leb, NoMember, Wins, has_members, header, is_right, layout, leb_of, member, member_if, named_in}
 pub use Rattle.ubi_scan.specs.Numbers.{image_seq, seq_if, seq_of}
 pub use Rattle.ubi_scan.specs.Scan.{Found, IsNextWinner, IsScan, kept_header, leb_cmp}

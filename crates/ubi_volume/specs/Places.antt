@@ -91,8 +91,3 @@ ArePlacesError s k agrees (stream.Refused c) =
 ArePlacesError s k agrees (stream.Read p written) = IsWholeSize s k.size × IsReadFault (blocks_in s k) (stream.Read p written)
 ArePlacesError s k agrees (stream.Write _) = ⊥
 ArePlacesError s k agrees stream.Memory = Unit {0}
-
--- why a question about places has no answer: a read of one of n eraseblocks failed, or memory ran out
-abbrev pub IsReadFailure : ℕ → StreamError → Type 0
-IsReadFailure n stream.Memory = Unit {0}
-IsReadFailure n e = IsReadFault n e

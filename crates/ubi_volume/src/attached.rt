@@ -7,11 +7,11 @@ ghost use Rattle.ubi_media.specs.Record.{rec_fault};
 ghost use Rattle.ubi_media.specs.declared.vid.VolKind.TheVariants.{Dynamic};
 ghost use Rattle.ubi_scan.specs.Image.{image_of};
 ghost use Rattle.ubi_scan.specs.Source.{Narrows, WhereHeld, blocks_in};
-ghost use Rattle.ubi_scan.specs.Stream.{NamesBlock, after};
+ghost use Rattle.ubi_scan.specs.Stream.{IsReadFailure, NamesBlock, after};
 ghost use Rattle.ubi_volume.specs.Accepts.{IsAttachError, Accepts};
 ghost use Rattle.ubi_volume.specs.Attached.{IsAttached};
 ghost use Rattle.ubi_volume.specs.Extract.{extent_in, read_text};
-ghost use Rattle.ubi_volume.specs.Places.{ArePlacesError, ArePlacesOf, IsReadFailure};
+ghost use Rattle.ubi_volume.specs.Places.{ArePlacesError, ArePlacesOf};
 ghost use Rattle.ubi_volume.specs.Survey.{IsAttachedOf};
 ghost use Rattle.ubi_volume.specs.inner.Gathered.{IsContentOf};
 

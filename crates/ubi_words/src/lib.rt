@@ -1,4 +1,4 @@
-//! Words of a text: where bytes are cut, and the numbers that decimal digits stand for.
+//! Words of a text: where bytes are cut, the numbers that decimal digits stand for, and names as they are shown.
 //!
 //! The config, the composer's text and the words of a command line are read with them.
 //!
@@ -19,6 +19,8 @@
 
 mod at_byte;
 mod decimal;
+mod shown;
 
 pub use at_byte::cut;
 pub use decimal::{decimal_of, decimal_within, number_of, number_within};
+pub use shown::shown_text;

@@ -30,7 +30,6 @@ pub use Rattle.ubi_change.specs.RenamePlanned.{IsPlannedRename, IsRenameError}
 pub use Rattle.ubi_change.specs.Renamed.{renamed}
 pub use Rattle.ubi_change.specs.Steps.{after_text, blocks_after, step_done}
 pub use Rattle.ubi_change.specs.declared.step.Step.{Step}
-pub use Rattle.ubi_compare.proofs.Refusals.{refuses}
 pub use Rattle.ubi_compose.proofs.NormalForm.{count-composed, count-normal_bytes}
 pub use Rattle.ubi_compose.specs.Building.{CanBuild, IsBuildError, WhereNotBegun, image_built, known_after}
 pub use Rattle.ubi_compose.specs.Built.{HaveMeaning, Parts}
@@ -39,7 +38,6 @@ pub use Rattle.ubi_compose.specs.Normal.{normal_blocks}
 pub use Rattle.ubi_compose.specs.Streamed.{HasGot, IsStreamed}
 pub use Rattle.ubi_compose.specs.TextLaws.{ComesTo}
 unfoldable pub use Rattle.ubi_compose.specs.Words.{shown_name}
-pub use Rattle.ubi_compose.specs.declared.built_image.Part.{Part}
 pub use Rattle.ubi_compose.specs.declared.errors.BuildError.{BuildError}
 pub use Rattle.ubi_config.specs.Config.{sections_of}
 unfoldable pub use Rattle.ubi_config.specs.Config.{first_config_fault}
@@ -51,7 +49,6 @@ pub use Rattle.ubi_dumps.proofs.Outcomes.{holds_received, kept_after, kept_since
 pub use Rattle.ubi_dumps.specs.Asked.{of_dump, untold}
 pub use Rattle.ubi_dumps.specs.Ended.{IsEnded, Works, answered, no_read, no_source, no_write, outcome, read_failed, unopened}
 pub use Rattle.ubi_dumps.specs.FileAnswers.{WritesFile}
-pub use Rattle.ubi_dumps.specs.Lines.{blocks_line, bytes_line}
 pub use Rattle.ubi_files.proofs.FileRows.{row_sized, sum_cons}
 pub use Rattle.ubi_files.proofs.Tells.{Tells-weaker}
 pub use Rattle.ubi_files.specs.AfterRun.{WhereNotDone, after_run}
@@ -69,6 +66,7 @@ pub use Rattle.ubi_files.specs.declared.numbers.Numbers.{Numbers}
 pub use Rattle.ubi_files.specs.declared.outcome.Outcome.{Outcome}
 pub use Rattle.ubi_files.specs.declared.outcome.ToolError.{ToolError}
 pub use Rattle.ubi_laid.proofs.Lists.{all_append}
+pub use Rattle.ubi_laid.specs.declared.part.Part.{Part}
 pub use Rattle.ubi_media.specs.Fields.{blank}
 pub use Rattle.ubi_media.specs.Geometry.{IsGeometry, Sizes}
 unfoldable pub use Rattle.ubi_media.specs.Limits.{first_broken}
@@ -85,6 +83,7 @@ pub use Rattle.ubi_volume.proofs.Extracted.{len_none, len_some}
 pub use Rattle.ubi_volume.proofs.Gathered.{listed_at}
 pub use Rattle.ubi_volume.proofs.NarrowedPlaces.{places_narrowed}
 pub use Rattle.ubi_volume.proofs.Received.{error_as}
+pub use Rattle.ubi_volume.proofs.Unattached.{refuses}
 pub use Rattle.ubi_volume.specs.Accepts.{Accepts, AcceptsBlocks}
 pub use Rattle.ubi_volume.specs.Extract.{extent_in, extent_len, extent_of, read_text}
 pub use Rattle.ubi_volume.specs.Meant.{Meant, records_of}
@@ -99,6 +98,7 @@ pub use Rattle.ubi_writing.specs.Change.{Changes, ChangesFrom, CutMeans, HasPlan
 pub use Rattle.ubi_writing.specs.Compose.{Composes, ComposesInto, ComposesOf, crowded, fits, unmade, unread}
 pub use Rattle.ubi_writing.specs.Extract.{Extracts, HasTextIn, HasVolumeText, IsExtractError, ReadsVolume, accepted, read, read_key, refused, refused_from, unread_from, wrote}
 pub use Rattle.ubi_writing.specs.Key.{number_in}
+pub use Rattle.ubi_writing.specs.Lines.{blocks_line, bytes_line}
 pub use Rattle.ubi_writing.specs.Normalise.{HasMeaning, IsNormaliseError, Normalises, wrote_nothing}
 pub use Rattle.ubi_writing.specs.Outputs.{OfText, WritesInto, WritesPlan, avoided, no_first_pages, no_last_image, no_list, no_pages, no_sizes, no_text, off_grid, on_grid, planned, text_limit, unwritten, with_list, written}
 pub use Rattle.ubi_writing.specs.Plan.{CutAccepts, IsCarryFault, cut_bytes, cut_text, plan_answer, plan_lines, step_line, steps_done}

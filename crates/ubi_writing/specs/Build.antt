@@ -17,12 +17,12 @@ use Rattle.ubi_config.specs.declared.section.Section.{Section}
 use Rattle.ubi_compose.specs.Building.{image_built}
 use Rattle.ubi_compose.specs.Built.{HaveMeaning, IsRecipeError, Parts, most_blocks}
 use Rattle.ubi_compose.specs.declared.errors.RecipeError.TheVariants as recipe
-use Rattle.ubi_compose.specs.declared.built_image.Part.{Part}
+use Rattle.ubi_laid.specs.declared.part.Part.{Part}
 use Rattle.ubi_volume.specs.declared.errors.MeaningCause.{MeaningCause}
 use Rattle.ubi_files.specs.Answer.{Gives, says}
 use Rattle.ubi_writing.specs.Compose.{meaning_line, room_line}
 use Rattle.ubi_files.specs.Disk.{AllStay, Files, Holds, fresh}
-use Rattle.ubi_dumps.specs.Lines.{blocks_line}
+use Rattle.ubi_writing.specs.Lines.{blocks_line}
 use Rattle.ubi_files.specs.Lines.{file_line, refused_line}
 use Rattle.ubi_files.specs.Row.{row_bytes}
 use Rattle.ubi_files.specs.declared.outcome.Outcome.{Outcome}

@@ -16,7 +16,7 @@ use Rattle.ubi_compose.specs.declared.errors.SpecCause.{SpecCause}
 use Rattle.ubi_compose.specs.declared.errors.SpecError.TheVariants as spec
 use Rattle.ubi_files.specs.Answer.{Answer, Gives, says}
 use Rattle.ubi_files.specs.Disk.{Files, Receives}
-use Rattle.ubi_dumps.specs.Lines.{blocks_line}
+use Rattle.ubi_writing.specs.Lines.{blocks_line}
 use Rattle.ubi_files.specs.Lines.{file_line, refused_line}
 use Rattle.ubi_files.specs.declared.outcome.Outcome.{Outcome}
 

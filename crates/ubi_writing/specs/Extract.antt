@@ -17,7 +17,7 @@ use Rattle.ubi_volume.specs.declared.errors.ReadError.TheVariants as error
 use Rattle.ubi_compose.specs.Streamed.{HasGot}
 use Rattle.ubi_files.specs.Answer.{Gives, says}
 use Rattle.ubi_writing.specs.Key.{number_in}
-use Rattle.ubi_dumps.specs.Lines.{bytes_line}
+use Rattle.ubi_writing.specs.Lines.{bytes_line}
 use Rattle.ubi_files.specs.Lines.{refusal_line, refused_line}
 use Rattle.ubi_files.specs.declared.outcome.Outcome.{Outcome}
 use Rattle.ubi_files.specs.declared.outcome.ToolError.{ToolError}

@@ -3,6 +3,7 @@ pub mod Change
 pub mod Compose
 pub mod Extract
 pub mod Key
+pub mod Lines
 pub mod Normalise
 pub mod Outputs
 pub mod Plan

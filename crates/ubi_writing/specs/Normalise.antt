@@ -12,7 +12,7 @@ use Rattle.ubi_volume.specs.Places.{ArePlacesError}
 use Rattle.ubi_compose.specs.Normal.{normal_blocks, normal_bytes}
 use Rattle.ubi_compose.specs.Streamed.{IsNormaliseToError, IsNormalisedTo}
 use Rattle.ubi_files.specs.Answer.{Gives, says}
-use Rattle.ubi_dumps.specs.Lines.{blocks_line}
+use Rattle.ubi_writing.specs.Lines.{blocks_line}
 use Rattle.ubi_files.specs.Lines.{refusal_line}
 use Rattle.ubi_files.specs.declared.outcome.Outcome.{Outcome}
 use Rattle.ubi_files.specs.declared.outcome.ToolError.{ToolError}

@@ -23,7 +23,7 @@ use Rattle.ubi_config.specs.declared.volume.ConfigVolume.{ConfigVolume}
 use Rattle.ubi_files.specs.Answer.{Gives, says}
 use Rattle.ubi_files.specs.Disk.{AllStay, Files, IsKept, OthersStay, fresh}
 use Rattle.ubi_files.specs.Lines.{file_line, refusal_line}
-use Rattle.ubi_json.specs.Words.{shown, byte_shown}
+use Rattle.ubi_words.specs.Shown.{shown, byte_shown}
 use Rattle.ubi_dumps.specs.Lines.{amount_word}
 use Rattle.ubi_files.specs.declared.outcome.Outcome.{Outcome}
 

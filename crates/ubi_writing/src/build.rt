@@ -16,13 +16,14 @@ ghost use Rattle.ubi_writing.specs.inner.Built.{AreAnswers, IsNotBegun, IsToldOf
 
 use crate::compose::{meaning_line, room_line};
 use crate::gathered::{ConfigPaths, Gathered, config_line, gather};
+use crate::lines::{LONGEST_COUNT_LINE, put_blocks_line};
 use crate::orders::NewImage;
 use crate::spec_file::load_spec;
 use std::alloc::{AllocError, Global};
 use std::marker::Brand;
 use ubi_compose::{BuildError, Recipe, RecipeError, build_to};
 use ubi_config::{ConfigError, Section, parse_config};
-use ubi_dumps::{LONGEST_COUNT_LINE, keep_file, put_blocks_line, unwritten_line};
+use ubi_dumps::{keep_file, unwritten_line};
 use ubi_files::{DONE, Disk, FAILED, FileRow, LateFile, Numbers, Outcome, Target, unread_line};
 use ubi_media::Geometry;
 use ubi_scan::{BlockSource, FileSource};

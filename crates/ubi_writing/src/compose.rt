@@ -5,11 +5,12 @@ ghost use Rattle.ubi_writing.specs.Compose.{Composes, ComposesInto, ComposesOf, 
 ghost use Rattle.ubi_files.specs.Disk.{AllStay, OthersStay, Stays};
 ghost use Rattle.ubi_writing.specs.Outputs.{OfText};
 
+use crate::lines::blocks_line;
 use crate::orders::NewImage;
 use crate::spec_file::load_spec;
 use std::alloc::{AllocError, Global};
 use ubi_compose::{ComposeError, SpecCause, SpecError, compose, parse_spec};
-use ubi_dumps::{blocks_line, write_outcome};
+use ubi_dumps::write_outcome;
 use ubi_files::{DONE, Disk, FAILED, Numbers, Outcome, refused};
 use ubi_media::Geometry;
 use ubi_volume::{Meaning, MeaningCause};

@@ -10,10 +10,10 @@ ghost use Rattle.ubi_writing.specs.inner.Extracting.{IsExtractFault};
 ghost use Rattle.ubi_writing.specs.inner.Extracting.{IsHidden};
 ghost use Rattle.ubi_volume.specs.Places.{ArePlacesOf};
 
+use crate::lines::{LONGEST_COUNT_LINE, put_bytes_line};
 use crate::volume_key::VolumeKey;
 use std::alloc::Global;
 use std::io::Write;
-use ubi_dumps::{LONGEST_COUNT_LINE, put_bytes_line};
 use ubi_files::{DONE, FAILED, Outcome, ToolError, refusal_line, refused};
 use ubi_media::Geometry;
 use ubi_scan::{BlockSource, MemorySource, StreamError};

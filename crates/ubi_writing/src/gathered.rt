@@ -11,9 +11,9 @@ ghost use Rattle.ubi_media.specs.Geometry.{Sizes};
 
 use std::alloc::{AllocError, Global};
 use std::path::Path;
-use ubi_compose::Part;
 use ubi_config::{ConfigCause, ConfigError, Section};
 use ubi_files::{Disk, FAILED, Outcome, SizedFile, Unread, refused, unread_line};
+use ubi_laid::Part;
 use ubi_media::Geometry;
 use ubi_scan::PlacedFile;
 
@@ -83,7 +83,10 @@ fn find_image<D: Disk>(
             file: Some(file),
             unread,
         }),
-        None => Err(Unread::Told(unread)),
+        None => {
+            disk.tell_unplaced(path.as_str(), paths.out);
+            Err(Unread::Told(unread))
+        },
     }
 }
 

@@ -6,10 +6,10 @@ ghost use Rattle.ubi_scan.specs.Source.{Narrows, WhereHeld};
 ghost use Rattle.ubi_files.specs.AfterRun.{WhereNotDone, after_run};
 ghost use Rattle.ubi_writing.specs.Normalise.{IsNormaliseError, Normalises, NormalisesTo};
 
+use crate::lines::{LONGEST_COUNT_LINE, put_blocks_line};
 use std::alloc::Global;
 use std::io::Write;
 use ubi_compose::normalise_to;
-use ubi_dumps::{LONGEST_COUNT_LINE, put_blocks_line};
 use ubi_files::{DONE, FAILED, Outcome, ToolError, refusal_line};
 use ubi_media::Geometry;
 use ubi_scan::{BlockSource, StreamError};

@@ -7,7 +7,7 @@ use Rattle.ubi_reading.specs.Comparisons.{Compares}
 use Rattle.ubi_reading.specs.List.{Lists}
 use Rattle.ubi_reading.specs.Map.{Maps}
 use Rattle.ubi_reading.specs.Show.{Shows}
-use Rattle.ubi_dumps.specs.declared.format.Format.TheVariants as format
+use Rattle.ubi_reading.specs.declared.format.Format.TheVariants as format
 use Rattle.ubi_calls.specs.declared.lines.Question.{Question}
 use Rattle.ubi_calls.specs.declared.lines.Question.TheVariants as question
 

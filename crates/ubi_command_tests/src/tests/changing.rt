@@ -4,7 +4,6 @@ use std::alloc::Global;
 use std::test::Fail;
 use ubi_change::Avoided;
 use ubi_compose::normalise_to;
-use ubi_dumps::Format;
 use ubi_files::Outcome;
 use ubi_probe::pebs::{
     A, B, BOOT_0, BOOT_1, C, ERASED, FIRST, FIRST_BOOT, FIRST_OF_5, FIRST_UPDATING, NEWER_BOOT_0,
@@ -12,7 +11,7 @@ use ubi_probe::pebs::{
     WRONG_6, WRONG_9, small, small_image,
 };
 use ubi_probe::{ChangingSource, Failure, ProbeWriter};
-use ubi_reading::{Comparison, Reading};
+use ubi_reading::{Comparison, Format, Reading};
 use ubi_scan::{MemorySource, StreamError};
 use ubi_volume::{Places, attach_places};
 use ubi_writing::{NewBytes, run_change, run_change_from, run_rename, run_rename_from};

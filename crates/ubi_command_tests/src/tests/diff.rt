@@ -2,11 +2,10 @@
 
 use super::contents::Contents;
 use std::test::Fail;
-use ubi_dumps::Format;
 use ubi_files::SidesError;
 use ubi_probe::ProbeSource;
 use ubi_probe::pebs::{A, B, C, FIRST, SECOND, small};
-use ubi_reading::Comparison;
+use ubi_reading::{Comparison, Format};
 
 /// The image of `root` with another first byte in logical eraseblock 0 and another last one in 2.
 const BOTH_ENDS: Contents = Contents::Pebs(

@@ -5,11 +5,11 @@ use std::process::Abort;
 use std::test::Fail;
 use ubi_compare::Difference;
 use ubi_detect::{Detected, Span};
-use ubi_dumps::blocks_line;
 use ubi_files::{FilePart, refusal_line};
 use ubi_json::{differences_line, error_line, geometry_line};
 use ubi_media::Refusal;
 use ubi_probe::pebs::small;
+use ubi_writing::blocks_line;
 
 /// Asserts that a line was made, and is another.
 fn assert_made(rt: &impl Abort, made: Result<Vec<u8>, AllocError>, line: &str) {

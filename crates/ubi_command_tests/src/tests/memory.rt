@@ -14,14 +14,13 @@ use super::shown::{
 use std::alloc::{AllocError, Global};
 use std::process::Abort;
 use std::test::Fail;
-use ubi_dumps::Format;
 use ubi_files::{Outcome, SidesError, ToolError};
 use ubi_media::Geometry;
 use ubi_probe::pebs::{
     NORMAL_A, NORMAL_B, NORMAL_C, Peb, ROOT_FIRST, ROOT_SECOND, UNNAMED_FREE, image_of, small,
 };
 use ubi_probe::texts::bytes_of;
-use ubi_reading::{Comparison, run_check, run_geometry, run_list, run_show};
+use ubi_reading::{Comparison, Format, run_check, run_geometry, run_list, run_show};
 use ubi_scan::MemorySource;
 use ubi_writing::{VolumeKey, run_change, run_compose, run_extract, run_normalise, run_rename};
 

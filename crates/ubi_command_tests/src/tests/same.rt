@@ -3,11 +3,10 @@
 use super::contents::Contents;
 use std::alloc::Global;
 use std::test::Fail;
-use ubi_dumps::Format;
 use ubi_files::SidesError;
 use ubi_probe::ProbeSource;
 use ubi_probe::pebs::small;
-use ubi_reading::Comparison;
+use ubi_reading::{Comparison, Format};
 
 /// Whether a comparison, of which each side fails at one read, counted from 1, answers a line with its status, or the
 /// side that failed. 0 is no read.

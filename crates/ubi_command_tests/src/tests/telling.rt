@@ -99,6 +99,8 @@ impl<'a> Disk for Telling<'a> {
         self.placed_at(path)
     }
 
+    fn tell_unplaced(&self, _path: &str, _out: &str) {}
+
     fn may_be_one(&self, path: &str, other: &str) -> bool {
         path == other
     }

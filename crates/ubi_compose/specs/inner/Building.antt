@@ -1,28 +1,20 @@
 -- The pieces that are built from parts; and what takes the place of the bytes when volumes are judged.
-use Rattle.std.specs.Prelude.{ℕ, ◌+◌, ◌*◌, ◌^◌, ◌<◌, ◌&&◌, Bool, List, [], if◌then◌else◌, find, flat_map, is_none, nat_lt, not, option_map, Option, ◌==◌}
+use Rattle.std.specs.Prelude.{ℕ, ◌^◌, ◌<◌, ◌&&◌, List, [], if◌then◌else◌, find, flat_map, not, option_map, Option, ◌==◌}
 use Rattle.std.specs.FinMap as finite
 use Rattle.std.specs.List.{range_with_len}
 use Rattle.std.specs.Option.{option_map_or}
 use Rattle.ubi_media.specs.Geometry.{Sizes, slots}
-use Rattle.ubi_media.specs.Record.{data_pad, rec_bytes, rec_fault, usable}
-use Rattle.ubi_media.specs.Vid.{plain}
-use Rattle.ubi_media.specs.declared.vid.VidHeader.{VidHeader}
+use Rattle.ubi_media.specs.Record.{rec_bytes}
 use Rattle.ubi_media.specs.declared.vid.VolKind.{VolKind}
 use Rattle.ubi_media.specs.declared.vid.VolKind.TheVariants as kind
-use Rattle.ubi_volume.specs.Extract.{share_len}
 use Rattle.ubi_volume.specs.declared.content.Content.{Content}
 use Rattle.ubi_volume.specs.declared.content.Content.TheVariants as content
 use Rattle.ubi_volume.specs.declared.content.Volume.{Volume}
-use Rattle.ubi_laid.specs.Laid.{piece_header}
-use Rattle.ubi_compose.specs.Built.{Parts, Reaches, pieces_of}
-use Rattle.ubi_compose.specs.declared.pieces.Origin.TheVariants as origin
-use Rattle.ubi_compose.specs.declared.pieces.Piece.{Piece}
-use Rattle.ubi_compose.specs.declared.built_image.Part.{Part}
+use Rattle.ubi_compose.specs.Built.{Parts}
+use Rattle.ubi_laid.specs.Parts.{Reaches, is_long_part, pieces_of}
+use Rattle.ubi_laid.specs.Pieces.{built_piece}
+use Rattle.ubi_laid.specs.declared.part.Part.{Part}
 use Rattle.ubi_compose.specs.inner.Pieces.{Pieces}
-
--- a part has more bytes than its volume holds; nothing is said if its record breaks a rule
-abbrev pub is_long_part : Sizes → Part → Bool
-is_long_part s p = is_none (rec_fault s p.entry) && nat_lt (p.entry.reserved * usable s p.entry) p.len
 
 -- a content with no bytes
 abbrev pub empty_of : VolKind → Content
@@ -51,23 +43,6 @@ abbrev pub table_of : Parts → List ℕ
 table_of ps =
     flat_map (λ slot. rec_bytes ps.sizes (option_map (λ p. p.entry) (part_at ps slot)))
     (range_with_len 0 (slots ps.sizes))
-
--- the header of a piece of a part, without its CRC, by the kind of the volume
-abbrev pub part_header : VolKind → Sizes → Part → ℕ → ℕ → VidHeader
-part_header kind.Static s p lnum len = piece_header (plain kind.Static 0 (data_pad s p.entry) p.id lnum) (pieces_of s p) len 0
-part_header kind.Dynamic s p lnum len = plain kind.Dynamic 0 (data_pad s p.entry) p.id lnum
-
--- a piece of a part, by the kind of the volume
-abbrev pub piece_of_kind : VolKind → Sizes → Part → ℕ → Piece
-piece_of_kind k s p lnum = record {
-  header = part_header k s p lnum (share_len (usable s p.entry) p.len lnum);
-  origin = origin.Bytes (p.start + lnum * usable s p.entry);
-  len = share_len (usable s p.entry) p.len lnum;
-}
-
--- a piece of a part, by the part alone
-abbrev pub built_piece : Sizes → Part → ℕ → Piece
-built_piece s p = piece_of_kind p.entry.kind s p
 
 -- the pieces of all parts
 abbrev pub built_pieces : Parts → Pieces

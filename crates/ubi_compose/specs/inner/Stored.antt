@@ -12,8 +12,8 @@ use Rattle.ubi_volume.specs.Places.{Placed}
 use Rattle.ubi_volume.specs.declared.places.PlaceContent.{PlaceContent}
 use Rattle.ubi_volume.specs.declared.places.PlaceContent.TheVariants as place
 use Rattle.ubi_laid.specs.Laid.{damaged_block, piece_header}
-use Rattle.ubi_compose.specs.declared.pieces.Origin.TheVariants as origin
-use Rattle.ubi_compose.specs.declared.pieces.Piece.{Piece}
+use Rattle.ubi_laid.specs.declared.pieces.Origin.TheVariants as origin
+use Rattle.ubi_laid.specs.declared.pieces.Piece.{Piece}
 use Rattle.ubi_compose.specs.inner.Pieces.{Pieces}
 
 -- the one piece of a damaged volume

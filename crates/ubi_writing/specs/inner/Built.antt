@@ -8,7 +8,7 @@ use Rattle.ubi_files.specs.Answer.{Gives, says}
 use Rattle.ubi_writing.specs.Build.{IsUnreadLine, image_paths}
 use Rattle.ubi_writing.specs.inner.Gathering.{AreUnread}
 use Rattle.ubi_writing.specs.Compose.{room_line}
-use Rattle.ubi_dumps.specs.Lines.{blocks_line}
+use Rattle.ubi_writing.specs.Lines.{blocks_line}
 use Rattle.ubi_files.specs.Lines.{file_line}
 use Rattle.ubi_writing.specs.declared.build.Answers.{Answers}
 use Rattle.ubi_files.specs.declared.outcome.Outcome.{Outcome}

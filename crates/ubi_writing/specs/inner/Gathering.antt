@@ -4,7 +4,7 @@ use Rattle.ubi_media.specs.Geometry.{Sizes}
 use Rattle.ubi_media.specs.declared.record.VolumeRecord.{VolumeRecord}
 use Rattle.ubi_config.specs.Records.{record_in}
 use Rattle.ubi_config.specs.declared.section.Section.{Section}
-use Rattle.ubi_compose.specs.declared.built_image.Part.{Part}
+use Rattle.ubi_laid.specs.declared.part.Part.{Part}
 use Rattle.ubi_writing.specs.Build.{AreGathered, IsUnreadLine, Sized, image_path, len_of, section_part}
 use Rattle.ubi_files.specs.Disk.{Files}
 use Rattle.ubi_files.specs.declared.outcome.Outcome.{Outcome}

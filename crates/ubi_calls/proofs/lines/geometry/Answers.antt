@@ -1,5 +1,5 @@
 use Rattle.ubi_calls.proofs.Prelude.{whole_file, Detects, printed}
-use Rattle.ubi_dumps.specs.declared.format.Format.TheVariants as format
+use Rattle.ubi_reading.specs.declared.format.Format.TheVariants as format
 use Rattle.ubi_calls.proofs.ToldOutcomes.{fills, prints}
 use Rattle.ubi_calls.proofs.lines.geometry.Goals as goal
 

@@ -1,5 +1,5 @@
 use Rattle.ubi_compose.proofs.Prelude.{IsInBuffer, ◌∙◌, sym, anything, NoRead, piece_bytes}
-use Rattle.ubi_compose.proofs.ReadBytes.{none_laid, piece_laid}
+use Rattle.ubi_compose.proofs.LaidOfRead.{none_laid, piece_laid}
 use Rattle.ubi_compose.proofs.Received.{put_none, put_where}
 use Rattle.ubi_compose.proofs.writer.put_read.Goals as goal
 

@@ -1,6 +1,5 @@
-use Rattle.ubi_compose.proofs.Prelude.{◌≡◌, ◌+◌, ◌-◌, ◌≤◌, ◌∙◌, ap, arith, List, ℕ, drop, length, length-take-le, subst, take, sym, VidHeader, laid_bytes, new_ec, anything, NoRead, table_block}
+use Rattle.ubi_compose.proofs.Prelude.{◌≡◌, ◌+◌, ◌-◌, ◌≤◌, ◌∙◌, ap, arith, List, ℕ, drop, length, length-take-le, subst, take, sym, VidHeader, laid_bytes, new_ec, anything, NoRead, table_block, text_is}
 use borrow.Rule.Slice.PartMut.{post_of, put_mid}
-use Rattle.ubi_compose.proofs.ReadBytes.{text_is}
 use Rattle.ubi_compose.proofs.Received.{put_where}
 use Rattle.ubi_compose.proofs.writer.put_table.Goals as goal
 

@@ -6,7 +6,7 @@ use Rattle.ubi_compare.specs.Compared.{IsCompareFault}
 use Rattle.ubi_same.proofs.SameImages.{is_same}
 use Rattle.ubi_scan.specs.declared.errors.StreamError.TheVariants as stream
 use Rattle.ubi_compare.specs.declared.errors.CompareFault.TheVariants as fault
-use Rattle.ubi_compare.proofs.Refusals.{refuses}
+use Rattle.ubi_volume.proofs.Unattached.{refuses}
 use Rattle.ubi_same.proofs.compared.same.Goals as goal
 
 pub returns-in-Ok-clause-answer : goal.returns-in-Ok-clause-answer

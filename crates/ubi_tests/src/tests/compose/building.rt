@@ -3,7 +3,8 @@
 use super::images::{Image, composed};
 use std::alloc::Global;
 use std::test::Fail;
-use ubi_compose::{BuildError, Part, Recipe, RecipeError, build_to};
+use ubi_compose::{BuildError, Recipe, RecipeError, build_to};
+use ubi_laid::Part;
 use ubi_media::{Geometry, VolKind, VolName, VolumeRecord};
 use ubi_probe::pebs::small;
 use ubi_probe::texts::bytes_of;

@@ -3,7 +3,8 @@
 use super::images::composed;
 use std::alloc::Global;
 use std::test::Fail;
-use ubi_compose::{Part, Recipe, build_to, normalise_to};
+use ubi_compose::{Recipe, build_to, normalise_to};
+use ubi_laid::Part;
 use ubi_media::Geometry;
 use ubi_probe::chips::{PAGES, SUBPAGES};
 use ubi_probe::pebs::IMAGE;

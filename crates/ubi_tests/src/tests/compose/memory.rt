@@ -2,7 +2,8 @@
 
 use std::alloc::Global;
 use std::test::Fail;
-use ubi_compose::{BuildError, Part, Recipe, RecipeError, SpecError, build_to, parse_spec};
+use ubi_compose::{BuildError, Recipe, RecipeError, SpecError, build_to, parse_spec};
+use ubi_laid::Part;
 use ubi_probe::pebs::small;
 use ubi_probe::records::BOOT;
 use ubi_probe::{Failure, ProbeWriter};

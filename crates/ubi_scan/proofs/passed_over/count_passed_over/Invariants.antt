@@ -1,0 +1,11 @@
+use Rattle.ubi_scan.proofs.Prelude.{◌≡◌, ◌≤◌, Narrows, WhereHeld, blocks_of, count_passed_over}
+use Rattle.ubi_scan.proofs.passed_over.count_passed_over.Given as goal
+
+abbrev pub invariant-loop-p : goal.invariant-loop-p
+invariant-loop-p g l = record {
+  known : g.S.BlockSource.known l.source ≡ g.S.BlockSource.known l.fn.source;
+  narrows : Narrows (g.S.BlockSource.agrees l.fn.source) (g.S.BlockSource.agrees l.source);
+  few : l.passed ≤ l.p;
+  counted : WhereHeld (g.S.BlockSource.agrees l.source)
+      (λ bytes. l.passed ≡ count_passed_over l.geometry (blocks_of l.geometry bytes) l.p);
+}
