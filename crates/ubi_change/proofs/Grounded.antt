@@ -2,12 +2,11 @@
 use Rattle.ubi_change.proofs.Prelude.{◌≡◌, ℕ, subst, List, Option, Sizes, Agreed, Narrows, Source, Seen, BlockState, AreHoldersOf, IsSiteAt, IsGroundOf, Avoided, Ground, Holders, Site, survey_narrowed}
 
 module _ (s : Sizes) (k : Source) (old new : Agreed) where
-  pub ground_narrowed : (av : Avoided) (ground : Ground) → Narrows old new → IsGroundOf s k old av ground → IsGroundOf s k new av ground
-  ground_narrowed av ground narrows h = record {
+  pub ground_narrowed : (av : Avoided) (most : ℕ) (ground : Ground) → Narrows old new → IsGroundOf s k old av most ground → IsGroundOf s k new av most ground
+  ground_narrowed av most ground narrows h = record {
     survey = survey_narrowed s k old new ground.surveyed narrows h.survey;
     taken = record {
-      first = h.taken.first;
-      second = h.taken.second;
+      fit = h.taken.fit;
       held = λ bytes agrees. h.taken.held bytes (narrows bytes agrees);
     };
   }

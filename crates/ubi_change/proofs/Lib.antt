@@ -27,7 +27,7 @@ pub mod EditedMeaning
 pub mod EditedVectors
 pub mod Emptied
 pub mod FirstCopy
-pub mod FirstTwoTakeable
+pub mod FirstTakeable
 pub mod Fits
 pub mod GivenUp
 pub mod Grounded

@@ -1,10 +1,10 @@
 -- What was read for a change makes its plan: which cause applies, and that the steps are those of the plan.
-use Rattle.ubi_change.proofs.Prelude.{◌≡◌, ℕ, ◌+◌, ◌<◌, ◌≤◌, inl, inr, Bool, true, false, List, [], ◌∷◌, ◌++◌, length, refl, ap, ap₂, sym, ◌∙◌, subst, arith, None, Option, Some, nat_lt, option_map, then_some, option_map_or, nat_tests, Sizes, data_pad, VolumeRecord, carriers, AttachValue, AreSites, IsSitesRefusal, IsTooFew, image_causes, change_needs, steps_on, site_at, first_taken, blank_header, copy_header, leb_header, mapped_plan, mount, needs, plan_of, ready_ec, taken, unmapped_plan, first_of, ec_at, takeable, ChangeRefusal, Site, FirstTwo, Target}
+use Rattle.ubi_change.proofs.Prelude.{◌≡◌, ℕ, ◌+◌, ◌<◌, ◌≤◌, Bool, true, false, List, [], ◌∷◌, ◌++◌, length, refl, ap, ap₂, sym, ◌∙◌, subst, arith, None, Option, Some, nat_lt, option_map, then_some, option_map_or, nat_tests, Sizes, data_pad, VolumeRecord, carriers, AttachValue, AreSites, IsSitesRefusal, IsTooFew, image_causes, change_needs, steps_on, site_at, first_taken, blank_header, copy_header, leb_header, mapped_plan, mount, needs, plan_of, ready_ec, taken, unmapped_plan, first_of, ec_at, takeable, ChangeRefusal, Site, Target, slice_get}
 use Rattle.std.specs.FinMap as finite
 use Rattle.ubi_change.specs.declared.errors.ChangeRefusal.TheVariants as refusal
 use Rattle.ubi_change.specs.declared.sites.Sites.{Sites as OnSites}
 use Rattle.ubi_change.specs.declared.sites.Sites.TheVariants as on
-use Rattle.ubi_change.proofs.Sited.{copy-is, first_missing, first_some, second_missing, second_some, site_none, site_there}
+use Rattle.ubi_change.proofs.Sited.{copy-is, few_taken, site_none, site_there, taken_at}
 
 more_test : (a b : ℕ) → a < b → nat_lt a b ≡ true
 more_test a b l = grind (arith, nat_tests)
@@ -13,9 +13,9 @@ least_test : (a b : ℕ) → b ≤ a → nat_lt a b ≡ false
 least_test a b l = grind (arith, nat_tests)
 
 module _ (s : Sizes) (bs : List (List ℕ)) (a : AttachValue) (same : a.scan.carriers ≡ carriers s bs) (id lnum : ℕ)
-    (winner : Option Site) (two : FirstTwo)
+    (winner : Option Site) (two : List Site)
     (won : winner ≡ option_map (site_at s bs a.states) (finite.get a.scan.winners (id, lnum)))
-    (taking : two ≡ first_taken s bs a.states) where
+    (taking : two ≡ first_taken s bs a.states 2) where
   abbrev site : ℕ → Site
   site p = site_at s bs a.states p
 
@@ -30,11 +30,11 @@ module _ (s : Sizes) (bs : List (List ℕ)) (a : AttachValue) (same : a.scan.car
   needs-is : change_needs winner ≡ needs s bs a id lnum
   needs-is = ap change_needs won ∙ needs_by (finite.get a.scan.winners (id, lnum))
 
-  first_taken_is : (t : Site) → two.first ≡ Some t → (1 ≤ length (takeable s bs a.states)) × (t ≡ site (taken s bs a 0))
-  first_taken_is t e = first_some site (takeable s bs a.states) t (ap (λ (x : FirstTwo). x.first) (sym taking) ∙ e)
+  first_taken_is : (t : Site) → slice_get two 0 ≡ Some t → (1 ≤ length (takeable s bs a.states)) × (t ≡ site (taken s bs a 0))
+  first_taken_is t e = let h = taken_at site (takeable s bs a.states) 2 0 two t taking e in let l = h.0 in (omega arith, h.1)
 
-  second_taken_is : (t : Site) → two.second ≡ Some t → (2 ≤ length (takeable s bs a.states)) × (t ≡ site (taken s bs a 1))
-  second_taken_is t e = second_some site (takeable s bs a.states) t (ap (λ (x : FirstTwo). x.second) (sym taking) ∙ e)
+  second_taken_is : (t : Site) → slice_get two 1 ≡ Some t → (2 ≤ length (takeable s bs a.states)) × (t ≡ site (taken s bs a 1))
+  second_taken_is t e = let h = taken_at site (takeable s bs a.states) 2 1 two t taking e in let l = h.0 in (omega arith, h.1)
 
   -- the two causes
   abbrev exhausted : Bool → Bool → Option ChangeRefusal
@@ -45,18 +45,14 @@ module _ (s : Sizes) (bs : List (List ℕ)) (a : AttachValue) (same : a.scan.car
   free few enough = ap₂ exhausted (least_test _ _ few) (least_test _ _ enough)
 
   too_few : IsTooFew winner two → length (takeable s bs a.states) < needs s bs a id lnum
-  too_few (inl none) =
-      let l = first_missing site (takeable s bs a.states) (ap (λ (x : FirstTwo). x.first) (sym taking) ∙ none) in
-      let n : 1 ≤ needs s bs a id lnum = subst (λ n. 1 ≤ n) needs-is (some_needed winner) in
-      omega arith
+  too_few few =
+      let most : change_needs winner ≤ 2 = at_most winner in
+      let all = few_taken site (takeable s bs a.states) 2 two taking (omega arith) in
+      omega (arith, few, all, needs-is)
     where
-      some_needed : (o : Option Site) → 1 ≤ change_needs o
-      some_needed None = omega arith
-      some_needed (Some t) = omega arith
-  too_few (inr none) =
-      let l = second_missing site (takeable s bs a.states) (ap (λ (x : FirstTwo). x.second) (sym taking) ∙ none.1) in
-      let n : needs s bs a id lnum ≡ 2 = sym needs-is ∙ ap change_needs none.0 in
-      omega arith
+      at_most : (o : Option Site) → change_needs o ≤ 2
+      at_most None = omega arith
+      at_most (Some t) = omega arith
 
   pub sites_stand : (c : ChangeRefusal) → IsSitesRefusal a.scan winner two c → first_of (image_causes s bs a id lnum) ≡ Some c
   sites_stand refusal.Exhausted h =

@@ -1,11 +1,11 @@
 -- The names that the proofs of this crate speak of, and where they come from.
-pub use Rattle.std.proofs.Common.{Bool, List, [], ap, append-nil, append_assoc, ap₂, arith, cond, drop, false, get_or, get_or-set_other, get_or-set_same, inl, inr, length, length-append, length-drop, length-set, map, min, not, refl, replicate, rules, set, slice_range, subst, suc, sym, take, take-add, true, true≢false, zero, ℕ, ◌%◌, ◌*◌, ◌++◌, ◌+◌, ◌-◌, ◌/◌, ◌<◌, ◌^◌, ◌∙◌, ◌∷◌, ◌≡◌, ◌≢◌, ◌≤◌, ◌⊎◌}
+pub use Rattle.std.proofs.Common.{Bool, List, [], ap, append-nil, append_assoc, ap₂, arith, cond, drop, false, get_or, get_or-set_other, get_or-set_same, inl, inr, length, length-append, length-drop, length-set, map, not, refl, replicate, rules, set, slice_range, subst, suc, sym, take, take-add, true, true≢false, zero, ℕ, ◌%◌, ◌*◌, ◌++◌, ◌+◌, ◌-◌, ◌/◌, ◌<◌, ◌^◌, ◌∙◌, ◌∷◌, ◌≡◌, ◌≢◌, ◌≤◌, ◌⊎◌}
 pub use Rattle.std.proofs.Math.Nat.{div-add-mod, div-eq_of_lt, div-le_of_le-mul, div-mul-le_self, le-max_left, le-max_right, mod-lt}
 pub use Rattle.std.proofs.Math.Seq.{drop-append_seam, take-append-add, take-append_seam}
 pub use Rattle.std.proofs.lemmas.Bool.{and_parts, cases_eq, cases_lt, eqb-true, ltb-true}
 pub use Rattle.std.proofs.lemmas.Bool.Decides.{Decides-and, Decides-like, nat_tests}
 pub use Rattle.std.proofs.lemmas.Grind.{common_steps}
-pub use Rattle.std.proofs.lemmas.List.{drop-drop, drop_at, length-replicate, length-take-le, set-get_or, set-set, take-append-drop, take-append-le, take-replicate, take-take, take_all, take_at, take_more}
+pub use Rattle.std.proofs.lemmas.List.{drop-drop, drop_at, length-map, length-replicate, length-take, length-take-le, set-get_or, set-set, take-append-drop, take-append-le, take-replicate, take-take, take_all, take_at, take_min, take_more}
 pub use Rattle.std.proofs.lemmas.List.Elements.{All-head, All-tail, filter-append}
 pub use Rattle.std.proofs.lemmas.List.Folds.{concat-append}
 pub use Rattle.std.proofs.lemmas.List.Sums.{fold-append, fold_more, sum_by-append, sum_by-cons, sum_by-le}
@@ -23,12 +23,12 @@ pub use Rattle.std.specs.Int.Bits.{and_self}
 pub use Rattle.std.specs.List.{AllByRecursion, concat, cons_option, enumerate_from, position_or_len, range_with_len, sum_by}
 pub use Rattle.std.specs.Option.{option_map_or}
 pub use Rattle.std.specs.Ordering.{eq_by_cmp, nat_cmp}
-pub use Rattle.std.specs.Prelude.{Contains, Err, IfSome, IsSome, None, Ok, OnOk, Option, Result, Some, bit_and, count_by, filter, filter_map, find, flat_map, fold, is_some, max, nat_eq, nat_lt, option_and_then, option_copied, option_map, slice_get, slice_index, sum, unwrap_or, ⊤, ◌&&◌, ◌==◌, ◌||◌}
+pub use Rattle.std.specs.Prelude.{Contains, Err, IfSome, IsSome, None, Ok, OnOk, Option, Result, Some, bit_and, count_by, filter, filter_map, find, flat_map, fold, is_some, max, min, nat_eq, nat_lt, option_and_then, option_copied, option_map, slice_get, slice_index, sum, unwrap_or, ⊤, ◌&&◌, ◌==◌, ◌||◌}
 pub use Rattle.std.specs.Result.{is_ok}
 pub use Rattle.std.specs.Simd.{first_chunks}
 pub use Rattle.ubi_laid.proofs.AllVolumes.{apart_blocks, fine_blocks, its_volume, own_like, plain_blocks}
 pub use Rattle.ubi_laid.proofs.Contents.{laid_read}
-pub use Rattle.ubi_laid.proofs.Lists.{Holds, all_at, all_from, held_entry}
+pub use Rattle.ubi_laid.proofs.Lists.{Holds, all_append, all_at, all_from, held_entry}
 pub use Rattle.ubi_laid.specs.Laid.{AreApart, CanBeLaid, Laid, laid_blocks, static_block}
 pub use Rattle.ubi_laid.specs.LaidIn.{AreLaidIn, IsLaidAt, IsNoneOf}
 pub use Rattle.ubi_laid.specs.Laws.{EachIsVolume}
@@ -152,10 +152,9 @@ pub use Rattle.ubi_change.specs.declared.rename.Renamable.{Renamable}
 pub use Rattle.ubi_change.specs.declared.sites.Site.{Site}
 pub use Rattle.ubi_change.specs.declared.sites.Spares.{Spares}
 pub use Rattle.ubi_change.specs.declared.step.Step.{Step}
-pub use Rattle.ubi_change.specs.declared.takeable.FirstTwo.{FirstTwo}
 pub use Rattle.ubi_change.specs.declared.takeable.Parted.{Parted}
 pub use Rattle.ubi_change.specs.inner.Making.{AreSites, AreStepsOf, FitsPrepared, IsPrepared, IsSitesRefusal, IsTarget, IsTooFew, IsUnplanned, change_error, change_needs, image_causes, own_causes, shown, steps_on}
 pub use Rattle.ubi_change.specs.inner.Renaming.{AreCopiesOf, AreHolders, AreHoldersOf, AreSpares, BothFit, IsNamable, IsNamingRefusal, IsRenamable, IsSparesRefusal, IsUnrenamed, other_named, pages_for, rename_error, two_copies}
 pub use Rattle.ubi_change.specs.inner.Sites.{FitsIn, IsSiteAt, copy_on, is_sole_on, mount_on, ready_on, release_on, site_at, stays_on}
-pub use Rattle.ubi_change.specs.inner.Taking.{AreTaken, IsGroundOf, ListedIs, NotBlankIs, SayBlank, TakeableIs, all_of, first_taken, first_two, joined, parted_with, two_joined, two_with, with_next}
+pub use Rattle.ubi_change.specs.inner.Taking.{AreTaken, IsGroundOf, ListedIs, NotBlankIs, SayBlank, TakeableIs, first_taken, with_next}
 pub use Rattle.ubi_change.specs.inner.Writing.{block_cut, block_step, block_text, front_text}

@@ -1,11 +1,11 @@
 -- What the functions on the way to a rename found makes its plan: nothing applies against it, and the steps are its
 -- own.
-use Rattle.ubi_change.proofs.Prelude.{◌≡◌, ◌≢◌, ℕ, ◌+◌, ◌≤◌, inl, inr, Bool, true, false, cond, List, ◌++◌, length, refl, ap, ap₂, sym, ◌∙◌, subst, None, Option, Some, option_map, option_map_or, nat_cmp_total, nat_cmp-IsAntisymmetric, eq_by_cmp, nat_cmp, Sizes, VolumeRecord, Image, eraseblocks, layout, records_named, with_name, Records, Decides, IsTable, next-is, blank_none, decides_unique, AcceptsBlocks, AttachValue, Meant, records_of, IsSurvey, Seen, Volume, record_of, records_meant, atomic_copy, taken, copy_plan, holder, layout_header, renamed_pages, table_pages, IsRenameAvoiding, BothGood, MayBeNamed, renamed, volume_named, weak_pages, AreHolders, AreSpares, IsNamable, two_copies, copy_on, site_at, first_taken, Holders, ec_at, takeable, Site, Spares, Step, FirstTwo, Avoided, avoiding}
+use Rattle.ubi_change.proofs.Prelude.{◌≡◌, ◌≢◌, ℕ, ◌+◌, ◌≤◌, inl, inr, Bool, true, false, cond, List, ◌++◌, length, refl, ap, ap₂, sym, ◌∙◌, subst, None, Option, Some, option_map, option_map_or, nat_cmp_total, nat_cmp-IsAntisymmetric, eq_by_cmp, nat_cmp, Sizes, VolumeRecord, Image, eraseblocks, layout, records_named, with_name, Records, Decides, IsTable, next-is, blank_none, decides_unique, AcceptsBlocks, AttachValue, Meant, records_of, IsSurvey, Seen, Volume, record_of, records_meant, atomic_copy, taken, copy_plan, holder, layout_header, renamed_pages, table_pages, IsRenameAvoiding, BothGood, MayBeNamed, renamed, volume_named, weak_pages, AreHolders, AreSpares, IsNamable, two_copies, copy_on, site_at, first_taken, Holders, ec_at, takeable, Site, Spares, Step, Avoided, avoiding, arith}
 use Rattle.std.specs.FinMap as finite
 use Rattle.ubi_table.specs.declared.copy.CopyRead.TheVariants as copy
 use Rattle.ubi_change.proofs.RenameCauses.{free, there}
 use Rattle.ubi_change.proofs.RenamedMeaning as naming
-use Rattle.ubi_change.proofs.Sited.{copy-is, first_some, second_some}
+use Rattle.ubi_change.proofs.Sited.{copy-is, taken_at}
 use Rattle.ubi_change.proofs.Surveys.{whole}
 
 -- both copies are good with the table of an accepted image
@@ -94,15 +94,19 @@ module _ (image : Image) (av : Avoided) (seen : Seen) (is : IsSurvey image seen)
       (ap (λ (t : Records). records_named t id name) is.records ∙ next-is id name (records_of m) volume.entry held
       ∙ sym records_same ∙ ap records_of (sym named-is))
 
-  module _ (old : Holders) (held : AreHolders s bs av seen (Some old)) (two : FirstTwo) (taking : two ≡ first_taken s bs a.states)
+  module _ (old : Holders) (held : AreHolders s bs av seen (Some old)) (two : List Site) (taking : two ≡ first_taken s bs a.states 2)
       (on : Spares) (spares : AreSpares seen.scan two on) where
     first_spare : (1 ≤ length (takeable s bs a.states)) × (on.first ≡ site_at s bs a.states (taken s bs a 0))
-    first_spare = first_some (site_at s bs a.states) (takeable s bs a.states) on.first
-        (ap (λ (x : FirstTwo). x.first) (sym taking) ∙ spares.first)
+    first_spare =
+        let h = taken_at (site_at s bs a.states) (takeable s bs a.states) 2 0 two on.first taking spares.first in
+        let l = h.0 in
+        (omega arith, h.1)
 
     second_spare : (2 ≤ length (takeable s bs a.states)) × (on.second ≡ site_at s bs a.states (taken s bs a 1))
-    second_spare = second_some (site_at s bs a.states) (takeable s bs a.states) on.second
-        (ap (λ (x : FirstTwo). x.second) (sym taking) ∙ spares.second)
+    second_spare =
+        let h = taken_at (site_at s bs a.states) (takeable s bs a.states) 2 1 two on.second taking spares.second in
+        let l = h.0 in
+        (omega arith, h.1)
 
     pub may_be_named : weak_pages s (renamed_pages s m id name) ≡ None → MayBeNamed s bs a id name
     may_be_named strong = record {

@@ -1,5 +1,5 @@
 -- What is read of an eraseblock, and the parts of a plan, given that.
-use Rattle.ubi_change.proofs.Prelude.{◌≡◌, ℕ, ◌<◌, ◌≤◌, cond, List, [], ◌∷◌, ◌++◌, length, map, refl, ap, sym, subst, arith, ◌&&◌, ◌||◌, ◌==◌, IfSome, None, Option, Some, option_map, slice_get, slice_index, option_map_or, same_Some, ec_reading, Sizes, EcHeader, carriers, valid_ec, Source, blocks_in, AttachValue, atomic_copy, mount, next_ec, program_text, renew, ec_at, is_sole_carrier, is_worn, stays, FitsIn, copy_on, is_sole_on, site_at, stays_on, VidHeader, Site}
+use Rattle.ubi_change.proofs.Prelude.{◌≡◌, ℕ, zero, suc, ◌∙◌, ◌<◌, ◌≤◌, cond, List, [], ◌∷◌, ◌++◌, length, map, take, refl, ap, sym, subst, arith, ◌&&◌, ◌||◌, ◌==◌, IfSome, None, Option, Some, option_map, slice_get, slice_index, option_map_or, same_Some, ec_reading, Sizes, EcHeader, carriers, valid_ec, Source, blocks_in, AttachValue, atomic_copy, mount, next_ec, program_text, renew, ec_at, is_sole_carrier, is_worn, stays, FitsIn, copy_on, is_sole_on, site_at, stays_on, VidHeader, Site, length-take, length-map}
 use Rattle.std.specs.Prelude.{not}
 use Rattle.ubi_change.proofs.Premises.{by_reading}
 
@@ -35,22 +35,24 @@ pub fits_some : (s : Sizes) (k j : Source) (o : Option Site) (t : Site) → o �
     → FitsIn (blocks_in s k) t
 fits_some s k j o t e f h = subst (λ (k : Source). FitsIn (blocks_in s k) t) f (subst (λ (o : Option Site). IfSome o (FitsIn (blocks_in s j))) e h)
 
--- the first two of some eraseblocks
+-- some eraseblocks, of which the first are taken
 module _ (f : ℕ → Site) where
-  pub first_some : (xs : List ℕ) (t : Site) → slice_get (map f xs) 0 ≡ Some t → (1 ≤ length xs) × (t ≡ f (slice_index xs 0))
-  first_some [] t e = absurd (cc)
-  first_some (x ∷ xs) t e = (omega arith, sym (same_Some (f x) t e))
+  some_at : (xs : List ℕ) (most n : ℕ) (t : Site) → slice_get (take most (map f xs)) n ≡ Some t → (n < length xs) × (t ≡ f (slice_index xs n))
+  some_at [] zero n t e = absurd (cc)
+  some_at [] (suc most) n t e = absurd (cc)
+  some_at (x ∷ xs) zero n t e = absurd (cc)
+  some_at (x ∷ xs) (suc most) zero t e = (omega arith, sym (same_Some (f x) t e))
+  some_at (x ∷ xs) (suc most) (suc n) t e = let h = some_at xs most n t e in let l = h.0 in (omega arith, h.1)
 
-  pub second_some : (xs : List ℕ) (t : Site) → slice_get (map f xs) 1 ≡ Some t → (2 ≤ length xs) × (t ≡ f (slice_index xs 1))
-  second_some [] t e = absurd (cc)
-  second_some (x ∷ []) t e = absurd (cc)
-  second_some (x ∷ y ∷ xs) t e = (omega arith, sym (same_Some (f y) t e))
+  -- the one at a place
+  pub taken_at : (xs : List ℕ) (most n : ℕ) (ts : List Site) (t : Site) → ts ≡ take most (map f xs) → slice_get ts n ≡ Some t
+      → (n < length xs) × (t ≡ f (slice_index xs n))
+  taken_at xs most n ts t are e = some_at xs most n t (ap (λ (ys : List Site). slice_get ys n) (sym are) ∙ e)
 
-  pub first_missing : (xs : List ℕ) → slice_get (map f xs) 0 ≡ None → length xs < 1
-  first_missing [] e = omega arith
-  first_missing (x ∷ xs) e = absurd (cc)
-
-  pub second_missing : (xs : List ℕ) → slice_get (map f xs) 1 ≡ None → length xs < 2
-  second_missing [] e = omega arith
-  second_missing (x ∷ []) e = omega arith
-  second_missing (x ∷ y ∷ xs) e = absurd (cc)
+  -- and there are no more if they are fewer
+  pub few_taken : (xs : List ℕ) (most : ℕ) (ts : List Site) → ts ≡ take most (map f xs) → length ts < most → length xs ≡ length ts
+  few_taken xs most ts are few =
+      let size = length-take most (map f xs) in
+      let all = length-map xs f in
+      let e = ap length are in
+      omega (arith, size, all, e, few)

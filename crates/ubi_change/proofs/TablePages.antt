@@ -1,5 +1,6 @@
 -- The pages of a table: how many bytes they have, and that a copy with them is good.
-use Rattle.ubi_change.proofs.Prelude.{◌≡◌, ℕ, ◌+◌, ◌-◌, ◌*◌, ◌/◌, ◌%◌, ◌^◌, ◌<◌, ◌≤◌, inl, inr, List, ◌++◌, append_assoc, length, min, ap, sym, ◌∙◌, arith, div-add-mod, mod-mul-add, mul-le, cases_lt, blank, IsGeometry, Sizes, leb_size, slots, leb, filled-is, length-filled, AreRecords, Records, table_bytes, copy_of, length-table_bytes, reads_back, pieces, pieces_few, pieces_suffice, table_pages}
+use Rattle.ubi_change.proofs.Prelude.{◌≡◌, ℕ, ◌+◌, ◌-◌, ◌*◌, ◌/◌, ◌%◌, ◌^◌, ◌<◌, ◌≤◌, inl, inr, List, ◌++◌, append_assoc, length, ap, sym, ◌∙◌, arith, div-add-mod, mod-mul-add, mul-le, cases_lt, blank, IsGeometry, Sizes, leb_size, slots, leb, filled-is, length-filled, AreRecords, Records, table_bytes, copy_of, length-table_bytes, reads_back, pieces, pieces_few, pieces_suffice, table_pages}
+use Rattle.std.proofs.Common.{min}
 use Rattle.ubi_table.specs.declared.copy.CopyRead.TheVariants as copy
 
 -- what two multiples of a number differ by is one

@@ -41,11 +41,11 @@ module _ (s : Sizes) (k : Source) (agrees : Agreed) (av : Avoided) (id lnum : �
           from = from;
           attached = survey.attached;
           allowed = causes.no_cause image av from survey.attached id lnum new v h.1 made.asked.free
-              (make.sites_free s bs a same id lnum p.winner p.ground.taken won taking made.sites made.are);
+              (make.sites_free s bs a same id lnum p.winner p.ground.taken.items won taking made.sites made.are);
           volume = v;
           there = h.1;
           plan = made.is
-              ∙ make.steps_are s bs a same id lnum p.winner p.ground.taken won taking made.asked.entry new made.sites made.are made.target made.asked.is;
+              ∙ make.steps_are s bs a same id lnum p.winner p.ground.taken.items won taking made.asked.entry new made.sites made.are made.target made.asked.is;
         }
 
     pub refused_is : (c : ChangeRefusal) → IsUnplanned s p id lnum new c → IsChangeRefusalAvoiding image av id lnum new c
@@ -59,7 +59,7 @@ module _ (s : Sizes) (k : Source) (agrees : Agreed) (av : Avoided) (id lnum : �
         let target = sites.1 in
         let h = has_volume image seen survey id target.entry target.there in
         causes.image_stands image av from survey.attached id lnum new (record { entry = target.entry; content = h.0 }) h.1 target.free c
-        (make.sites_stand s bs a survey.attached.scan.carriers id lnum p.winner p.ground.taken (is.winner.held bytes holds)
+        (make.sites_stand s bs a survey.attached.scan.carriers id lnum p.winner p.ground.taken.items (is.winner.held bytes holds)
         (is.ground.taken.held bytes holds) c sites.2)
 
   -- attaching was no cause

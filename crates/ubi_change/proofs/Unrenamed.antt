@@ -1,6 +1,5 @@
 -- What was read of a source for a rename holds for whatever it may hold: its plan, or why it has none.
-use Rattle.ubi_change.proofs.Prelude.{◌≡◌, ℕ, ◌<◌, inl, inr, List, length, ap, sym, ◌∙◌, subst, arith, None, Some, AreBytes, IsGeometry, Sizes, Refusal, Image, IsWholeSize, image_of, of_blocks, Agreed, Narrows, Source, WhereHeld, blocks_of, holds, memory, StreamError, still, ArePlacesError, IsSurvey, Seen, refused_in_memory, renamed_pages, IsRenameError, RenameFacts, IsRenameRefusal, IsRenameRefusalAvoiding, ReadBlank, Avoided, nothing, states_avoiding, takeable, weak_pages, AreCopiesOf, AreHolders, IsNamable, IsRenamable, IsSparesRefusal, IsUnrenamed, pages_for, two_copies, site_at, first_taken, Holders, PlanError, RenameRefusal, Renamable, Step, FirstTwo, rename_error}
-use Rattle.std.specs.Prelude.{◌⊎◌}
+use Rattle.ubi_change.proofs.Prelude.{◌≡◌, ℕ, ◌<◌, inl, inr, List, length, ap, sym, ◌∙◌, subst, arith, None, Some, AreBytes, IsGeometry, Sizes, Refusal, Image, IsWholeSize, image_of, of_blocks, Agreed, Narrows, Source, WhereHeld, blocks_of, holds, memory, StreamError, still, ArePlacesError, IsSurvey, Seen, refused_in_memory, renamed_pages, IsRenameError, RenameFacts, IsRenameRefusal, IsRenameRefusalAvoiding, ReadBlank, Avoided, nothing, states_avoiding, takeable, weak_pages, AreCopiesOf, AreHolders, IsNamable, IsRenamable, IsSparesRefusal, IsUnrenamed, pages_for, two_copies, site_at, first_taken, Holders, PlanError, RenameRefusal, Renamable, Step, rename_error}
 use Rattle.ubi_scan.specs.declared.errors.StreamError.TheVariants as stream
 use Rattle.ubi_change.specs.declared.errors.PlanError.TheVariants as error
 use Rattle.ubi_change.specs.declared.errors.RenameRefusal.TheVariants as refusal
@@ -8,7 +7,7 @@ use Rattle.ubi_change.proofs.NothingAvoided.{rename_refusal_nothing}
 use Rattle.ubi_change.proofs.RenameCauses as cause
 use Rattle.ubi_change.proofs.RenameKept.{rename_kept}
 use Rattle.ubi_change.proofs.RenameMade as make
-use Rattle.ubi_change.proofs.Sited.{first_missing, second_missing}
+use Rattle.ubi_change.proofs.Sited.{few_taken}
 
 module _ (s : Sizes) (k : Source) (agrees : Agreed) (av : Avoided) (id : ℕ) (name : List ℕ) (r : Renamable)
     (is : IsRenamable s k agrees av r) where
@@ -25,7 +24,7 @@ module _ (s : Sizes) (k : Source) (agrees : Agreed) (av : Avoided) (id : ℕ) (n
     survey : IsSurvey image seen
     survey = is.ground.survey.held bytes holds
 
-    taking : r.ground.taken ≡ first_taken s bs (states_avoiding av seen.states)
+    taking : r.ground.taken.items ≡ first_taken s bs (states_avoiding av seen.states) 2
     taking = is.ground.taken.held bytes holds
 
     held_by : (old : Holders) → r.holders ≡ Some old → AreHolders s bs av seen (Some old)
@@ -36,27 +35,25 @@ module _ (s : Sizes) (k : Source) (agrees : Agreed) (av : Avoided) (id : ℕ) (n
     rename_is g blank steps made =
         let pages = make.pages-are image av seen survey id name made.may in
         rename_kept image av g blank id name steps
-        (make.is_rename image av seen survey id name made.may made.old (held_by made.old made.holders) r.ground.taken taking made.two made.spares
+        (make.is_rename image av seen survey id name made.may made.old (held_by made.old made.holders) r.ground.taken.items taking made.two made.spares
         (ap (weak_pages s) (sym pages) ∙ made.strong) steps
         (made.is ∙ ap (two_copies s seen.scan made.old made.two) pages))
         (subst AreBytes pages made.bytes)
 
     -- too few eraseblocks can be taken
-    few_taken : (o : (r.ground.taken.first ≡ None) ⊎ (r.ground.taken.second ≡ None)) → length (takeable s bs (states_avoiding av seen.states)) < 2
-    few_taken (inl none) =
-        let l = first_missing (site_at s bs (states_avoiding av seen.states)) (takeable s bs (states_avoiding av seen.states)) (ap (λ (x : FirstTwo). x.first) (sym taking) ∙ none) in
-        omega arith
-    few_taken (inr none) = second_missing (site_at s bs (states_avoiding av seen.states)) (takeable s bs (states_avoiding av seen.states))
-        (ap (λ (x : FirstTwo). x.second) (sym taking) ∙ none)
+    too_few : length r.ground.taken.items < 2 → length (takeable s bs (states_avoiding av seen.states)) < 2
+    too_few few =
+        let all = few_taken (site_at s bs (states_avoiding av seen.states)) (takeable s bs (states_avoiding av seen.states)) 2 r.ground.taken.items taking few in
+        omega (arith, few, all)
 
     module _ (may : IsNamable seen.records id name) (old : Holders) (e : r.holders ≡ Some old)
         (strong : weak_pages s (pages_for s r id name) ≡ None) where
       same : weak_pages s (renamed_pages s survey.meaning id name) ≡ None
       same = ap (weak_pages s) (sym (make.pages-are image av seen survey id name may)) ∙ strong
 
-      refused_spares : (c : RenameRefusal) → IsSparesRefusal seen.scan r.ground.taken c → IsRenameRefusalAvoiding image av id name c
+      refused_spares : (c : RenameRefusal) → IsSparesRefusal seen.scan r.ground.taken.items c → IsRenameRefusalAvoiding image av id name c
       refused_spares refusal.Exhausted h = cause.refused_exhausted image av seen survey id name may (held_by old e).0 same h
-      refused_spares refusal.NoFree h = cause.refused_free image av seen survey id name may (held_by old e).0 same h.0 (few_taken h.1)
+      refused_spares refusal.NoFree h = cause.refused_free image av seen survey id name may (held_by old e).0 same h.0 (too_few h.1)
       refused_spares refusal.NoVolume h = absurd h
       refused_spares refusal.BadName h = absurd h
       refused_spares (refusal.SameName slot) h = absurd h

@@ -55,7 +55,7 @@ fn prepare<S: BlockSource>(
 {
     let mut buffer = Vec::from_elem(alloc, 0u8, geometry.peb_size() as usize)?;
     let buffer = buffer.as_mut_slice();
-    let ground = ground_of(alloc, geometry, source, avoided, buffer)?;
+    let ground = ground_of(alloc, geometry, source, avoided, 2, buffer)?;
     let winner = winner_site(
         geometry,
         source,
@@ -205,7 +205,7 @@ fn change_steps(
     // By the limits of the geometry, the new bytes fit into an eraseblock.
     prove!(geometry.page() >= 64);
     let target = target_of(geometry, surveyed.table(), id, lnum, new)?;
-    let sites = sites_of(scan, prepared.winner, taken)?;
+    let sites = sites_of(scan, prepared.winner, taken.as_slice())?;
     Ok(steps_on(alloc, geometry, scan, &target, new, &sites)?)
 }
 

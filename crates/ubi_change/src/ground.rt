@@ -12,7 +12,7 @@ ghost use Rattle.ubi_volume.specs.Survey.{IsSurveyOf};
 
 use crate::avoided::Avoided;
 use crate::sites::{Site, read_site};
-use crate::takeable::{FirstTwo, first_takeable};
+use crate::takeable::first_takeable;
 use std::alloc::Global;
 use ubi_media::Geometry;
 use ubi_scan::{BlockSource, StreamError};
@@ -23,11 +23,11 @@ use ubi_volume::{Surveyed, survey_from};
 pub struct Ground {
     /// What is known of the image.
     pub surveyed: Surveyed,
-    /// The first two eraseblocks that may be taken.
-    pub taken: FirstTwo,
+    /// The first eraseblocks that may be taken.
+    pub taken: Vec<Site>,
 }
 
-/// Surveys the image of a source, and finds the eraseblocks that a plan may take. The buffer has the size of an eraseblock,
+/// Surveys the image of a source, and finds the first `most` eraseblocks that a plan may take. The buffer has the size of an eraseblock,
 /// here and below.
 ///
 /// # Errors
@@ -38,17 +38,18 @@ pub fn ground_of<S: BlockSource>(
     geometry: &Geometry,
     source: &mut S,
     avoided: &Avoided,
+    most: usize,
     buffer: &mut [u8],
 ) -> Result<Ground, StreamError>
     requires { length buffer.old ≡ geometry.now.peb_size }
     ensures known { S.known source.new ≡ after (S.known source.old) result }
     ensures narrows { Narrows (S.agrees source.old) (S.agrees source.new) }
-    ensures ground { IfOk result (IsGroundOf geometry.now (S.known source.old) (S.agrees source.new) avoided.now) }
+    ensures ground { IfOk result (IsGroundOf geometry.now (S.known source.old) (S.agrees source.new) avoided.now most) }
     ensures refused { IfErr result (ArePlacesError geometry.now (S.known source.old) (S.agrees source.new)) }
     ensures named { IfErr result (NamesBlock geometry.now (S.failed_at source.new)) }
 {
     let surveyed = survey_from(alloc, geometry, source)?;
-    let taken = first_takeable(geometry, source, &surveyed, avoided, buffer)?;
+    let taken = first_takeable(alloc, geometry, source, &surveyed, avoided, most, buffer)?;
     Ok(Ground { surveyed, taken })
 }
 

@@ -58,7 +58,7 @@ fn prepare<S: BlockSource>(
 {
     let mut buffer = Vec::from_elem(alloc, 0u8, geometry.peb_size() as usize)?;
     let buffer = buffer.as_mut_slice();
-    let ground = ground_of(alloc, geometry, source, avoided, buffer)?;
+    let ground = ground_of(alloc, geometry, source, avoided, 2, buffer)?;
     let holders = holders_of(alloc, geometry, source, &ground.surveyed, avoided, buffer)?;
     Ok(Renamable { ground, holders })
 }
@@ -124,7 +124,7 @@ fn rename_steps(
         return Err(RenameRefusal::WeakCheck(pages));
     }
     let scan = surveyed.scan();
-    let spares = spares_of(scan, taken)?;
+    let spares = spares_of(scan, taken.as_slice())?;
     Ok(two_copies(alloc, geometry, scan, &holders, &spares, new.as_slice())?)
 }
 

@@ -12,7 +12,6 @@ ghost use Rattle.ubi_scan.specs.Source.{Narrows, WhereHeld, blocks_in, blocks_of
 ghost use Rattle.ubi_scan.specs.Stream.{IsReadFault, NamesBlock, after};
 
 use crate::errors::{ChangeRefusal, RenameRefusal};
-use crate::takeable::FirstTwo;
 use ubi_media::{EcHeader, EcRead, Geometry, read_ec};
 use ubi_scan::{BlockSource, Scan, StreamError, read_part};
 use ubi_volume::{BlockState, is_blank_part};
@@ -140,7 +139,7 @@ pub enum Sites {
 /// # Errors
 ///
 /// `Exhausted`, and else `NoFree`.
-pub fn sites_of(scan: &Scan, winner: Option<Site>, taken: &FirstTwo) -> Result<Sites, ChangeRefusal>
+pub fn sites_of(scan: &Scan, winner: Option<Site>, taken: &[Site]) -> Result<Sites, ChangeRefusal>
     ensures sites { IfOk result (AreSites scan.now winner taken.now) }
     ensures refused { IfErr result (IsSitesRefusal scan.now winner taken.now) }
 {
@@ -148,9 +147,12 @@ pub fn sites_of(scan: &Scan, winner: Option<Site>, taken: &FirstTwo) -> Result<S
     if scan.top_sqnum() > u64::MAX - needed {
         return Err(ChangeRefusal::Exhausted);
     }
-    match (winner, taken.first, taken.second) {
-        (Some(old), Some(copy), _) => Ok(Sites::Mapped { copy, old }),
-        (None, Some(first), Some(copy)) => Ok(Sites::Unmapped { first, copy }),
+    match (winner, taken.first(), taken.get(1)) {
+        (Some(old), Some(copy), _) => Ok(Sites::Mapped { copy: *copy, old }),
+        (None, Some(first), Some(copy)) => Ok(Sites::Unmapped {
+            first: *first,
+            copy: *copy,
+        }),
         _ => Err(ChangeRefusal::NoFree),
     }
 }
@@ -169,15 +171,18 @@ pub struct Spares {
 /// # Errors
 ///
 /// `Exhausted`, and else `NoFree`.
-pub fn spares_of(scan: &Scan, taken: &FirstTwo) -> Result<Spares, RenameRefusal>
+pub fn spares_of(scan: &Scan, taken: &[Site]) -> Result<Spares, RenameRefusal>
     ensures spares { IfOk result (AreSpares scan.now taken.now) }
     ensures refused { IfErr result (IsSparesRefusal scan.now taken.now) }
 {
     if scan.top_sqnum() > u64::MAX - 2 {
         return Err(RenameRefusal::Exhausted);
     }
-    match (taken.first, taken.second) {
-        (Some(first), Some(second)) => Ok(Spares { first, second }),
+    match (taken.first(), taken.get(1)) {
+        (Some(first), Some(second)) => Ok(Spares {
+            first: *first,
+            second: *second,
+        }),
         _ => Err(RenameRefusal::NoFree),
     }
 }

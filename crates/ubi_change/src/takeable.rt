@@ -1,16 +1,17 @@
 //! Which eraseblocks a plan takes.
 
-ghost use Rattle.std.specs.Prelude.{◌≡◌, ◌<◌, IfErr, IfOk, IfSome, length};
+ghost use Rattle.std.specs.Prelude.{◌≡◌, ◌<◌, ◌≤◌, ◌++◌, IfErr, IfOk, IfSome, OnOk, if◌then◌else◌, length, take};
 ghost use Rattle.ubi_change.specs.Avoided.{states_avoiding};
 ghost use Rattle.ubi_change.specs.inner.Sites.{FitsIn, is_sole_on, stays_on};
-ghost use Rattle.ubi_change.specs.inner.Taking.{AreTaken, TakeableIs, all_of, joined, parted_with, with_next};
+ghost use Rattle.ubi_change.specs.inner.Taking.{AreTaken, TakeableIs, with_next};
 ghost use Rattle.ubi_change.specs.Takeable.{is_unused, is_worn};
 ghost use Rattle.ubi_scan.specs.Source.{Narrows, WhereHeld, blocks_in, blocks_of};
-ghost use Rattle.ubi_scan.specs.Stream.{IsReadFault, NamesBlock, after};
+ghost use Rattle.ubi_scan.specs.Stream.{IsReadFailure, IsReadFault, NamesBlock, after};
 ghost use Rattle.ubi_volume.specs.Survey.{IsSurveyOf};
 
 use crate::avoided::Avoided;
 use crate::sites::{Site, read_site};
+use std::alloc::{AllocError, Global};
 use ubi_media::{EcHeader, Geometry};
 use ubi_scan::{BlockSource, Scan, StreamError};
 use ubi_volume::{BlockState, Surveyed};
@@ -18,89 +19,48 @@ use ubi_volume::{BlockState, Surveyed};
 /// The greatest erase counter.
 const LARGEST_COUNTER: u32 = 0x7FFF_FFFF;
 
-/// The first two of some eraseblocks, if there are so many.
-#[derive(Clone, Copy)]
-pub struct FirstTwo {
-    /// The first.
-    pub first: Option<Site>,
-    /// The second.
-    pub second: Option<Site>,
+/// Adds an eraseblock to some, if they are fewer than `most`.
+fn push_within(sites: &mut Vec<Site>, most: usize, site: Site) -> Result<(), AllocError>
+    ensures { OnOk result (sites.new.items ≡ with_next most sites.old.items site) }
+{
+    if sites.len() < most {
+        sites.push(site)?;
+    }
+    Ok(())
 }
 
-impl FirstTwo {
-    /// The first two of no eraseblock.
-    const NONE: FirstTwo = FirstTwo {
-        first: None,
-        second: None,
-    };
-
-    /// The first two with one more eraseblock.
-    fn with(self, site: Site) -> FirstTwo
-        ensures { result ≡ with_next self site }
-    {
-        match (self.first, self.second) {
-            (None, second) => FirstTwo {
-                first: Some(site),
-                second,
-            },
-            (first, None) => FirstTwo {
-                first,
-                second: Some(site),
-            },
-            (first, second) => FirstTwo { first, second },
-        }
-    }
-
-    /// The first two of these eraseblocks followed by others.
-    fn followed_by(self, others: FirstTwo) -> FirstTwo
-        ensures { result ≡ joined self others }
-    {
-        match (self.first, self.second) {
-            (None, _) => others,
-            (first, None) => FirstTwo {
-                first,
-                second: others.first,
-            },
-            (first, second) => FirstTwo { first, second },
-        }
-    }
-}
-
-/// The first two eraseblocks of both kinds that may be taken.
-#[derive(Clone, Copy)]
+/// The first of the eraseblocks of both kinds that may be taken.
+#[derive(Drop)]
 struct Parted {
-    /// The first two that are clean.
-    clean: FirstTwo,
-    /// The first two that aren't.
-    other: FirstTwo,
+    /// Those that are clean.
+    clean: Vec<Site>,
+    /// Those that aren't.
+    other: Vec<Site>,
 }
 
 impl Parted {
-    /// The first two of both kinds with one more eraseblock, if it may be taken.
-    fn with(self, site: Option<Site>) -> Parted
-        ensures { result ≡ parted_with self site }
+    /// Adds an eraseblock that may be taken, if there are fewer than `most` of its kind.
+    fn add(&mut self, most: usize, site: Site) -> Result<(), AllocError>
+        ensures clean { OnOk result (self.new.clean.items ≡ (if site.is_clean then with_next most self.old.clean.items site else self.old.clean.items)) }
+        ensures other { OnOk result (self.new.other.items ≡ (if site.is_clean then self.old.other.items else with_next most self.old.other.items site)) }
     {
-        let Some(site) = site else {
-            return self;
-        };
         if site.is_clean {
-            Parted {
-                clean: self.clean.with(site),
-                other: self.other,
-            }
+            push_within(&mut self.clean, most, site)
         } else {
-            Parted {
-                clean: self.clean,
-                other: self.other.with(site),
-            }
+            push_within(&mut self.other, most, site)
         }
     }
 
-    /// The first two of all: the clean ones first.
-    fn all(self) -> FirstTwo
-        ensures { result ≡ all_of self }
+    /// The first `most` of all: the clean ones first.
+    fn all(self, most: usize) -> Result<Vec<Site>, AllocError>
+        requires { length self.clean.items ≤ most }
+        ensures { IfOk result (λ sites. sites.items ≡ take most (self.clean.items ++ self.other.items)) }
     {
-        self.clean.followed_by(self.other)
+        let Parted { clean, other } = self;
+        let mut sites = clean;
+        let more = other.len().min(most - sites.len());
+        sites.extend_from_slice(&other.as_slice()[..more])?;
+        Ok(sites)
     }
 }
 
@@ -179,38 +139,42 @@ fn takeable_site<S: BlockSource>(
     }
 }
 
-/// The first two of the eraseblocks that may be taken: the clean ones first, and each kind in ascending order. They are read
-/// until two clean ones are found.
+/// The first `most` of the eraseblocks that may be taken: the clean ones first, and each kind in ascending order. They are read
+/// until so many clean ones are found.
 ///
 /// # Errors
 ///
-/// `Read` if a read failed, with the count 0.
+/// `Read` if a read failed, with the count 0. `Memory` if memory ran out.
 pub fn first_takeable<S: BlockSource>(
+    alloc: Global,
     geometry: &Geometry,
     source: &mut S,
     surveyed: &Surveyed,
     avoided: &Avoided,
+    most: usize,
     buffer: &mut [u8],
-) -> Result<FirstTwo, StreamError>
+) -> Result<Vec<Site>, StreamError>
     requires survey { IsSurveyOf geometry.now (S.known source.old) (S.agrees source.old) surveyed.now }
     requires room { length buffer.old ≡ geometry.now.peb_size }
     ensures known { S.known source.new ≡ after (S.known source.old) result }
     ensures narrows { Narrows (S.agrees source.old) (S.agrees source.new) }
-    ensures taken { IfOk result (AreTaken geometry.now (S.known source.old) (S.agrees source.new) (states_avoiding avoided.now surveyed.now.states)) }
-    ensures failed { IfErr result (IsReadFault (blocks_in geometry.now (S.known source.old))) }
+    ensures taken { IfOk result (λ sites. AreTaken geometry.now (S.known source.old) (S.agrees source.new) (states_avoiding avoided.now surveyed.now.states) most sites.items) }
+    ensures failed { IfErr result (IsReadFailure (blocks_in geometry.now (S.known source.old))) }
     ensures named { IfErr result (NamesBlock geometry.now (S.failed_at source.new)) }
 {
     let mut parted = Parted {
-        clean: FirstTwo::NONE,
-        other: FirstTwo::NONE,
+        clean: Vec::new(alloc),
+        other: Vec::new(alloc),
     };
     let count = surveyed.states().len();
     prove!(count <= geometry.pebs() as usize);
     for p in 0..count as u32 {
-        parted = parted.with(takeable_site(geometry, source, surveyed, avoided, p, buffer)?);
-        if parted.clean.second.is_some() {
-            return Ok(parted.all());
+        if parted.clean.len() == most {
+            return Ok(parted.all(most)?);
+        }
+        if let Some(site) = takeable_site(geometry, source, surveyed, avoided, p, buffer)? {
+            parted.add(most, site)?;
         }
     }
-    Ok(parted.all())
+    Ok(parted.all(most)?)
 }

@@ -1,5 +1,6 @@
 -- What private functions find on the way to the plan of a change.
-use Rattle.std.specs.Prelude.{◌≡◌, ℕ, ◌+◌, ◌<◌, ◌≤◌, ◌⊎◌, not, List, [], ◌∷◌, ◌++◌, length, nat_lt, Option, Some, None, IfSome, option_map}
+use Rattle.std.specs.Prelude.{◌≡◌, ℕ, ◌+◌, ◌<◌, ◌≤◌, ◌⊎◌, not, List, [], ◌∷◌, ◌++◌, length, nat_lt, Option, Some, None, IfSome, option_map, slice_get}
+use Rattle.std.specs.List.{AllByRecursion}
 use Rattle.std.specs.Bool.{then_some}
 use Rattle.std.specs.FinMap.{empty, get}
 use Rattle.ubi_media.specs.Geometry.{Sizes}
@@ -34,7 +35,6 @@ use Rattle.ubi_change.specs.declared.plan_steps.Target.{Target}
 use Rattle.ubi_change.specs.declared.errors.ChangeRefusal.{ChangeRefusal}
 use Rattle.ubi_change.specs.declared.errors.ChangeRefusal.TheVariants as refusal
 use Rattle.ubi_change.specs.declared.step.Step.{Step}
-use Rattle.ubi_change.specs.declared.takeable.FirstTwo.{FirstTwo}
 
 -- what attaching shows of an image that is surveyed, except the volumes that it means: the steps don't depend on them
 abbrev pub shown : Seen → AttachValue
@@ -59,7 +59,7 @@ image_causes s bs a id lnum =
 
 -- what was read for a change: the ground, and the winner of the LEB
 pub record IsPrepared (s : Sizes) (k : Source) (agrees : Agreed) (av : Avoided) (id lnum : ℕ) (p : Prepared) : Type 0 where
-  pub ground : IsGroundOf s k agrees av p.ground
+  pub ground : IsGroundOf s k agrees av 2 p.ground
   pub winner : IsSiteAt s k agrees (states_avoiding av p.ground.surveyed.states) (get p.ground.surveyed.scan.winners (id, lnum)) p.winner
 
 -- what holds for what was read, whatever the source holds
@@ -67,8 +67,7 @@ pub record FitsPrepared (s : Sizes) (p : Prepared) : Type 0 where
   pub sizes : p.ground.surveyed.records.sizes ≡ s
   pub mean : p.ground.surveyed.scan.mean_ec ≤ 0x7FFFFFFF
   pub winner : IfSome p.winner (FitsIn (length p.ground.surveyed.states))
-  pub first : IfSome p.ground.taken.first (FitsIn (length p.ground.surveyed.states))
-  pub second : IfSome p.ground.taken.second (FitsIn (length p.ground.surveyed.states))
+  pub taken : AllByRecursion (FitsIn (length p.ground.surveyed.states)) p.ground.taken.items
 
 -- the LEB that is to be changed: its volume has a record, and no cause applies that doesn't depend on the image
 pub record IsTarget (s : Sizes) (t : Records) (id lnum : ℕ) (new : List ℕ) (target : Target) : Type 0 where
@@ -90,18 +89,18 @@ change_needs (Some old) = 1
 change_needs None = 2
 
 -- the eraseblocks that a plan works on: the winner, if the LEB has one, and those that are taken
-abbrev pub AreSites : Found → Option Site → FirstTwo → OnSites → Type 0
+abbrev pub AreSites : Found → Option Site → List Site → OnSites → Type 0
 AreSites scan winner taken (on.Mapped copy old) =
-    (winner ≡ Some old) × (taken.first ≡ Some copy) × (scan.top_sqnum + 1 ≤ 0xFFFFFFFFFFFFFFFF)
+    (winner ≡ Some old) × (slice_get taken 0 ≡ Some copy) × (scan.top_sqnum + 1 ≤ 0xFFFFFFFFFFFFFFFF)
 AreSites scan winner taken (on.Unmapped first copy) =
-    (winner ≡ None) × (taken.first ≡ Some first) × (taken.second ≡ Some copy) × (scan.top_sqnum + 2 ≤ 0xFFFFFFFFFFFFFFFF)
+    (winner ≡ None) × (slice_get taken 0 ≡ Some first) × (slice_get taken 1 ≡ Some copy) × (scan.top_sqnum + 2 ≤ 0xFFFFFFFFFFFFFFFF)
 
 -- too few eraseblocks can be taken
-abbrev pub IsTooFew : Option Site → FirstTwo → Type 0
-IsTooFew winner taken = (taken.first ≡ None) ⊎ ((winner ≡ None) × (taken.second ≡ None))
+abbrev pub IsTooFew : Option Site → List Site → Type 0
+IsTooFew winner taken = length taken < change_needs winner
 
 -- why there are no such eraseblocks
-abbrev pub IsSitesRefusal : Found → Option Site → FirstTwo → ChangeRefusal → Type 0
+abbrev pub IsSitesRefusal : Found → Option Site → List Site → ChangeRefusal → Type 0
 IsSitesRefusal scan winner taken refusal.Exhausted = 0xFFFFFFFFFFFFFFFF < scan.top_sqnum + change_needs winner
 IsSitesRefusal scan winner taken refusal.NoFree =
     (scan.top_sqnum + change_needs winner ≤ 0xFFFFFFFFFFFFFFFF) × IsTooFew winner taken
@@ -143,7 +142,7 @@ pub record AreStepsOf (s : Sizes) (p : Prepared) (id lnum : ℕ) (new : List ℕ
   pub target : Target
   pub asked : IsTarget s p.ground.surveyed.records id lnum new target
   pub sites : OnSites
-  pub are : AreSites p.ground.surveyed.scan p.winner p.ground.taken sites
+  pub are : AreSites p.ground.surveyed.scan p.winner p.ground.taken.items sites
   pub is : steps ≡ steps_on s p.ground.surveyed.scan target new sites
 
 -- why there are no steps: memory ran out, or the first cause that applies
@@ -152,7 +151,7 @@ IsUnplanned s p id lnum new c =
     (c ≡ refusal.Memory)
     ⊎ IsTargetRefusal s p.ground.surveyed.records id lnum new c
     ⊎ ((target : Target) × IsTarget s p.ground.surveyed.records id lnum new target
-    × IsSitesRefusal p.ground.surveyed.scan p.winner p.ground.taken c)
+    × IsSitesRefusal p.ground.surveyed.scan p.winner p.ground.taken.items c)
 
 -- an error of a call that writes nothing
 abbrev pub IsNoWrite : StreamError → Type 0

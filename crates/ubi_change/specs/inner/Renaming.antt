@@ -1,5 +1,6 @@
 -- What private functions find on the way to the plan of a rename.
-use Rattle.std.specs.Prelude.{◌≡◌, ◌≢◌, ℕ, ◌+◌, ◌<◌, ◌≤◌, ◌⊎◌, ◌==◌, ◌&&◌, not, true, false, List, ◌++◌, Option, Some, None, IfSome, IsSome, find, length}
+use Rattle.std.specs.Prelude.{◌≡◌, ◌≢◌, ℕ, ◌+◌, ◌<◌, ◌≤◌, ◌⊎◌, ◌==◌, ◌&&◌, not, true, false, List, ◌++◌, Option, Some, None, IfSome, IsSome, find, length, slice_get}
+use Rattle.std.specs.List.{AllByRecursion}
 use Rattle.std.specs.FinMap.{get}
 use Rattle.ubi_media.specs.Fields.{AreBytes, same_bytes}
 use Rattle.ubi_media.specs.Geometry.{Sizes}
@@ -25,9 +26,9 @@ use Rattle.ubi_change.specs.declared.errors.PlanError.TheVariants as plan
 use Rattle.ubi_change.specs.declared.rename.Renamable.{Renamable}
 use Rattle.ubi_change.specs.declared.errors.RenameRefusal.{RenameRefusal}
 use Rattle.ubi_change.specs.declared.errors.RenameRefusal.TheVariants as refusal
+use Rattle.ubi_change.specs.declared.sites.Site.{Site}
 use Rattle.ubi_change.specs.declared.sites.Spares.{Spares}
 use Rattle.ubi_change.specs.declared.step.Step.{Step}
-use Rattle.ubi_change.specs.declared.takeable.FirstTwo.{FirstTwo}
 
 -- the first entry of another volume that has a name
 abbrev pub other_named : ℕ → List ℕ → List (ℕ × VolumeRecord) → Option (ℕ × VolumeRecord)
@@ -69,27 +70,26 @@ pub record AreHoldersOf (s : Sizes) (k : Source) (agrees : Agreed) (av : Avoided
 
 -- what was read for a rename: the ground, and the eraseblocks that hold the copies
 pub record IsRenamable (s : Sizes) (k : Source) (agrees : Agreed) (av : Avoided) (r : Renamable) : Type 0 where
-  pub ground : IsGroundOf s k agrees av r.ground
+  pub ground : IsGroundOf s k agrees av 2 r.ground
   pub holders : AreHoldersOf s k agrees av r.ground.surveyed r.holders
 
 -- what holds for what was read, whatever the source holds
 pub record FitsRenamable (s : Sizes) (r : Renamable) : Type 0 where
   pub sizes : r.ground.surveyed.records.sizes ≡ s
   pub holders : IfSome r.holders (BothFit (length r.ground.surveyed.states))
-  pub first : IfSome r.ground.taken.first (FitsIn (length r.ground.surveyed.states))
-  pub second : IfSome r.ground.taken.second (FitsIn (length r.ground.surveyed.states))
+  pub taken : AllByRecursion (FitsIn (length r.ground.surveyed.states)) r.ground.taken.items
 
 -- the two eraseblocks that are taken, if two sequence numbers are left
-pub record AreSpares (scan : Found) (taken : FirstTwo) (two : Spares) : Type 0 where
-  pub first : taken.first ≡ Some two.first
-  pub second : taken.second ≡ Some two.second
+pub record AreSpares (scan : Found) (taken : List Site) (two : Spares) : Type 0 where
+  pub first : slice_get taken 0 ≡ Some two.first
+  pub second : slice_get taken 1 ≡ Some two.second
   pub few : scan.top_sqnum + 2 ≤ 0xFFFFFFFFFFFFFFFF
 
 -- which of these aren't left
-abbrev pub IsSparesRefusal : Found → FirstTwo → RenameRefusal → Type 0
+abbrev pub IsSparesRefusal : Found → List Site → RenameRefusal → Type 0
 IsSparesRefusal scan taken refusal.Exhausted = 0xFFFFFFFFFFFFFFFF < scan.top_sqnum + 2
 IsSparesRefusal scan taken refusal.NoFree =
-    (scan.top_sqnum + 2 ≤ 0xFFFFFFFFFFFFFFFF) × ((taken.first ≡ None) ⊎ (taken.second ≡ None))
+    (scan.top_sqnum + 2 ≤ 0xFFFFFFFFFFFFFFFF) × (length taken < 2)
 IsSparesRefusal scan taken _ = ⊥
 
 -- what is needed to write the steps: erase counters of 31 bits, and sequence numbers of 64
@@ -117,7 +117,7 @@ pub record AreCopiesOf (s : Sizes) (r : Renamable) (id : ℕ) (name : List ℕ) 
   pub holders : r.holders ≡ Some old
   pub strong : weak_pages s (pages_for s r id name) ≡ None
   pub two : Spares
-  pub spares : AreSpares r.ground.surveyed.scan r.ground.taken two
+  pub spares : AreSpares r.ground.surveyed.scan r.ground.taken.items two
   pub bytes : AreBytes (pages_for s r id name)
   pub is : steps ≡ two_copies s r.ground.surveyed.scan old two (pages_for s r id name)
 
@@ -130,7 +130,7 @@ IsUnrenamed s r id name c =
     ⊎ ((old : Holders) × (r.holders ≡ Some old)
     × (((k : ℕ) × (weak_pages s (pages_for s r id name) ≡ Some k) × (c ≡ refusal.WeakCheck k))
     ⊎ ((weak_pages s (pages_for s r id name) ≡ None)
-    × (IsSparesRefusal r.ground.surveyed.scan r.ground.taken c ⊎ (c ≡ refusal.Memory)))))))
+    × (IsSparesRefusal r.ground.surveyed.scan r.ground.taken.items c ⊎ (c ≡ refusal.Memory)))))))
 
 -- what an error of a call that writes nothing says about a plan
 abbrev pub rename_error : StreamError → PlanError RenameRefusal

@@ -15,7 +15,7 @@ returns-clause-within c =
     let n = length p.ground.surveyed.states in
     let new = c.args.new.now in
     let asked : IsTarget s c.table.result.now c.args.id c.args.lnum new c.in_ok-target.target = c.in_ok-target.ensures.target in
-    let sites = rw c.scan-scan.ensures at c.in_ok-sites.ensures.sites in
+    let sites = rw (c.scan-scan.ensures, c.as_slice.ensures.value) at c.in_ok-sites.ensures.sites in
     subst (λ (steps : List Step). AllWithin s n steps) (sym (rw c.scan-scan.ensures at c.in_ok-steps_on.ensures))
     (change_within s n c.page.ensures.limits p.ground.surveyed.scan c.in_ok-target.target new c.in_ok-sites.sites
     (sites_fit s p c.requires c.page.ensures.limits c.in_ok-sites.sites sites)

@@ -8,5 +8,5 @@ returns-clause-ground g c =
     let seen = c.in_ok-surveyed.surveyed in
     record {
       survey = survey_narrowed s _ _ agrees seen c.in_ok-taken.ensures.narrows c.in_ok-surveyed.ensures.survey;
-      taken = subst (λ (k : Source). AreTaken s k agrees (states_avoiding c.args.avoided.now seen.states) c.in_ok-taken.taken) c.in_ok-surveyed.ensures.known c.in_ok-taken.ensures.taken;
+      taken = subst (λ (k : Source). AreTaken s k agrees (states_avoiding c.args.avoided.now seen.states) c.args.most c.in_ok-taken.taken.items) c.in_ok-surveyed.ensures.known c.in_ok-taken.ensures.taken;
     }
