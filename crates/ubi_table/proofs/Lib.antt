@@ -1,5 +1,6 @@
 pub mod CopyVectors
 pub mod Deciding
+pub mod DraftedRecords
 pub mod Entries
 pub mod LesserPage
 pub mod NameRules

@@ -6,13 +6,12 @@ ghost use Rattle.ubi_scan.specs.Image.{of_blocks};
 ghost use Rattle.ubi_scan.specs.Scan.{IsScan};
 ghost use Rattle.ubi_scan.specs.Source.{Narrows, WhereHeld, blocks_in, blocks_of};
 ghost use Rattle.ubi_scan.specs.Stream.{IsScanOf, NamesBlock, after};
-ghost use Rattle.ubi_table.specs.Records.{twice};
 ghost use Rattle.ubi_table.specs.Stream.{HasSizes, IsCopyReadError};
 ghost use Rattle.ubi_table.specs.Table.{CopyIs, copy_of};
 
-use crate::table::{Table, first_named};
+use crate::table::{Table, twice};
 use std::alloc::{AllocError, Global};
-use ubi_media::{Geometry, LAYOUT_VOLUME, RECORD_SIZE, RecFault, RecRead, VolumeRecord, read_rec};
+use ubi_media::{Geometry, LAYOUT_VOLUME, RECORD_SIZE, RecFault, RecRead, read_rec};
 use ubi_scan::{BlockSource, Blocks, Scan, StreamError, read_leb};
 
 /// What a copy of the volume table is.
@@ -28,19 +27,6 @@ pub enum CopyRead {
     Twice(u32, u32),
     /// Its table, if none of this applies.
     Good(Table),
-}
-
-/// The slot of the first record whose name comes again, and that of the next that has it.
-fn twice(records: &[(u32, VolumeRecord)]) -> Option<(u32, u32)>
-    ensures { result ≡ twice records.now }
-{
-    for (at, (slot, volume)) in records.iter().enumerate() {
-        match first_named(&records[at + 1..], &volume.name) {
-            Some(next) => return Some((*slot, next.0)),
-            None => {}
-        }
-    }
-    None
 }
 
 /// What the bytes of a logical eraseblock are as a copy of the volume table. Never `Absent`.

@@ -32,6 +32,7 @@
 
 mod choice;
 mod copy;
+mod draft;
 mod encode;
 pub mod laws;
 mod renamed;
@@ -39,4 +40,5 @@ mod table;
 
 pub use choice::{choose, choose_from};
 pub use copy::{CopyRead, read_copy, read_copy_from};
+pub use draft::{Draft, DraftError};
 pub use table::Table;
