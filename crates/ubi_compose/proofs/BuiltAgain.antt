@@ -1,10 +1,10 @@
 -- What is built from the records and the contents of an accepted image is its meaning.
-use Rattle.ubi_compose.proofs.Prelude.{◌≡◌, ◌≢◌, ℕ, zero, suc, ◌+◌, ◌-◌, ◌*◌, ◌<◌, ◌≤◌, inl, inr, Bool, true, false, cond, List, [], ◌++◌, append-nil, length, refl, ap, sym, ◌∙◌, arith, zero-add, Contains, Err, None, Ok, Option, Some, IfSome, option_map, unwrap_or, FinMap, nat_cmp, nat_cmp_total, nat_cmp-IsAntisymmetric, range_with_len, option_map_or, mul-le, blank, filled, is_blank, Sizes, usable, VolumeRecord, VolKind, within_or_past, usable_some, filled-is, length-blank, lebs_without_blank, without_blank, pieces, share, leb_text, lebs_text, volume_read, Content, Fits, IsMeaning, IsVolume, Meant, Volume, blank_text, pieces_few, pieces_suffice, get_without_blank, is_kept, Parts, built, content_of, lebs_of, text_of, part_at, Part, not, volume_is, get_or, get_or-range_with_len, length-range_with_len, length-lebs, share_of_pieces, KeepsNoBlank, AreVolumesOf, BuiltAgain}
+use Rattle.ubi_compose.proofs.Prelude.{◌≡◌, ◌≢◌, ℕ, zero, suc, ◌+◌, ◌-◌, ◌*◌, ◌<◌, ◌≤◌, inl, inr, Bool, true, false, cond, List, [], ◌++◌, append-nil, length, refl, ap, sym, ◌∙◌, arith, zero-add, Contains, Err, None, Ok, Option, Some, IfSome, option_map, unwrap_or, FinMap, nat_cmp, nat_cmp_total, nat_cmp-IsAntisymmetric, range_with_len, option_map_or, mul-le, blank, filled, is_blank, Sizes, usable, VolumeRecord, VolKind, within_or_past, usable_some, filled-is, length-blank, lebs_without_blank, without_blank, pieces, share, leb_text, lebs_text, volume_read, Content, Fits, IsMeaning, IsVolume, Meant, Volume, blank_text, pieces_few, pieces_suffice, get_without_blank, is_kept, Parts, built, content_of, lebs_of, text_of, part_at, Part, not, volume_is, get_or, get_or-range_with_len, length-range_with_len, length-lebs, share_of_pieces, KeepsNoBlank, AreVolumesOf, BuiltAgain, leb_there, leb_within}
 use Rattle.std.specs.FinMap as finite
 use Rattle.ubi_media.specs.declared.vid.VolKind.TheVariants as kind
 use Rattle.ubi_volume.specs.declared.content.Content.TheVariants as content
 use Rattle.ubi_volume.specs.declared.errors.ReadError.TheVariants as error
-use Rattle.ubi_compose.proofs.BuiltContents.{leb_of, leb_there, leb_within}
+use Rattle.ubi_laid.proofs.PartContents.{leb_of}
 use Rattle.ubi_compose.proofs.BuiltReads.{some_part}
 use Rattle.ubi_compose.proofs.BuiltVolumes.{built_at, volume_in}
 use Rattle.ubi_compose.proofs.ListedParts.{found_part, listed_at}

@@ -1,9 +1,8 @@
 -- What is built is a meaning, and its normal image fits the device if all pieces do.
-use Rattle.ubi_compose.proofs.Prelude.{◌≡◌, ℕ, ◌+◌, ◌≤◌, true, false, Bool, inl, inr, List, [], ◌∷◌, length, map, refl, ap, sym, ◌∙◌, subst, arith, IfSome, None, Option, Some, slice_get, sum_by, nat_cmp_total, put, by_order, nat_cmp, Equal, Greater, cases_order, sum_by-cons, same_Some, blank, leb_size, usable, usable_some, length-blank, no_entries, IsItem, NoCause, item_without_blank, HasDistinctNames, IsMeaning, IsVolume, Volume, fits_without_blank, keeps_no_blank, HaveMeaning, Parts, Reaches, built, content_of, item_of, items_of, text_of, table_of, Part}
+use Rattle.ubi_compose.proofs.Prelude.{◌≡◌, ℕ, ◌+◌, ◌≤◌, true, false, Bool, inl, inr, List, [], ◌∷◌, length, map, refl, ap, sym, ◌∙◌, subst, arith, IfSome, None, Option, Some, slice_get, sum_by, nat_cmp_total, put, by_order, nat_cmp, Equal, Greater, cases_order, sum_by-cons, same_Some, blank, leb_size, usable, usable_some, length-blank, no_entries, IsItem, NoCause, item_without_blank, HasDistinctNames, IsMeaning, IsVolume, Volume, fits_without_blank, keeps_no_blank, HaveMeaning, Parts, Reaches, built, content_of, item_of, items_of, text_of, table_of, Part, content_fits, text_size}
 use Rattle.std.specs.declared.cmp.Ordering.TheVariants.{Less}
 use Rattle.std.specs.FinMap as finite
 use Rattle.ubi_volume.specs.declared.errors.MeaningCause.TheVariants as cause
-use Rattle.ubi_compose.proofs.BuiltContents.{content_fits, text_size}
 use Rattle.ubi_compose.proofs.BuiltVolumes.{built_part, table_is, volume_in}
 use Rattle.ubi_compose.proofs.ListedParts.{enough, enough_reaches, found_part, item_at, listed_at, part_fits, part_slot, part_sound, reached, reserved_room}
 use Rattle.ubi_compose.proofs.StandIns.{content_clear}

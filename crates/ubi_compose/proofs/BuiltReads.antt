@@ -1,10 +1,10 @@
 -- What volumes that are built read.
-use Rattle.ubi_compose.proofs.Prelude.{◌≡◌, ◌==◌, ℕ, zero, suc, ◌+◌, ◌-◌, ◌*◌, ◌<◌, ◌≤◌, inl, inr, Bool, true, false, cond, List, [], ◌∷◌, ◌++◌, append-nil, length, length-drop, length-take-le, take, drop, refl, ap, sym, ◌∙◌, arith, zero-add, Contains, Err, None, Ok, Option, Some, find, flat_map, option_map, slice_get, unwrap_or, FinMap, nat_cmp, range_with_len, option_map_or, drop-append-add, take-append-add, cases_order, drop-append-le, drop_all, take-append-le, take-replicate, take_all, same_Some, mul-le, blank, filled, is_blank, usable, VolKind, within_or_past, usable_some, drop_blank, filled-is, filled-none, length-filled, at_itself, pieces_more, lebs_without_blank, without_blank, pieces, share, leb_text, lebs_text, read_volume, volume_read, Volume, blank_text, same_range, pieces_suffice, share_more, share_most, get_without_blank, is_kept, HaveMeaning, Parts, Reaches, built, content_of, item_of, lebs_of, text_of, text_read, part_at, Part, not}
+use Rattle.ubi_compose.proofs.Prelude.{◌≡◌, ◌==◌, ℕ, zero, suc, ◌+◌, ◌-◌, ◌*◌, ◌<◌, ◌≤◌, inl, inr, Bool, true, false, cond, List, [], ◌∷◌, ◌++◌, append-nil, length, length-drop, length-take-le, take, drop, refl, ap, sym, ◌∙◌, arith, zero-add, Contains, Err, None, Ok, Option, Some, find, flat_map, option_map, slice_get, unwrap_or, FinMap, nat_cmp, range_with_len, option_map_or, drop-append-add, take-append-add, cases_order, drop-append-le, drop_all, take-append-le, take-replicate, take_all, same_Some, mul-le, blank, filled, is_blank, usable, VolKind, within_or_past, usable_some, drop_blank, filled-is, filled-none, length-filled, at_itself, pieces_more, lebs_without_blank, without_blank, pieces, share, leb_text, lebs_text, read_volume, volume_read, Volume, blank_text, same_range, pieces_suffice, share_more, share_most, get_without_blank, is_kept, HaveMeaning, Parts, Reaches, built, content_of, item_of, lebs_of, text_of, text_read, part_at, Part, not, leb_there, leb_within, text_size}
 use Rattle.std.specs.FinMap as finite
 use Rattle.ubi_media.specs.declared.vid.VolKind.TheVariants as kind
 use Rattle.ubi_volume.specs.declared.errors.MeaningCause.TheVariants as cause
 use Rattle.ubi_volume.specs.declared.errors.ReadError.TheVariants as error
-use Rattle.ubi_compose.proofs.BuiltContents.{leb_of, leb_there, leb_within, text_size}
+use Rattle.ubi_laid.proofs.PartContents.{leb_of}
 use Rattle.ubi_compose.proofs.BuiltVolumes.{built_at, volume_in}
 use Rattle.ubi_compose.proofs.ListedParts.{found_part, item_at, listed_at, part_fits, part_sound, reached}
 

@@ -1,10 +1,9 @@
 -- The normal image of what is built fits the device if the table, all pieces and the spares do, and is then accepted.
-use Rattle.ubi_compose.proofs.Prelude.{◌≡◌, ℕ, suc, ◌+◌, ◌<◌, ◌≤◌, List, [], ◌∷◌, length, map, refl, ap, sym, ◌∙◌, arith, Some, slice_get, sum_by, AllByRecursion, length-map, length-flat_map, length-map-range_with_len, sum_by-cons, Sizes, data_pad, usable, VolumeRecord, VolKind, image_of, Accepts, item_without_blank, without_blank, pieces, Content, Volume, HaveMeaning, Parts, Reaches, built, content_of, item_of, items_of, most_blocks, pieces_of, text_of, HasRoom, composed, dynamic_block, static_part, volume_blocks, Part, all_from, held_entry, entries_rise}
+use Rattle.ubi_compose.proofs.Prelude.{◌≡◌, ℕ, suc, ◌+◌, ◌<◌, ◌≤◌, List, [], ◌∷◌, length, map, refl, ap, sym, ◌∙◌, arith, Some, slice_get, sum_by, AllByRecursion, length-map, length-flat_map, length-map-range_with_len, sum_by-cons, Sizes, data_pad, usable, VolumeRecord, VolKind, image_of, Accepts, item_without_blank, without_blank, pieces, Content, Volume, HaveMeaning, Parts, Reaches, built, content_of, item_of, items_of, most_blocks, pieces_of, text_of, HasRoom, composed, dynamic_block, static_part, volume_blocks, Part, all_from, held_entry, entries_rise, text_size}
 use Rattle.std.specs.FinMap as finite
 use Rattle.ubi_media.specs.declared.vid.VolKind.TheVariants as kind
 use Rattle.ubi_volume.specs.declared.content.Content.TheVariants as content
 use Rattle.ubi_compose.proofs.Accepted.{normal_accepted}
-use Rattle.ubi_compose.proofs.BuiltContents.{text_size}
 use Rattle.ubi_compose.proofs.BuiltMeaning.{built_meaning, sum_made}
 use Rattle.ubi_compose.proofs.BuiltVolumes.{kept, within}
 use Rattle.ubi_compose.proofs.ListedParts.{reached}

@@ -1,10 +1,9 @@
 -- The normal image of what is built from parts, by their pieces.
-use Rattle.ubi_compose.proofs.Prelude.{◌≡◌, ◌==◌, ℕ, zero, suc, ◌+◌, ◌<◌, ◌≤◌, Bool, true, false, cond, List, [], ◌++◌, length, refl, ap, sym, ◌∙◌, subst, arith, None, Option, Some, flat_map, option_map, unwrap_or, FinMap, range_with_len, option_map_or, nat_cmp, flat_map-map, is_blank, IsGeometry, slots, data_pad, rec_bytes, rec_fault, usable, VolKind, table_bytes, item_without_blank, lebs_without_blank, without_blank, pieces, records_of, Volume, same_range, get_without_blank, is_kept, HaveMeaning, Parts, Reaches, built, content_of, item_of, items_of, lebs_of, pieces_of, text_of, composed, spare, laid_blocks, dynamic_block, laid_bytes, new_ec, static_part, volume_blocks, part_at, table_of, Part, Device, built_piece, built_pieces, piece_of_kind, spares_bytes, first_volumes, image_bytes, piece_bytes, tables_bytes, record_of, not}
+use Rattle.ubi_compose.proofs.Prelude.{◌≡◌, ◌==◌, ℕ, zero, suc, ◌+◌, ◌<◌, ◌≤◌, Bool, true, false, cond, List, [], ◌++◌, length, refl, ap, sym, ◌∙◌, subst, arith, None, Option, Some, flat_map, option_map, unwrap_or, FinMap, range_with_len, option_map_or, nat_cmp, flat_map-map, is_blank, IsGeometry, slots, data_pad, rec_bytes, rec_fault, usable, VolKind, table_bytes, item_without_blank, lebs_without_blank, without_blank, pieces, records_of, Volume, same_range, get_without_blank, is_kept, HaveMeaning, Parts, Reaches, built, content_of, item_of, items_of, lebs_of, pieces_of, text_of, composed, spare, laid_blocks, dynamic_block, laid_bytes, new_ec, static_part, volume_blocks, part_at, table_of, Part, Device, built_piece, built_pieces, piece_of_kind, spares_bytes, first_volumes, image_bytes, piece_bytes, tables_bytes, record_of, not, leb_there, leb_within, text_size, entries_by_number, find-map, flat_map-flat_map, get_made}
 use Rattle.std.specs.Prelude.{replicate}
 use Rattle.std.specs.FinMap as finite
 use Rattle.ubi_media.specs.declared.vid.VolKind.TheVariants as kind
-use Rattle.ubi_compose.proofs.BuiltContents.{leb_of, leb_there, leb_within, text_size}
-use Rattle.ubi_compose.proofs.EntriesByNumber.{entries_by_number, find-map, flat_map-flat_map, get_made}
+use Rattle.ubi_laid.proofs.PartContents.{leb_of}
 use Rattle.ubi_compose.proofs.ListedParts.{found_part, listed_at, part_slot, part_sound, reached}
 use Rattle.ubi_compose.proofs.PiecesOfParts.{dynamic_written, static_written}
 use Rattle.ubi_compose.proofs.Puts.{composed_pieces}

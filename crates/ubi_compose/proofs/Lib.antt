@@ -1,7 +1,6 @@
 pub mod Accepted
 pub mod Blocks
 pub mod BuiltAgain
-pub mod BuiltContents
 pub mod BuiltImage
 pub mod BuiltMeaning
 pub mod BuiltPieces
@@ -9,9 +8,7 @@ pub mod BuiltReads
 pub mod BuiltRoom
 pub mod BuiltVectors
 pub mod BuiltVolumes
-pub mod ByNumber
 pub mod Changes
-pub mod EntriesByNumber
 pub mod Escapes
 pub mod Fitting
 pub mod GreaterPage

@@ -1,8 +1,7 @@
 -- The parts of volumes that have a meaning together.
-use Rattle.ubi_compose.proofs.Prelude.{◌≡◌, ◌==◌, ℕ, zero, suc, ◌+◌, ◌*◌, ◌^◌, ◌<◌, ◌≤◌, true, false, cond, List, [], ◌∷◌, get_or, length, map, refl, ap, sym, ◌∙◌, subst, arith, inl, inr, Contains, None, Option, Some, find, fold, slice_get, sum_by, nat_tests, sum_by-cons, get_or_from_slice_get, slice_get-get_or, slice_get-map, slice_get_within, same_Some, blank, slots, rec_fault, usable, RecFault, within_or_past, usable_some, length-blank, IsItem, NoCause, Volume, pieces_few, HaveMeaning, Parts, Reaches, item_of, items_of, most_blocks, pieces_of, text_of, HasParts, part_at, Part}
+use Rattle.ubi_compose.proofs.Prelude.{◌≡◌, ◌==◌, ℕ, zero, suc, ◌+◌, ◌*◌, ◌^◌, ◌<◌, ◌≤◌, true, false, cond, List, [], ◌∷◌, get_or, length, map, refl, ap, sym, ◌∙◌, subst, arith, inl, inr, Contains, None, Option, Some, find, fold, slice_get, sum_by, nat_tests, sum_by-cons, get_or_from_slice_get, slice_get-get_or, slice_get-map, slice_get_within, same_Some, blank, slots, rec_fault, usable, RecFault, within_or_past, usable_some, length-blank, IsItem, NoCause, Volume, pieces_few, HaveMeaning, Parts, Reaches, item_of, items_of, most_blocks, pieces_of, text_of, HasParts, part_at, Part, long_misfits, text_size}
 use Rattle.std.specs.Option.{option_map}
 use Rattle.ubi_volume.specs.declared.errors.MeaningCause.TheVariants as cause
-use Rattle.ubi_compose.proofs.BuiltContents.{long_misfits, text_size}
 
 -- a part whose record breaks no rule, whose volume holds its bytes, and whose bytes a source of a size has
 pub record IsReadablePart (ps : Parts) (size : ℕ) (p : Part) : Type 0 where

@@ -1,5 +1,5 @@
 -- The volumes of an accepted image can be built again.
-use Rattle.ubi_compose.proofs.Prelude.{◌≡◌, ℕ, suc, ◌+◌, ◌*◌, ◌<◌, ◌≤◌, false, List, [], ◌∷◌, get_or, length, map, refl, ap, sym, ◌∙◌, subst, arith, Contains, Err, None, Ok, Option, Some, IfSome, fold, slice_get, sum_by, sum_by-cons, get_or_from_slice_get, slice_get-map, slice_get-get_or, slice_get_within, option_map, option_map_or, nat_cmp_total, IsGeometry, Sizes, slots, rec_fault, usable, usable_some, VolumeRecord, IsItem, NoCause, Content, Fits, IsMeaning, IsVolume, Meant, records_of, Volume, pieces_few, volume_read, records_are, records_fit, volume_is, meant_by, record_of, same_Some, HaveMeaning, Parts, Reaches, item_of, items_of, most_blocks, pieces_of, text_of, Part, lebs_text, ranked, rising_at, nat_cmp-IsAntisymmetric, AreRecords, Records, length-lebs, AreItsParts, AreVolumesOf, PartsBuildAgain, mul-le, Less}
+use Rattle.ubi_compose.proofs.Prelude.{◌≡◌, ℕ, suc, ◌+◌, ◌*◌, ◌<◌, ◌≤◌, false, List, [], ◌∷◌, get_or, length, map, refl, ap, sym, ◌∙◌, subst, arith, Contains, Err, None, Ok, Option, Some, IfSome, fold, slice_get, sum_by, sum_by-cons, get_or_from_slice_get, slice_get-map, slice_get-get_or, slice_get_within, option_map, option_map_or, nat_cmp_total, IsGeometry, Sizes, slots, rec_fault, usable, usable_some, VolumeRecord, IsItem, NoCause, Content, Fits, IsMeaning, IsVolume, Meant, records_of, Volume, pieces_few, volume_read, records_are, records_fit, volume_is, meant_by, record_of, same_Some, HaveMeaning, Parts, Reaches, item_of, items_of, most_blocks, pieces_of, text_of, Part, lebs_text, ranked, rising_at, nat_cmp-IsAntisymmetric, AreRecords, Records, length-lebs, AreItsParts, AreVolumesOf, PartsBuildAgain, mul-le, Less, content_fits, text_size}
 use Rattle.std.specs.FinMap as finite
 use Rattle.ubi_scan.proofs.Finite.{place_of}
 use Rattle.ubi_volume.proofs.Gathered.{listed_at as entry_at_place}
@@ -8,7 +8,6 @@ use Rattle.ubi_volume.specs.declared.content.Content.TheVariants as content
 use Rattle.ubi_volume.specs.declared.errors.MeaningCause.TheVariants as cause
 use Rattle.ubi_volume.specs.declared.errors.ReadError.TheVariants as error
 use Rattle.ubi_compose.proofs.BuiltAgain.{again}
-use Rattle.ubi_compose.proofs.BuiltContents.{content_fits, text_size}
 use Rattle.ubi_compose.proofs.ListedParts.{item_from, listed_at, reached}
 
 -- what a volume reads has room in what it reserves, and its record has no marker

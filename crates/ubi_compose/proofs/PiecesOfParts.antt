@@ -1,45 +1,7 @@
 -- The pieces of a part: what is written of each is the eraseblock of a LEB of its volume.
-use Rattle.ubi_compose.proofs.Prelude.{◌≡◌, ℕ, ◌+◌, ◌-◌, ◌*◌, ◌<◌, ◌≤◌, ◌==◌, ◌&&◌, Bool, true, false, cond, zero, suc, List, [], ◌++◌, length, slice_range, take, drop, refl, ap, sym, ◌∙◌, arith, inl, inr, append_assoc, length-append, length-blank, None, min, drop-drop, drop-take, length-take, take-take, take_all, list_all-append, blank, filled, is_blank, IsGeometry, leb_size, crc_of, Sizes, data_pad, usable, plain, ec_bytes, vid_bytes, VidHeader, rec_fault, piece_begins, usable_some, within_or_past, filled-is, length-share, pieces, share, share_most, share_len, Parts, text_of, dynamic_block, laid_bytes, new_ec, piece_header, static_part, Part, Device, piece_of_kind, piece_bytes, replicate-append-replicate}
+use Rattle.ubi_compose.proofs.Prelude.{◌≡◌, ℕ, ◌+◌, ◌-◌, ◌*◌, ◌<◌, ◌≤◌, cond, List, [], ◌++◌, length, slice_range, refl, ap, sym, ◌∙◌, arith, append_assoc, length-append, length-blank, None, blank, filled, is_blank, IsGeometry, leb_size, crc_of, Sizes, data_pad, usable, plain, ec_bytes, vid_bytes, VidHeader, rec_fault, piece_begins, usable_some, filled-is, length-share, pieces, share, share_most, share_len, Parts, text_of, dynamic_block, laid_bytes, new_ec, piece_header, static_part, Part, Device, piece_of_kind, piece_bytes, replicate-append-replicate, text_size, blank_filled, share_read}
 use Rattle.ubi_media.specs.declared.vid.VolKind.TheVariants as kind
 use Rattle.ubi_scan.proofs.Parts as parts
-use Rattle.ubi_compose.proofs.BuiltContents.{text_size}
-
--- the first of the first
-two_takes : (a m : ℕ) (xs : List ℕ) → take a (take m xs) ≡ take (min a m) xs
-two_takes a m xs = elim (within_or_past a m) [
-  | inl few ↦ take-take a m xs few ∙ ap (λ n. take n xs) (let e : a ≡ min a m = omega arith in e)
-  | inr more ↦ take_all a (take m xs) (let n = length-take m xs in omega (arith, n, more))
-      ∙ ap (λ n. take n xs) (let e : m ≡ min a m = omega arith in e)
-]
-
--- a piece lies at its place
-pub share_read : (bytes : List ℕ) (p : Part) (size lnum at len : ℕ) → lnum * size ≤ p.len → at ≡ p.start + lnum * size
-    → len ≡ share_len size p.len lnum → slice_range bytes at (at + len) ≡ share size (text_of bytes p) lnum
-share_read bytes p size lnum at len inside begin count =
-    let k = lnum * size in
-    let rest : ℕ = p.len - k in
-    let all : p.len ≡ k + rest = omega arith in
-    let room : at + len - at ≡ len = omega arith in
-    ap (λ n. take n (drop at bytes)) (room ∙ count) ∙ sym (two_takes size rest (drop at bytes))
-    ∙ ap (λ n. take size (take rest (drop n bytes))) begin
-    ∙ ap (λ xs. take size (take rest xs)) (sym (drop-drop k p.start bytes))
-    ∙ ap (take size) (sym (drop-take k rest (drop p.start bytes)))
-    ∙ ap (λ n. take size (drop k (take n (drop p.start bytes)))) (sym all)
-
--- 0xFF behind a text doesn't tell whether it is 0xFF throughout
-blank_all : (n : ℕ) → is_blank (blank n) ≡ true
-blank_all zero = refl
-blank_all (suc n) = blank_all n
-
-and_true : (b : Bool) → (b && true) ≡ b
-and_true true = refl
-and_true false = refl
-
-blank_filled : (size : ℕ) (text : List ℕ) → is_blank (filled size text) ≡ is_blank text
-blank_filled size text =
-    let k : ℕ = size - length text in
-    ap is_blank (filled-is size text) ∙ list_all-append (λ b. b == 255) text (blank k)
-    ∙ ap (λ b. is_blank text && b) (blank_all k) ∙ and_true (is_blank text)
 
 -- and stands in its eraseblock anyway
 blank_behind : (k more rest : ℕ) (xs : List ℕ) → k + more ≡ rest → (xs ++ blank k) ++ blank more ≡ xs ++ blank rest

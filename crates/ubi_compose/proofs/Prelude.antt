@@ -12,13 +12,12 @@ pub use Rattle.std.proofs.lemmas.Iterator.{YieldsList-from_take}
 pub use Rattle.std.proofs.lemmas.Iterator.Consumers.{YieldsList-end, YieldsList-turn}
 pub use Rattle.std.proofs.lemmas.Iterator.Search.{any_from_yields_List}
 pub use Rattle.std.proofs.lemmas.Iterator.Splits.{YieldsList-from_slice_split}
-pub use Rattle.std.proofs.lemmas.List.{drop-append-le, drop-drop, drop-take, drop_all, drop_more, get_or-append_right, get_or-replicate, get_or_at, length-map, length-replicate, length-take, length_push, map-append, map-id, map-set, replicate-append-replicate, set-get_or, set_at, take-append-le, take-replicate, take-take, take_all, take_at, take_more}
+pub use Rattle.std.proofs.lemmas.List.{drop-append-le, drop_all, drop_more, get_or-append_right, get_or-replicate, get_or_at, length-map, length-replicate, length-take, length_push, map-append, map-id, map-set, replicate-append-replicate, set-get_or, set_at, take-append-le, take-replicate, take_all, take_at, take_more}
 pub use Rattle.std.proofs.lemmas.List.Concat.{concat_is, length-flat_map}
 pub use Rattle.std.proofs.lemmas.List.Elements.{All-from_recursion, All-get_or, filter-append, filter_map-append}
 pub use Rattle.std.proofs.lemmas.List.Folds.{find-append, flat_map-map, list_all-append, list_any-append}
 pub use Rattle.std.proofs.lemmas.List.FromFn.{get_or-range_with_len, length-map-range_with_len, length-range_with_len}
 pub use Rattle.std.proofs.lemmas.List.Sums.{sum_by-cons, sum_by-take-le, sum_by_more}
-pub use Rattle.std.proofs.lemmas.Map.Lookups.{exact_unsigned}
 pub use Rattle.std.proofs.lemmas.Nat.{div-mul-add, mul-le}
 pub use Rattle.std.proofs.lemmas.Nat.Gcd.{dvd_of_mod-eq-zero}
 pub use Rattle.std.proofs.lemmas.Option.{get_or_from_slice_get, none-some, same_Some, slice_get-get_or, slice_get-map, slice_get_cases, slice_get_read, slice_get_within}
@@ -47,7 +46,10 @@ pub use Rattle.hex.specs.declared.error.FromHexError.{FromHexError}
 pub use Rattle.ubi_laid.proofs.AllVolumes.{apart_blocks, fine_blocks, its_volume, own_like}
 pub use Rattle.ubi_laid.proofs.Contents.{laid_read}
 pub use Rattle.ubi_laid.proofs.DistinctLebs.{one_place}
+pub use Rattle.ubi_laid.proofs.EntriesByNumber.{entries_by_number, find-map, flat_map-flat_map, get_made}
 pub use Rattle.ubi_laid.proofs.Lists.{Holds, all_at, all_from, held_entry, slice_get_left}
+pub use Rattle.ubi_laid.proofs.PartContents.{content_fits, leb_there, leb_within, long_misfits, text_size}
+pub use Rattle.ubi_laid.proofs.PartPieces.{blank_filled, share_read}
 pub use Rattle.ubi_laid.proofs.ReadBytes.{text_held, text_is}
 pub use Rattle.ubi_laid.proofs.Rising.{Rises, entries_rise}
 pub use Rattle.ubi_laid.specs.Laid.{AreApart, CanBeLaid, Differ, Laid, damaged_block, dynamic_block, laid_blocks, piece_header, static_block, static_blocks, static_part, volume_blocks}
@@ -86,10 +88,10 @@ pub use Rattle.ubi_media.specs.declared.vid.VolKind.{VolKind}
 pub use Rattle.ubi_scan.proofs.Chunks.{first_chunks-concat, length-concat}
 pub use Rattle.ubi_scan.proofs.Clean.{none_from_clean}
 pub use Rattle.ubi_scan.proofs.Decided.{Wins-unique}
-pub use Rattle.ubi_scan.proofs.Entries.{first_entry, sorted_entries}
+pub use Rattle.ubi_scan.proofs.Entries.{sorted_entries}
 pub use Rattle.ubi_scan.proofs.FilledWithBlanks.{behind, drop_blank, filled-by, filled-is, filled-none, length-blank, length-filled}
 pub use Rattle.ubi_scan.proofs.Finite.{rising_at}
-pub use Rattle.ubi_scan.proofs.Keys.{apart_test, at_itself, same_test, told}
+pub use Rattle.ubi_scan.proofs.Keys.{apart_test, at_itself, same_test}
 pub use Rattle.ubi_scan.proofs.Parts.{blank_vid}
 pub use Rattle.ubi_scan.proofs.Seq.{seq_is}
 pub use Rattle.ubi_scan.specs.Clean.{IsSound}

@@ -1,10 +1,9 @@
 -- Volumes are judged by what stands in for their bytes as they would be by the bytes.
-use Rattle.ubi_compose.proofs.Prelude.{◌≡◌, ℕ, ◌+◌, ◌*◌, ◌<◌, ◌≤◌, ◌&&◌, Bool, true, false, cond, List, [], ◌∷◌, length, map, refl, ap, sym, ◌∙◌, subst, arith, inl, inr, None, Option, Some, fold, is_none, nat_lt, slice_get, IfSome, nat_cmp, nat_tests, Sizes, rec_fault, usable, RecFault, VolumeRecord, VolKind, usable_some, IsBefore, IsFirstMade, IsItem, NoCause, Stands, cause_rank, Fits, Content, Volume, MeaningCause, Reaches, content_of, items_of, text_of, empty_of, is_long_part, stand_in, stand_in_item, Part, not}
+use Rattle.ubi_compose.proofs.Prelude.{◌≡◌, ℕ, ◌+◌, ◌*◌, ◌<◌, ◌≤◌, ◌&&◌, Bool, true, false, cond, List, [], ◌∷◌, length, map, refl, ap, sym, ◌∙◌, subst, arith, inl, inr, None, Option, Some, fold, is_none, nat_lt, slice_get, IfSome, nat_cmp, nat_tests, Sizes, rec_fault, usable, RecFault, VolumeRecord, VolKind, usable_some, IsBefore, IsFirstMade, IsItem, NoCause, Stands, cause_rank, Fits, Content, Volume, MeaningCause, Reaches, content_of, items_of, text_of, empty_of, is_long_part, stand_in, stand_in_item, Part, not, content_fits, long_misfits, text_size}
 use Rattle.std.specs.FinMap as finite
 use Rattle.ubi_media.specs.declared.vid.VolKind.TheVariants as kind
 use Rattle.ubi_volume.specs.declared.content.Content.TheVariants as content
 use Rattle.ubi_volume.specs.declared.errors.MeaningCause.TheVariants as cause
-use Rattle.ubi_compose.proofs.BuiltContents.{content_fits, long_misfits, text_size}
 use Rattle.ubi_compose.proofs.ListedParts.{item_at, item_from, reached}
 
 -- a record allows no bytes exactly where it hasn't the marker

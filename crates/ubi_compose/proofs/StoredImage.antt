@@ -1,9 +1,8 @@
 -- The normal image of an image whose places are known, by their pieces; and what a writer received of it.
-use Rattle.ubi_compose.proofs.Prelude.{◌≡◌, ℕ, ◌*◌, ◌/◌, ◌<◌, inr, Result, Ok, Err, List, [], ◌++◌, length, take, refl, ap, sym, ◌∙◌, subst, arith, IfSome, Option, Some, None, flat_map, option_map, option_map_or, range_with_len, Appends, append_assoc, append-nil, take_all, Sizes, slots, VolumeRecord, image_of, same_range, Agreed, Source, blocks_in, Records, table_bytes, Meant, ArePlaces, AreWithin, ArePlacesOf, CaseFits, Placed, case_of, PlaceContent, Volume, same_Some, laid_blocks, laid_bytes, layout_block, new_ec, normal_bytes, volume_blocks, IsNormaliseToError, IsNormalisedTo, All, First, NotAll, Wrote, those, mul-div_cancel, PutError, HasPut, IsReadIn, first_volumes, image_bytes, tables_bytes, volume_bytes, stored_count, stored_piece, stored_pieces, HasGot, record_of}
+use Rattle.ubi_compose.proofs.Prelude.{◌≡◌, ℕ, ◌*◌, ◌/◌, ◌<◌, inr, Result, Ok, Err, List, [], ◌++◌, length, take, refl, ap, sym, ◌∙◌, subst, arith, IfSome, Option, Some, None, flat_map, option_map, option_map_or, range_with_len, Appends, append_assoc, append-nil, take_all, Sizes, slots, VolumeRecord, image_of, same_range, Agreed, Source, blocks_in, Records, table_bytes, Meant, ArePlaces, AreWithin, ArePlacesOf, CaseFits, Placed, case_of, PlaceContent, Volume, same_Some, laid_blocks, laid_bytes, layout_block, new_ec, normal_bytes, volume_blocks, IsNormaliseToError, IsNormalisedTo, All, First, NotAll, Wrote, those, mul-div_cancel, PutError, HasPut, IsReadIn, first_volumes, image_bytes, tables_bytes, volume_bytes, stored_count, stored_piece, stored_pieces, HasGot, record_of, entries_by_number, flat_map-flat_map}
 use Rattle.ubi_compose.specs.declared.errors.PutError.TheVariants as put
 use Rattle.std.specs.FinMap as finite
 use Rattle.ubi_scan.specs.declared.errors.StreamError.TheVariants as stream
-use Rattle.ubi_compose.proofs.EntriesByNumber.{entries_by_number, flat_map-flat_map}
 use Rattle.ubi_compose.proofs.StoredNext.{read_place}
 use Rattle.ubi_compose.proofs.StoredPieces.{d, s, volume, volume_written, written}
 

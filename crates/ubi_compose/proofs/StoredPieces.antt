@@ -1,10 +1,9 @@
 -- The pieces of a volume of an image whose places are known: their eraseblocks are what is written.
-use Rattle.ubi_compose.proofs.Prelude.{◌≡◌, ◌≢◌, ℕ, ◌<◌, inl, inr, Bool, true, false, cond, List, [], length, take, refl, ap, sym, ◌∙◌, subst, arith, IfSome, IsSome, None, Option, Some, flat_map, option_map, unwrap_or, FinMap, range_with_len, option_map_or, nat_cmp, flat_map-map, crc_of, blank, is_blank, Sizes, data_pad, usable, plain, VolumeRecord, usable_some, block, image_of, leb, vid, Wins, Wins-unique, HoldContents, LebReads, StaticReads, VolumeReads, piece, pieces, share, share_len, Fits, IsVolume, KeepsNoBlank, ArePlaces, Placed, Content, Volume, blank_text, other_text, volume_is, member_valid, are_lebs, same_range, static_whole, length-share, header_at, share_at, found_or_none, found_wins, in_table, reads_of, table, dynamic_block, laid_bytes, new_ec, piece_header, static_part, volume_blocks, Device, Piece, given_check, piece_bytes, dynamic_piece, static_piece, stored_count, stored_piece, CaseFits, case_of, blocks_of}
+use Rattle.ubi_compose.proofs.Prelude.{◌≡◌, ◌≢◌, ℕ, ◌<◌, inl, inr, Bool, true, false, cond, List, [], length, take, refl, ap, sym, ◌∙◌, subst, arith, IfSome, IsSome, None, Option, Some, flat_map, option_map, unwrap_or, FinMap, range_with_len, option_map_or, nat_cmp, flat_map-map, crc_of, blank, is_blank, Sizes, data_pad, usable, plain, VolumeRecord, usable_some, block, image_of, leb, vid, Wins, Wins-unique, HoldContents, LebReads, StaticReads, VolumeReads, piece, pieces, share, share_len, Fits, IsVolume, KeepsNoBlank, ArePlaces, Placed, Content, Volume, blank_text, other_text, volume_is, member_valid, are_lebs, same_range, static_whole, length-share, header_at, share_at, found_or_none, found_wins, in_table, reads_of, table, dynamic_block, laid_bytes, new_ec, piece_header, static_part, volume_blocks, Device, Piece, given_check, piece_bytes, dynamic_piece, static_piece, stored_count, stored_piece, CaseFits, case_of, blocks_of, entries_by_number}
 use Rattle.std.specs.FinMap as finite
 use Rattle.ubi_media.specs.declared.vid.VolKind.TheVariants as kind
 use Rattle.ubi_volume.specs.declared.content.Content.TheVariants as content
 use Rattle.ubi_volume.specs.declared.places.PlaceContent.TheVariants as place
-use Rattle.ubi_compose.proofs.EntriesByNumber.{entries_by_number}
 
 module _ (p : Placed) (image : List ℕ) where
   abbrev pub s : Sizes

@@ -6,7 +6,7 @@ ghost use Rattle.ubi_compose.specs.Building.{CanBuild, IsBuildError, IsNumberedP
 ghost use Rattle.ubi_compose.specs.Built.{HaveMeaning, IsRecipeError, built, most_blocks};
 ghost use Rattle.ubi_compose.specs.Composed.{composed};
 ghost use Rattle.ubi_compose.specs.inner.Building.{HasParts, built_pieces, empty_of, part_at, stand_in_item};
-ghost use Rattle.ubi_laid.specs.Parts.{Reaches, is_long_part};
+ghost use Rattle.ubi_laid.specs.Parts.{Reaches};
 ghost use Rattle.ubi_media.specs.Geometry.{IsGeometry};
 ghost use Rattle.ubi_media.specs.Record.{rec_fault};
 ghost use Rattle.ubi_scan.specs.Image.{image_of};
@@ -21,8 +21,8 @@ use crate::writer::put_image;
 use std::alloc::{AllocError, Global};
 use std::io::Write;
 use std::marker::Model;
-use ubi_laid::{Part, Piece, piece_count, piece_of};
-use ubi_media::{Geometry, VolKind, rec_fault};
+use ubi_laid::{Part, Piece, is_long, piece_count, piece_of};
+use ubi_media::{Geometry, VolKind};
 use ubi_scan::BlockSource;
 use ubi_volume::{Bytes, Content, Lebs, Meaning, Volume};
 
@@ -135,17 +135,6 @@ fn empty_content(alloc: Global, kind: VolKind) -> Content
         VolKind::Static => Content::Static(Bytes::new(Vec::new(alloc))),
         VolKind::Dynamic => Content::Dynamic(Lebs::new(alloc)),
     }
-}
-
-/// Whether a part has more bytes than its volume holds. If its record breaks a rule, nothing is said.
-fn is_long(geometry: &Geometry, part: &Part) -> bool
-    ensures { result ≡ is_long_part geometry.now part.now }
-{
-    if rec_fault(geometry, &part.entry).is_some() {
-        return false;
-    }
-    let most = u64::from(part.entry.reserved) * u64::from(part.entry.usable(geometry));
-    part.len > most
 }
 
 /// The volume of a part, after its number. It has no bytes in place of the part's; but if it can't have those, it has a content

@@ -1,9 +1,13 @@
 pub mod AllVolumes
+pub mod ByNumber
 pub mod Contents
 pub mod DistinctLebs
+pub mod EntriesByNumber
 pub mod Headers
 pub mod ListedVolumes
 pub mod Lists
+pub mod PartContents
+pub mod PartPieces
 pub mod PieceCounts
 pub mod ReadBytes
 pub mod Rising

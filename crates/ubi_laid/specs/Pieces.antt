@@ -1,7 +1,8 @@
 -- The pieces of volumes: the logical eraseblocks that are laid out, by where their bytes lie in a source.
-use Rattle.std.specs.Prelude.{◌≡◌, ℕ, ◌+◌, ◌*◌, ◌/◌, ◌<◌, ◌≤◌, Bool, false, List, [], drop, slice_range, take}
+use Rattle.std.specs.Prelude.{◌≡◌, ℕ, ◌+◌, ◌*◌, ◌/◌, ◌<◌, ◌≤◌, ◌-◌, Bool, false, if◌then◌else◌, List, [], ◌∷◌, drop, flat_map, slice_range, take}
 use Rattle.ubi_media.specs.Check.{crc_of}
-use Rattle.ubi_media.specs.Fields.{is_blank}
+use Rattle.std.specs.List.{range_with_len}
+use Rattle.ubi_media.specs.Fields.{filled, is_blank}
 use Rattle.ubi_media.specs.Geometry.{Sizes, leb_size}
 use Rattle.ubi_media.specs.Record.{data_pad, usable}
 use Rattle.ubi_media.specs.Vid.{plain}
@@ -13,7 +14,7 @@ use Rattle.ubi_media.specs.declared.vid.VolKind.TheVariants as kind
 use Rattle.ubi_scan.specs.Image.{block, leb, vid}
 use Rattle.ubi_scan.specs.Source.{blocks_of}
 use Rattle.ubi_volume.specs.Extract.{share_len}
-use Rattle.ubi_laid.specs.Laid.{piece_header}
+use Rattle.ubi_laid.specs.Laid.{Laid, piece_header}
 use Rattle.ubi_laid.specs.Parts.{pieces_of}
 use Rattle.ubi_laid.specs.declared.part.Part.{Part}
 use Rattle.ubi_laid.specs.declared.pieces.Origin.{Origin}
@@ -92,3 +93,23 @@ piece_of_kind k s p lnum = record {
 -- a piece of a part, by the part alone
 abbrev pub built_piece : Sizes → Part → ℕ → Piece
 built_piece s p = piece_of_kind p.entry.kind s p
+
+-- the text of an eraseblock that is laid out: with 0xFF up to what the volume uses of a LEB, if the volume is dynamic
+abbrev pub laid_text : VolKind → Sizes → VidHeader → List ℕ → List ℕ
+laid_text kind.Static s h text = text
+laid_text kind.Dynamic s h text = filled (leb_size s - h.data_pad) text
+
+-- the eraseblock of a piece
+abbrev pub laid_piece : Sizes → List ℕ → Piece → Laid
+laid_piece s bytes q = record {
+  header = checked_header q.header.kind s q.header q.origin q.len bytes;
+  text = laid_text q.header.kind s q.header (piece_text s q.origin q.len bytes);
+}
+
+-- a piece, if it isn't left out
+abbrev pub kept_piece : Sizes → List ℕ → Piece → List Piece
+kept_piece s bytes q = if is_left_out q.header.kind (piece_text s q.origin q.len bytes) then [] else q ∷ []
+
+-- the pieces of a part that aren't left out
+abbrev pub kept_pieces : Sizes → List ℕ → Part → List Piece
+kept_pieces s bytes p = flat_map (λ lnum. kept_piece s bytes (built_piece s p lnum)) (range_with_len 0 (pieces_of s p))

@@ -26,5 +26,5 @@ mod part;
 mod pieces;
 
 pub use header::{damaged_header, piece_header, static_header};
-pub use part::{Part, piece_count, piece_of};
+pub use part::{Part, is_long, piece_count, piece_of};
 pub use pieces::{Origin, Piece, fetch, header_of, is_left_out};

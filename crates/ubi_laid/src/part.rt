@@ -1,13 +1,13 @@
 //! Volumes whose bytes lie in a source, and their pieces.
 
 ghost use Rattle.std.specs.Prelude.{◌≡◌, ◌≤◌, ◌+◌, ◌*◌, ◌<◌, ◌^◌, None};
-ghost use Rattle.ubi_laid.specs.Parts.{pieces_of};
+ghost use Rattle.ubi_laid.specs.Parts.{is_long_part, pieces_of};
 ghost use Rattle.ubi_laid.specs.Pieces.{built_piece};
 ghost use Rattle.ubi_media.specs.Record.{rec_fault, usable};
 
 use crate::header::piece_header;
 use crate::pieces::{Origin, Piece};
-use ubi_media::{Geometry, VidHeader, VolKind, VolumeRecord};
+use ubi_media::{Geometry, VidHeader, VolKind, VolumeRecord, rec_fault};
 use ubi_volume::share_len;
 
 /// A volume whose bytes lie in a source.
@@ -21,6 +21,17 @@ pub struct Part {
     pub start: u64,
     /// How many bytes these are.
     pub len: u64,
+}
+
+/// Whether a part has more bytes than its volume holds. If its record breaks a rule, nothing is said.
+pub fn is_long(geometry: &Geometry, part: &Part) -> bool
+    ensures { result ≡ is_long_part geometry.now part.now }
+{
+    if rec_fault(geometry, &part.entry).is_some() {
+        return false;
+    }
+    let most = u64::from(part.entry.reserved) * u64::from(part.entry.usable(geometry));
+    part.len > most
 }
 
 /// How many pieces the bytes of a part have.

@@ -1,25 +1,36 @@
 -- The entries of a map in ascending order, and those of a map that is made from a list.
-use Rattle.ubi_compose.proofs.Prelude.{◌≡◌, ℕ, zero, suc, ◌+◌, ◌<◌, ◌≤◌, ◌==◌, Bool, true, false, cond, List, [], ◌∷◌, ◌++◌, map, refl, ap, sym, ◌∙◌, arith, zero-add, subst, Some, find, flat_map, option_map, FinMap, AllByRecursion, range_with_len, option_map_or, nat_cmp, nat_tests, flat_map-append, first_entry, same_range, all_from, held_entry, entries_rise}
+use Rattle.ubi_laid.proofs.Prelude.{◌≡◌, ℕ, zero, suc, ◌+◌, ◌<◌, ◌≤◌, ◌==◌, Bool, true, false, cond, List, [], ◌∷◌, ◌++◌, map, refl, ap, sym, ◌∙◌, arith, zero-add, subst, Some, flat_map, option_map, FinMap, AllByRecursion, range_with_len, option_map_or, nat_cmp, nat_tests, flat_map-append, first_entry}
+use Rattle.std.specs.Prelude.{find}
 use Rattle.std.specs.FinMap as finite
-use Rattle.ubi_compose.proofs.ByNumber.{Rises, by_number}
+use Rattle.ubi_laid.proofs.Lists.{all_from, held_entry}
+use Rattle.ubi_laid.proofs.Rising.{entries_rise}
+use Rattle.ubi_laid.proofs.ByNumber.{Rises, by_number}
 use Rattle.ubi_laid.proofs.Rising as rising
 
 -- numbers that rise do so from any bound below them
-rises_from : {X : Type 0} (f : ℕ × X → List ℕ) (a b : ℕ) (es : List (ℕ × X)) → rising.Rises (λ e. e.0) es
+rises_from : {X Y : Type 0} (f : ℕ × X → List Y) (a b : ℕ) (es : List (ℕ × X)) → rising.Rises (λ e. e.0) es
     → AllByRecursion (λ e. a ≤ e.0) es → AllByRecursion (λ e. e.0 < b) es → Rises f a b es
 rises_from f a b [] h low high = tt
-rises_from {X} f a b (e ∷ es) h low high = (low.0, high.0, rises_from f (e.0 + 1) b es h.1 (above es h.0) high.1)
+rises_from {X} {Y} f a b (e ∷ es) h low high = (low.0, high.0, rises_from f (e.0 + 1) b es h.1 (above es h.0) high.1)
   where
     above : (es : List (ℕ × X)) → AllByRecursion (λ y. e.0 < y.0) es → AllByRecursion (λ y. e.0 + 1 ≤ y.0) es
     above [] h = tt
     above (y ∷ es) h = (let first = h.0 in omega arith, above es h.1)
 
+-- what two functions make of the numbers of a range is the same if they do the same with each
+pub same_range : {Y : Type 0} (f g : ℕ → List Y) (a n : ℕ) → ((i : ℕ) → a ≤ i → i < a + n → f i ≡ g i)
+    → flat_map f (range_with_len a n) ≡ flat_map g (range_with_len a n)
+same_range f g a zero h = refl
+same_range f g a (suc n) h =
+    ap (λ xs. xs ++ flat_map f (range_with_len (a + 1) n)) (h a (omega arith) (omega arith))
+    ∙ ap (λ xs. g a ++ xs) (same_range f g (a + 1) n (λ i low high. h i (omega arith) (omega arith)))
+
 -- what is made of each entry of a map, by rising number below n
-pub entries_by_number : {X : Type 0} (f : ℕ × X → List ℕ) (m : FinMap nat_cmp X) (n : ℕ)
+pub entries_by_number : {X Y : Type 0} (f : ℕ × X → List Y) (m : FinMap nat_cmp X) (n : ℕ)
     → ((id : ℕ) (x : X) → finite.get m id ≡ Some x → id < n)
     → flat_map f (finite.entries m) ≡ flat_map (λ id. option_map_or (λ x. f (id, x)) (finite.get m id) [])
     (range_with_len 0 n)
-entries_by_number {X} f m n below =
+entries_by_number {X} {Y} f m n below =
     let es = finite.entries m in
     let within : AllByRecursion (λ (e : ℕ × X). e.0 < n) es =
     all_from (λ (e : ℕ × X). e.0 < n) es (λ e at. below e.0 e.1 (held_entry m e at)) in
@@ -75,7 +86,7 @@ found_in_range a (suc n) l i e =
     same t = grind (arith, nat_tests)
 
 -- the elements of each element, in order
-pub flat_map-flat_map : {X Y : Type 0} (f : Y → List ℕ) (g : X → List Y) (xs : List X)
+pub flat_map-flat_map : {X Y Z : Type 0} (f : Y → List Z) (g : X → List Y) (xs : List X)
     → flat_map f (flat_map g xs) ≡ flat_map (λ x. flat_map f (g x)) xs
 flat_map-flat_map f g [] = refl
 flat_map-flat_map f g (x ∷ xs) =

@@ -1,8 +1,9 @@
 -- What a volume holds after bytes were written to it: its LEBs, and whether its record allows it.
-use Rattle.ubi_compose.proofs.Prelude.{◌≡◌, ◌==◌, ℕ, ◌+◌, ◌*◌, ◌<◌, ◌≤◌, false, List, length, length-drop, length-take-le, drop, refl, ap, sym, ◌∙◌, subst, arith, inl, inr, zero-add, IfSome, None, Option, Some, find, option_map, range_with_len, mul-le, same_Some, filled, Sizes, usable, VolumeRecord, VolKind, within_or_past, length-filled, Fits, pieces, share, pieces_few, pieces_suffice, share_most, content_of, lebs_of, text_of, Part}
+use Rattle.ubi_laid.proofs.Prelude.{◌≡◌, ◌==◌, ℕ, ◌+◌, ◌*◌, ◌<◌, ◌≤◌, false, List, length, length-drop, length-take-le, drop, refl, ap, sym, ◌∙◌, subst, arith, inl, inr, zero-add, IfSome, None, Option, Some, option_map, range_with_len, mul-le, same_Some, filled, Sizes, usable, VolumeRecord, VolKind, within_or_past, length-filled, Fits, pieces, share, pieces_few, pieces_suffice, share_most, content_of, lebs_of, text_of, Part}
+use Rattle.std.specs.Prelude.{find}
 use Rattle.std.specs.FinMap as finite
 use Rattle.ubi_media.specs.declared.vid.VolKind.TheVariants as kind
-use Rattle.ubi_compose.proofs.EntriesByNumber.{find_in_range, found_in_range, get_made}
+use Rattle.ubi_laid.proofs.EntriesByNumber.{find_in_range, found_in_range, get_made}
 
 -- a part has as many bytes as it says where the source has them
 pub text_size : (bytes : List ℕ) (p : Part) → p.start + p.len ≤ length bytes → length (text_of bytes p) ≡ p.len
