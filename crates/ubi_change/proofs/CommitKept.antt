@@ -1,5 +1,6 @@
 -- The law: the plan of a commit that avoids something keeps what a plan has to keep.
-use Rattle.ubi_change.proofs.Prelude.{table_pages, records_of, ◌≡◌, ℕ, ◌*◌, ◌<◌, List, length, arith, Wins, layout, holder, avoiding, IsGeometry, Image, eraseblocks, of_blocks, Sizes, AttachValue, VolumeMap, AllFit, RisesBetweenErases, AllByRecursion, bytes-take, AreBytes, plain_blocks, all_at, all_from, Laid, laid_blocks, pieces, MayBeCommitted, commit_needs, edits_plan, IsFrugalCommit, WritesBytes, Edit, edited_in, made_in, CommitAvoiding, Meant, ◌+◌, ◌-◌, turn, CommitSurvivesTears, SurvivesHarm, SurvivesTears, pages_needed, pages_of}
+use Rattle.ubi_change.proofs.Prelude.{table_pages, records_of, ◌≡◌, ℕ, ◌*◌, ◌<◌, List, length, arith, Wins, layout, holder, avoiding, IsGeometry, Image, eraseblocks, of_blocks, Sizes, AttachValue, VolumeMap, AllFit, RisesBetweenErases, AllByRecursion, bytes-take, AreBytes, plain_blocks, all_at, all_from, Laid, laid_blocks, pieces, MayBeCommitted, commit_needs, edits_plan, IsFrugalCommit, WritesBytes, edited_in, made_in, CommitAvoiding, Meant, ◌+◌, ◌-◌, turn, CommitSurvivesTears, SurvivesHarm, SurvivesTears, pages_needed, pages_of}
+use Rattle.ubi_change.specs.Edited.{Edit}
 use Rattle.std.specs.FinMap as finite
 use Rattle.ubi_change.proofs.CommitFits.{HasBytes}
 use Rattle.ubi_change.proofs.CommitSurvives.{is_committed, shown_both, shown_survives}

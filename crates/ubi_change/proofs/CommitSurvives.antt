@@ -1,5 +1,6 @@
 -- The law: the plan of a commit of edits, with nothing against it, survives every cut, and leaves both copies good.
-use Rattle.ubi_change.proofs.Prelude.{◌≡◌, ℕ, List, refl, sym, ◌∙◌, None, Some, true, IsGeometry, Sizes, Image, eraseblocks, of_blocks, slots, AttachValue, Meant, VolumeMap, Volume, range_with_len, LeavesBoth, SurvivesCommit, MayBeCommitted, Edit, edited_in, fresh, is_fresh, left_by_all, made_in, written, CommitSurvives, edits_plan}
+use Rattle.ubi_change.proofs.Prelude.{◌≡◌, ℕ, List, refl, sym, ◌∙◌, None, Some, true, IsGeometry, Sizes, Image, eraseblocks, of_blocks, slots, AttachValue, Meant, VolumeMap, Volume, range_with_len, LeavesBoth, SurvivesCommit, MayBeCommitted, edited_in, fresh, is_fresh, left_by_all, made_in, written, CommitSurvives, edits_plan}
+use Rattle.ubi_change.specs.Edited.{Edit}
 use Rattle.std.specs.FinMap as finite
 use Rattle.ubi_change.proofs.Committed.{IsCommitted, Stays, committed_both, committed_survives}
 use Rattle.ubi_change.proofs.EditedMeaning.{all_filter, fresh_none, fresh_slot, left_are, placed_each, placed_none, placed_there, stays_so}

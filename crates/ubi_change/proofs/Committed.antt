@@ -1,6 +1,6 @@
 -- Volumes are written into slots that had no volume and no member, and the others stay as they read: what the plan of such a
 -- commit needs is so.
-use Rattle.ubi_change.proofs.Prelude.{SurvivesCommit, LeavesBoth, commit_plan, ◌≡◌, ◌≢◌, ℕ, zero, suc, ◌+◌, ◌-◌, ◌^◌, ◌<◌, ◌≤◌, ◌⊎◌, inl, inr, false, List, [], ◌∷◌, length, refl, ap, sym, ◌∙◌, subst, arith, cases_lt, None, Option, Some, option_map, slice_get, same_Some, IsGeometry, Sizes, vid_fault, VidFits, VolumeRecord, VidHeader, Image, eraseblocks, of_blocks, NoFault, block, Leb, NoMember, Wins, Wins-unique, leb_of, member, meant_by, volume_is, record_of, AttachValue, IsOutside, IsUnlike, IsWithin, NoMismatch, SlotMeans, VolumeReads, IsMeaning, IsVolume, Meant, Records, VolumeMap, records_of, Volume, BothGood, taken, takeable, table_pages, weak_pages, get, breaks, fields_from, first_fault, AllByRecursion, IfSome, apart_blocks, fine_blocks, its_volume, own_like, laid_read, Holds, all_at, all_from, CanBeLaid, Laid, laid_blocks, AreLaidIn, IsLaidAt, IsNoneOf, EachIsVolume, numbered, trimmed, AreBytes, layout, IsFrugalCommit, AllFit, RisesBetweenErases, holder, turn, SurvivesHarm, SurvivesTears, pages_needed, pages_of}
+use Rattle.ubi_change.proofs.Prelude.{SurvivesCommit, LeavesBoth, commit_plan, ◌≡◌, ◌≢◌, ℕ, zero, suc, ◌+◌, ◌-◌, ◌^◌, ◌<◌, ◌≤◌, ◌⊎◌, inl, inr, false, List, [], ◌∷◌, length, refl, ap, sym, ◌∙◌, subst, arith, cases_lt, None, Option, Some, option_map, slice_get, same_Some, IsGeometry, Sizes, vid_fault, VidFits, VolumeRecord, VidHeader, Image, eraseblocks, of_blocks, NoFault, block, Leb, NoMember, Wins, Wins-unique, leb_of, member, meant_by, volume_is, record_of, AttachValue, IsOutside, IsUnlike, IsWithin, NoMismatch, SlotMeans, VolumeReads, IsMeaning, IsVolume, Meant, Records, VolumeMap, records_of, Volume, BothGood, taken, takeable, table_pages, weak_pages, get, breaks, fields_from, AllByRecursion, IfSome, apart_blocks, fine_blocks, its_volume, own_like, laid_read, Holds, all_at, all_from, CanBeLaid, Laid, laid_blocks, AreLaidIn, IsLaidAt, IsNoneOf, EachIsVolume, numbered, trimmed, AreBytes, layout, IsFrugalCommit, AllFit, RisesBetweenErases, holder, turn, SurvivesHarm, SurvivesTears, pages_needed, pages_of, first_fault}
 use Rattle.std.specs.FinMap as finite
 use Rattle.ubi_media.specs.declared.vid.VolKind.TheVariants as kind
 use Rattle.ubi_change.proofs.CommitAttached as commit

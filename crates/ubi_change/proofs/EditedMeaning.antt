@@ -1,5 +1,6 @@
 -- What edits leave of volumes, and the volumes that they write.
-use Rattle.ubi_change.proofs.Prelude.{◌≡◌, ℕ, ◌-◌, ◌%◌, ◌<◌, ◌≤◌, ◌⊎◌, inl, inr, Bool, true, false, cond, not, List, [], ◌∷◌, length, take, refl, ap, sym, ◌∙◌, subst, arith, cases_lt, nat_tests, nat_cmp, nat_cmp_total, eq_by_cmp, None, Option, Some, IfSome, ◌==◌, filter, find, is_some, option_map_or, slice_index, unwrap_or, same_Some, same_test, apart_test, cases_eq, blank, Sizes, leb_size, usable, VolumeRecord, VidHeader, block, leb, Leb, NoMember, Wins, leb_of, member, Records, records_of, record_of, records_meant, AcceptsBlocks, IsUnlike, IsWithin, NoMismatch, LebReads, SlotMeans, StaticReads, VolumeReads, Fits, IsVolume, Meant, VolumeMap, volume_is, Content, Volume, volume_named, none_passes, option_map, get, empty, get-empty, get-insert, get-remove, AllByRecursion, IsWhole, MayBeSized, Create, Edit, Remove, Rename, Replace, Resize, is_fresh, is_of, left_by, left_by_all, placed, volume_sized, with_volume}
+use Rattle.ubi_change.proofs.Prelude.{◌≡◌, ℕ, ◌-◌, ◌%◌, ◌<◌, ◌≤◌, ◌⊎◌, inl, inr, Bool, true, false, cond, not, List, [], ◌∷◌, length, take, refl, ap, sym, ◌∙◌, subst, arith, cases_lt, nat_tests, nat_cmp, nat_cmp_total, eq_by_cmp, None, Option, Some, IfSome, ◌==◌, filter, find, is_some, option_map_or, slice_index, unwrap_or, same_Some, same_test, apart_test, cases_eq, blank, Sizes, leb_size, usable, VolumeRecord, VidHeader, block, leb, Leb, NoMember, Wins, leb_of, member, Records, records_of, record_of, records_meant, AcceptsBlocks, IsUnlike, IsWithin, NoMismatch, LebReads, SlotMeans, StaticReads, VolumeReads, Fits, IsVolume, Meant, VolumeMap, volume_is, Content, Volume, volume_named, none_passes, option_map, get, empty, get-empty, get-insert, get-remove, AllByRecursion, IsWhole, MayBeSized, Create, Remove, Rename, Replace, Resize, is_fresh, is_of, left_by, left_by_all, placed, volume_sized, with_volume}
+use Rattle.ubi_change.specs.Edited.{Edit}
 use Rattle.std.specs.FinMap as finite
 use Rattle.ubi_volume.specs.declared.content.Content.TheVariants as content
 use Rattle.ubi_change.proofs.Committed.{AreLike, Stays}
@@ -151,23 +152,23 @@ module _ (s : Sizes) (bs : List (List ℕ)) (m : Meant) (j : ℕ) (fresh : is_fr
 -- a volume of an accepted image stays
 module _ (s : Sizes) (bs : List (List ℕ)) (m : Meant) (acc : AcceptsBlocks s bs m) (id : ℕ) (v w : Volume)
     (was : finite.get m.volumes id ≡ Some v) (is : IsLeft v w) (sized : MayBeSized s bs id v w) where
-  same : records_of m ≡ acc.records
+  pub same : records_of m ≡ acc.records
   same = records_meant s bs acc.records m acc.table acc.means
 
-  recorded : finite.get (records_of m).of id ≡ Some v.entry
+  pub recorded : finite.get (records_of m).of id ≡ Some v.entry
   recorded = record_of m id ∙ ap (option_map (λ (v : Volume). v.entry)) was
 
-  slot : SlotMeans s bs id (Some v.entry) (Some v)
+  pub slot : SlotMeans s bs id (Some v.entry) (Some v)
   slot =
       subst (λ (o : Option VolumeRecord). SlotMeans s bs id o (Some v)) recorded
       (subst (λ (o : Option Volume). SlotMeans s bs id (finite.get (records_of m).of id) o) was
       (subst (λ (t : Records). SlotMeans s bs id (finite.get t.of id) (finite.get m.volumes id)) (sym same)
       (acc.means.slots id)))
 
-  usable_same : usable s w.entry ≡ usable s v.entry
+  pub usable_same : usable s w.entry ≡ usable s v.entry
   usable_same = ap (λ n. leb_size s - leb_size s % n) is.alignment
 
-  volume : IsVolume s id v
+  pub volume : IsVolume s id v
   volume = subst (λ (z : Sizes). IsVolume z id v) acc.means.sizes (volume_is m acc.means.meaning id v was)
 
   -- it counts nothing that has a member and wasn't counted

@@ -1,5 +1,5 @@
 -- The first of the eraseblocks that may be taken, found one by one.
-use Rattle.ubi_change.proofs.Prelude.{◌≡◌, take-append-add, ℕ, zero, suc, ◌+◌, ◌-◌, ◌<◌, ◌≤◌, inl, inr, Bool, true, false, cond, not, List, [], ◌∷◌, ◌++◌, append-nil, append_assoc, length, map, refl, ap, ap₂, sym, ◌∙◌, subst, arith, None, Some, filter, range_with_len, filter-append, Sizes, BlockState, is_clean, is_takeable, FitsIn, site_at, TakeableIs, first_taken, with_next, Site, Parted, take, length-take, take-append-le, take_all, AllByRecursion, nat_lt, nat_tests, all_append, within_or_past, min, take_min}
+use Rattle.ubi_change.proofs.Prelude.{◌≡◌, take-append-add, ℕ, zero, suc, ◌+◌, ◌-◌, ◌<◌, ◌≤◌, inl, inr, Bool, true, false, cond, not, List, [], ◌∷◌, ◌++◌, append-nil, append_assoc, length, map, refl, ap, ap₂, sym, ◌∙◌, subst, arith, None, Some, filter, range_with_len, filter-append, Sizes, BlockState, is_clean, is_takeable, FitsIn, site_at, TakeableIs, first_taken, with_next, Site, take, length-take, take-append-le, take_all, AllByRecursion, nat_lt, nat_tests, all_append, within_or_past, min, take_min}
 use Rattle.std.proofs.lemmas.List.{length-append}
 
 below : (a b : ℕ) → a < b → nat_lt a b ≡ true
@@ -46,7 +46,7 @@ with_room n xs ys few =
     ap (λ i. xs ++ take i ys) turned ∙ ap (λ zs. xs ++ zs) (take_min k ys) ∙ sym (take-append-add xs ys k)
     ∙ ap (λ i. take i (xs ++ ys)) whole
 
-range_more : (a n m : ℕ) → range_with_len a (n + m) ≡ range_with_len a n ++ range_with_len (a + n) m
+pub range_more : (a n m : ℕ) → range_with_len a (n + m) ≡ range_with_len a n ++ range_with_len (a + n) m
 range_more a zero m = ap₂ range_with_len (omega arith) (omega arith)
 range_more a (suc n) m =
     let e : a + 1 + n ≡ a + suc n = omega arith in

@@ -1,5 +1,5 @@
 -- The header of a new copy of the table breaks no rule, and its contents can be written under it.
-use Rattle.ubi_change.proofs.Prelude.{◌≡◌, ℕ, ◌*◌, ◌/◌, ◌^◌, ◌<◌, ◌≤◌, inl, inr, List, length, refl, arith, None, nat_tests, IsGeometry, Sizes, leb_size, slots, breaks, fields_from, first_fault, vid_fault, VidFits, EcHeader, check_from-lt, IsMislaid, layout, Records, table_bytes, Meant, layout_header, table_pages, weak_pages, Step}
+use Rattle.ubi_change.proofs.Prelude.{◌≡◌, ℕ, ◌*◌, ◌/◌, ◌^◌, ◌<◌, ◌≤◌, inl, inr, List, length, refl, arith, None, nat_tests, IsGeometry, Sizes, leb_size, slots, breaks, fields_from, vid_fault, VidFits, EcHeader, check_from-lt, IsMislaid, layout, Records, table_bytes, Meant, layout_header, table_pages, weak_pages, Step, first_fault}
 use Rattle.ubi_change.proofs.Copied.{IsCopy}
 use Rattle.ubi_change.proofs.CopyReplaced.{IsPrepared}
 use Rattle.ubi_change.proofs.Emptied.{AreBelow}

@@ -1,6 +1,6 @@
 -- The cuts of an atomic copy of a LEB that has a winner: before the commit point the old is meant, and from it on the
 -- new.
-use Rattle.ubi_change.proofs.Prelude.{◌≡◌, ◌≢◌, ℕ, suc, ◌+◌, ◌-◌, ◌/◌, ◌%◌, ◌^◌, ◌<◌, ◌≤◌, inl, inr, true, List, [], ◌∷◌, ◌++◌, length, set, take, refl, ap, sym, ◌∙◌, subst, arith, length-set, None, Option, Some, FinMap, nat_cmp, nat_tests, filled, Sizes, IsGeometry, leb_size, data_pad, usable, breaks, fields_from, first_fault, vid_fault, VidFits, EcHeader, VolumeRecord, VidHeader, check_from-lt, block, leb, IsMember, Leb, Wins, has_members, layout, sqnum_at, Agrees, Records, AllBlank, AcceptsBlocks, IsUnlike, IsOutside, SlotMeans, Meant, Volume, changed, copy_header, leb_header, program_header, program_text, weak_pages, pages_needed, Step, pages_of}
+use Rattle.ubi_change.proofs.Prelude.{◌≡◌, ◌≢◌, ℕ, suc, ◌+◌, ◌-◌, ◌/◌, ◌%◌, ◌^◌, ◌<◌, ◌≤◌, inl, inr, true, List, [], ◌∷◌, ◌++◌, length, set, take, refl, ap, sym, ◌∙◌, subst, arith, length-set, None, Option, Some, FinMap, nat_cmp, nat_tests, filled, Sizes, IsGeometry, leb_size, data_pad, usable, breaks, fields_from, vid_fault, VidFits, EcHeader, VolumeRecord, VidHeader, check_from-lt, block, leb, IsMember, Leb, Wins, has_members, layout, sqnum_at, Agrees, Records, AllBlank, AcceptsBlocks, IsUnlike, IsOutside, SlotMeans, Meant, Volume, changed, copy_header, leb_header, program_header, program_text, weak_pages, pages_needed, Step, pages_of, first_fault}
 use Rattle.std.specs.FinMap as finite
 use Rattle.ubi_media.specs.declared.vid.VolKind.TheVariants as kind
 use Rattle.ubi_volume.specs.declared.content.Content.TheVariants as content

@@ -1,5 +1,6 @@
 -- The bytes of the page that holds a volume-identifier header.
-use Rattle.ubi_change.proofs.Prelude.{◌≡◌, ℕ, ◌-◌, ◌%◌, ◌≤◌, List, ◌++◌, length, take, ap, ap₂, sym, ◌∙◌, arith, length-append, OnOk, Result, Ok, Err, if◌then◌else◌, is_ok, take_all, blank, filled, IsGeometry, Sizes, filled-is, length-filled}
+use Rattle.ubi_change.proofs.Prelude.{◌≡◌, ℕ, ◌-◌, ◌%◌, ◌≤◌, List, ◌++◌, length, take, ap, ap₂, sym, ◌∙◌, arith, length-append, OnOk, Result, Ok, Err, is_ok, take_all, blank, filled, IsGeometry, Sizes, filled-is, length-filled}
+use Rattle.std.specs.Bool.{if◌then◌else◌}
 use Rattle.ubi_change.proofs.PagePlaces.{vid_left}
 
 -- bytes that were made longer by bytes 0xFF, if memory was left

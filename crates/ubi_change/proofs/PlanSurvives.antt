@@ -1,7 +1,6 @@
 -- The law: the plan of an attached image, with no cause against it, survives every cut, and touches nothing that is avoided.
-use Rattle.ubi_change.proofs.Prelude.{◌≡◌, ◌≢◌, ◌*◌, ◌/◌, ◌<◌, ◌⊎◌, ◌∷◌, [], List, ap, arith, get_or, get_or-set_other, get_or-set_same, inl, inr, length, length-set, refl, subst, suc, sym, take, true, zero, ◌∙◌, ℕ, concat, cases_eq, set, first_chunks, div-mul-add, eqb-true, ltb-true, IsGeometry, Sizes, below_same_or_above, Image, IsWholeImage, block, eraseblocks, of_blocks, first_chunks-concat, length-concat, length-first_chunks, length-blank, AcceptsBlocks, AttachValue, avoiding, changed, turn, AllFit, fits, only_clears, page_of, PlanSurvives, left, plan_of, blocks_after, block_after, step_done, target, Step}
+use Rattle.ubi_change.proofs.Prelude.{◌≡◌, ◌≢◌, ◌*◌, ◌/◌, ◌<◌, ◌⊎◌, ◌∷◌, [], List, ap, arith, get_or, get_or-set_other, get_or-set_same, inl, inr, length, length-set, refl, subst, suc, sym, take, true, zero, ◌∙◌, ℕ, concat, cases_eq, set, first_chunks, div-mul-add, eqb-true, ltb-true, IsGeometry, Sizes, below_same_or_above, Image, IsWholeImage, block, eraseblocks, of_blocks, first_chunks-concat, length-concat, length-first_chunks, length-blank, AcceptsBlocks, AttachValue, avoiding, changed, turn, AllFit, fits, only_clears, page_of, PlanSurvives, left, plan_of, blocks_after, block_after, step_done, target, Step, if◌then◌else◌}
 use Rattle.std.proofs.Common.{◌==◌, ◌&&◌, nat_lt}
-use Rattle.std.specs.Prelude.{if◌then◌else◌}
 use Rattle.std.proofs.Math.Nat as nat
 use Rattle.ubi_change.specs.declared.step.Step.TheVariants as step
 use Rattle.ubi_change.proofs.Attached.{survives_all}

@@ -1,5 +1,6 @@
 -- A rename is a commit of one edit: nothing more stands against it, it means the same, and its plan is the same.
-use Rattle.ubi_change.proofs.Prelude.{◌≡◌, ◌≢◌, ℕ, ◌+◌, inl, inr, cond, List, [], ◌∷◌, ◌++◌, length, refl, ap, sym, ◌∙◌, subst, arith, cases_eq, eq_by_cmp, nat_cmp, nat_cmp_total, None, Option, Some, option_map_or, same_Some, same_test, apart_test, Sizes, Image, eraseblocks, of_blocks, AttachValue, IsMeaning, Meant, VolumeMap, Volume, copy_plan, rename_plan, renamed, volume_named, MayBeNamed, SurvivesRename, LeavesBothGood, table_pages, records_of, weak_pages, IsGeometry, empty, get-empty, get-insert, Holds, held_entry, Laid, laid_blocks, commit_plan, lay_all, table_plan, LeavesBoth, SurvivesCommit, MayBeCommitted, commit_needs, Edit, Rename, edited_in, fresh, made_in, placed, with_volume}
+use Rattle.ubi_change.proofs.Prelude.{◌≡◌, ◌≢◌, ℕ, ◌+◌, inl, inr, cond, List, [], ◌∷◌, ◌++◌, length, refl, ap, sym, ◌∙◌, subst, arith, cases_eq, eq_by_cmp, nat_cmp, nat_cmp_total, None, Option, Some, option_map_or, same_Some, same_test, apart_test, Sizes, Image, eraseblocks, of_blocks, AttachValue, IsMeaning, Meant, VolumeMap, Volume, copy_plan, rename_plan, renamed, volume_named, MayBeNamed, SurvivesRename, LeavesBothGood, table_pages, records_of, weak_pages, IsGeometry, empty, get-empty, get-insert, Holds, held_entry, Laid, laid_blocks, commit_plan, lay_all, table_plan, LeavesBoth, SurvivesCommit, MayBeCommitted, commit_needs, Rename, edited_in, fresh, made_in, placed, with_volume}
+use Rattle.ubi_change.specs.Edited.{Edit}
 use Rattle.std.specs.FinMap as finite
 use Rattle.ubi_change.proofs.CommitSurvives.{shown_both, shown_survives}
 use Rattle.ubi_change.proofs.PlanPremises.{IsShown}

@@ -1,5 +1,5 @@
 -- The steps of a plan work within their eraseblocks: each page lies there, and its bytes are one page.
-use Rattle.ubi_change.proofs.Prelude.{◌≡◌, ℕ, zero, suc, ◌+◌, ◌*◌, ◌/◌, ◌%◌, ◌<◌, ◌≤◌, Bool, true, false, cond, List, [], ◌∷◌, ◌++◌, length, map, drop, refl, subst, arith, length-drop, Option, enumerate_from, first_chunks, div-add-mod, length-take-le, same_Some, ec_bytes, IsGeometry, Sizes, leb_size, EcHeader, VidHeader, Found, length-filled, AllWithin, FitsBlock, next_ec, program_header, program_text, renew, layout_header, target, pages_of, steps_on, BothFit, two_copies, FitsIn, copy_on, mount_on, ready_on, release_on, stays_on, Holders, Site, Spares, Step, Target}
+use Rattle.ubi_change.proofs.Prelude.{◌≡◌, ℕ, zero, suc, ◌+◌, ◌*◌, ◌/◌, ◌%◌, ◌<◌, ◌≤◌, Bool, true, false, cond, List, [], ◌∷◌, ◌++◌, length, map, drop, refl, subst, arith, length-drop, Option, enumerate_from, first_chunks, div-add-mod, length-take-le, same_Some, ec_bytes, IsGeometry, Sizes, leb_size, EcHeader, VidHeader, Found, length-filled, AllWithin, FitsBlock, next_ec, program_header, program_text, renew, layout_header, target, pages_of, steps_on, BothFit, two_copies, FitsIn, copy_on, mount_on, ready_on, release_on, stays_on, Holders, Site, Spares, Step, Target, lay_on}
 use Rattle.ubi_change.specs.declared.sites.Sites.{Sites as OnSites}
 use Rattle.ubi_change.specs.declared.sites.Sites.TheVariants as on
 use Rattle.ubi_change.specs.declared.step.Step.TheVariants as step
@@ -84,6 +84,16 @@ module _ (s : Sizes) (n : ℕ) where
       copy_within b h new old now fits gone small paged short = within_append (mount_on s scan b h ++ program_text s b.pnum new) _
           (within_append (mount_on s scan b h) _ (mount_within b h fits small) (text_within b.pnum new fits.inside paged short))
           (release_within old now gone)
+
+      -- contents that are written, and a copy
+      pub lay_all_within : (b : Site) (h : VidHeader) (new : List ℕ) → FitsIn n b → h.compat < 256 → length new % s.page ≡ 0
+          → length new ≤ leb_size s → AllWithin s n (lay_on s scan b h new)
+      lay_all_within b h new fits small paged short =
+          all_within _ (within_append (mount_on s scan b h) _ (mount_within b h fits small) (text_within b.pnum new fits.inside paged short))
+
+      pub copy_all_within : (b : Site) (h : VidHeader) (new : List ℕ) (old : Site) (now : Option EcHeader) → FitsIn n b → FitsIn n old
+          → h.compat < 256 → length new % s.page ≡ 0 → length new ≤ leb_size s → AllWithin s n (copy_on s scan b h new old now)
+      copy_all_within b h new old now fits gone small paged short = all_within _ (copy_within b h new old now fits gone small paged short)
 
       -- the steps of a change
       abbrev pub SitesFit : OnSites → Type 0

@@ -14,7 +14,7 @@ same_true (x ∷ xs) (y ∷ ys) e = by_test (nat_eq x y) refl e (same_true xs ys
     by_test false h e rest = absurd (cc)
 
 -- the first number of a range that passes a test
-pub record IsFirst (p : ℕ → Bool) (a n k : ℕ) : Type 0 where
+pub record IsFirstJudged (p : ℕ → Bool) (a n k : ℕ) : Type 0 where
   pub low : a ≤ k
   pub high : k < a + n
   pub passes : p k ≡ true
@@ -25,7 +25,7 @@ same_or_above a j l = grind arith
 
 abbrev pub FoundOrNone : (ℕ → Bool) → ℕ → ℕ → Option ℕ → Type 0
 FoundOrNone p a n found = ((found ≡ None) × ((j : ℕ) → a ≤ j → j < a + n → p j ≡ false))
-    ⊎ ((k : ℕ) × (found ≡ Some k) × IsFirst p a n k)
+    ⊎ ((k : ℕ) × (found ≡ Some k) × IsFirstJudged p a n k)
 
 find_next : (p : ℕ → Bool) (a n : ℕ) (b : Bool) (rest : Option ℕ) → p a ≡ b → FoundOrNone p (a + 1) n rest
     → FoundOrNone p a (suc n) (cond b (Some a) rest)

@@ -14,10 +14,10 @@ module _ (s : Sizes) (g : IsGeometry s) (text : List ℕ) (few : length text ≤
   abbrev needed : ℕ
   needed = pages_needed s whole * s.page
 
-  enough : length text ≤ all
+  pub enough : length text ≤ all
   enough = pieces_suffice s.page (some_page s g) (length text)
 
-  long : length whole ≡ all
+  pub long : length whole ≡ all
   long = length-filled all text enough
 
   paged : length whole % s.page ≡ 0
@@ -26,7 +26,7 @@ module _ (s : Sizes) (g : IsGeometry s) (text : List ℕ) (few : length text ≤
       let sum : n * s.page ≡ n * s.page + 0 = omega arith in
       ap (λ k. k % s.page) (long ∙ sum) ∙ mod-mul-add n s.page 0 (let k = some_page s g in omega arith)
 
-  short : all ≤ leb_size s
+  pub short : all ≤ leb_size s
   short =
       let k = leb_pages s g in
       let most = pieces_few s.page (some_page s g) (length text) k.0 (let e = k.1 in omega arith) in
@@ -37,7 +37,7 @@ module _ (s : Sizes) (g : IsGeometry s) (text : List ℕ) (few : length text ≤
   place : IsWholePlace s whole paged (pages_needed s whole)
   place = whole_place-is s whole paged
 
-  below : needed ≤ all
+  pub below : needed ≤ all
   below =
       let m = mul-le (pages_needed s whole) s.page (pages_of s whole) s.page place.most (omega arith) in
       let n = pages-all s whole paged in

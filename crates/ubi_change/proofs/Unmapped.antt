@@ -1,5 +1,5 @@
 -- A LEB without a winner is first mapped with a plain blank eraseblock: the meaning stays, and then it has a winner.
-use Rattle.ubi_change.proofs.Prelude.{◌≡◌, ◌≢◌, ℕ, zero, suc, ◌+◌, ◌-◌, ◌/◌, ◌^◌, ◌<◌, ◌≤◌, inl, inr, true, List, [], ◌∷◌, ◌++◌, length, set, take, refl, ap, sym, ◌∙◌, subst, arith, length-set, None, Option, Some, unwrap_or, FinMap, nat_cmp, nat_tests, set-set, take-replicate, fold-append, blank, filled, Sizes, IsGeometry, leb_size, data_pad, usable, breaks, fields_from, first_fault, vid_bytes, vid_fault, VidFits, EcHeader, VolumeRecord, VidHeader, leb, IsMember, Leb, NoMember, Wins, has_members, sqnum_at, Agrees, Records, AllBlank, AcceptsBlocks, IsUnlike, SlotMeans, LebReads, Meant, Volume, changed, blank_header, copy_header, leb_header, program_header, program_text, block_after, step_done, pages_needed, Step, laid, block, Bool, is_blank, drop, pages_of, MayBeHarmed, NoChance, blank_holds}
+use Rattle.ubi_change.proofs.Prelude.{◌≡◌, ◌≢◌, ℕ, zero, suc, ◌+◌, ◌-◌, ◌/◌, ◌^◌, ◌<◌, ◌≤◌, inl, inr, true, List, [], ◌∷◌, ◌++◌, length, set, take, refl, ap, sym, ◌∙◌, subst, arith, length-set, None, Option, Some, unwrap_or, FinMap, nat_cmp, nat_tests, set-set, take-replicate, fold-append, blank, filled, Sizes, IsGeometry, leb_size, data_pad, usable, breaks, fields_from, vid_bytes, vid_fault, VidFits, EcHeader, VolumeRecord, VidHeader, leb, IsMember, Leb, NoMember, Wins, has_members, sqnum_at, Agrees, Records, AllBlank, AcceptsBlocks, IsUnlike, SlotMeans, LebReads, Meant, Volume, changed, blank_header, copy_header, leb_header, program_header, program_text, block_after, step_done, pages_needed, Step, laid, block, Bool, is_blank, drop, pages_of, MayBeHarmed, NoChance, blank_holds, first_fault}
 use Rattle.std.specs.FinMap as finite
 use Rattle.std.proofs.lemmas.List.{get_or-set_same}
 use Rattle.ubi_volume.specs.declared.content.Content.TheVariants as content

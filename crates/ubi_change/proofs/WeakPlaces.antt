@@ -30,7 +30,7 @@ module _ (s : Sizes) (new : List ℕ) (k : ℕ) (inside : k * s.page ≤ length 
       let e : length new - k * s.page ≡ length rest = sym (length-drop (k * s.page) new) in
       filled-by (length new) (k * s.page) front (length-take-le (k * s.page) new inside) ∙ ap (λ n. front ++ blank n) e
 
-  whole-is : is_whole s new k ≡ is_blank rest
+  pub whole-is : is_whole s new k ≡ is_blank rest
   whole-is = ap₂ same_bytes torn-is (sym (take-append-drop (k * s.page) new))
       ∙ same_front front (blank (length rest)) rest ∙ same_blank rest
 

@@ -13,10 +13,13 @@ use Rattle.ubi_change.specs.RenamePlan.{copy_plan, table_pages}
 use Rattle.ubi_change.specs.Weak.{pages_needed}
 use Rattle.ubi_change.specs.declared.step.Step.{Step}
 
--- a text with 0xFF to whole pages, without the blank pages at its end
+-- a text with 0xFF to whole pages
+abbrev pub whole_text : Sizes → List ℕ → List ℕ
+whole_text s text = filled (pieces s.page (length text) * s.page) text
+
+-- the same without the blank pages at its end
 abbrev pub trimmed : Sizes → List ℕ → List ℕ
-trimmed s text =
-    let whole = filled (pieces s.page (length text) * s.page) text in take (pages_needed s whole * s.page) whole
+trimmed s text = let whole = whole_text s text in take (pages_needed s whole * s.page) whole
 
 module _ (s : Sizes) (bs : List (List ℕ)) (a : AttachValue) where
   -- the header of the LEB that is written to the k-th eraseblock that is taken

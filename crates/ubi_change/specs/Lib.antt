@@ -16,7 +16,15 @@ pub mod RenamePlan
 pub mod RenameRefused
 pub mod RenamePlanned
 pub mod Edited
+pub mod EditsAsked
+pub mod EditFaults
+pub mod Placed
+pub mod Sites
+pub mod UpdatePlanned
+pub mod UpdateRefused
+pub mod UpdatePlan
 pub mod CommitPlan
+pub mod Laying
 pub mod CommitAllowed
 pub mod CommitPlanned
 pub mod Laws

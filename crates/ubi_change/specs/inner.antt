@@ -4,3 +4,9 @@ pub mod Taking
 pub mod Making
 pub mod Renaming
 pub mod Writing
+pub mod Drafting
+pub mod Judging
+pub mod Laying
+pub mod Known
+pub mod Ready
+pub mod Updating

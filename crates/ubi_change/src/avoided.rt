@@ -3,6 +3,7 @@
 ghost use Rattle.std.specs.Prelude.{◌≡◌, ◌<◌, ◌≤◌, Some, length, slice_get};
 ghost use Rattle.ubi_change.specs.inner.Taking.{ListedIs, NotBlankIs};
 ghost use Rattle.ubi_change.specs.Avoided.{is_avoided, is_blank_one, state_avoiding, states_avoiding};
+ghost use Rattle.ubi_change.specs.Avoided.{touchable};
 ghost use Rattle.ubi_scan.specs.Marks.{is_listed};
 
 use crate::step::Step;
@@ -102,6 +103,23 @@ impl<'a> Avoided<'a> {
         ensures { ListedIs self.now.marks steps.now result }
     {
         listed(self.marks, steps)
+    }
+
+    /// How many eraseblocks of a survey may be touched.
+    pub(crate) fn touchable(&self, geometry: &Geometry, surveyed: &Surveyed) -> usize
+        requires { length surveyed.now.states ≤ geometry.now.pebs }
+        ensures value { result ≡ touchable self.now surveyed.now.states }
+        ensures most { result ≤ geometry.now.pebs }
+    {
+        let count = surveyed.states().len();
+        prove!(count <= geometry.pebs() as usize);
+        let mut left = 0;
+        for p in 0..count as u32 {
+            if !self.has(p, surveyed.state(p)) {
+                left += 1;
+            }
+        }
+        left
     }
 
     /// The state of an eraseblock as a plan sees it: one that is avoided counts as used.

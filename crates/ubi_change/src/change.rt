@@ -3,7 +3,7 @@
 ghost use Rattle.std.specs.Prelude.{◌≡◌, ◌+◌, ◌%◌, ◌^◌, ◌<◌, ◌≤◌, IfErr, IfOk, None, length};
 ghost use Rattle.ubi_change.specs.Fitting.{AllFit, AllWithin};
 ghost use Rattle.ubi_change.specs.inner.Making.{AreStepsOf, FitsPrepared, HasRoom, IsNoWrite, IsPrepared, IsTarget, IsTargetRefusal, IsUnplanned, change_error, mapped_steps, own_causes, steps_on, unmapped_steps};
-ghost use Rattle.ubi_change.specs.inner.Sites.{HasCounter};
+ghost use Rattle.ubi_change.specs.Sites.{HasCounter};
 ghost use Rattle.ubi_change.specs.Order.{RisesBetweenErases};
 ghost use Rattle.ubi_change.specs.Planned.{IsChangeError, IsChangeRefusal, IsFrugalOf, IsThePlan, NamesFailed, PlanFactsOfSource, SurvivesCutsOf, SurvivesTearsOf, after_plan};
 ghost use Rattle.ubi_change.specs.Refused.{first_of, is_bad_length};

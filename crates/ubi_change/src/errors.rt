@@ -3,12 +3,16 @@
 ghost use Rattle.std.specs.Prelude.{◌≡◌, Some};
 ghost use Rattle.ubi_change.specs.declared.errors.ChangeRefusal.{ChangeRefusal};
 ghost use Rattle.ubi_change.specs.declared.errors.RenameRefusal.{RenameRefusal};
+ghost use Rattle.ubi_change.specs.Laying.{contents_error};
+ghost use Rattle.ubi_change.specs.declared.errors.ContentsError.{ContentsError};
+ghost use Rattle.ubi_change.specs.declared.errors.UpdateError.{UpdateError};
+ghost use Rattle.ubi_change.specs.declared.errors.UpdateRefusal.{UpdateRefusal};
 ghost use Rattle.ubi_change.specs.ErrorTexts.{change_refusal_text, plan_error_text, rename_refusal_text};
 
 use std::alloc::AllocError;
 use std::error::Error;
 use std::fmt;
-use ubi_media::Refusal;
+use ubi_media::{RecFault, Refusal};
 
 /// Why a change isn't planned: the first cause that applies, in this order. `Memory` may come at any allocation, whatever
 /// else applies.
@@ -119,6 +123,63 @@ impl From<AllocError> for RenameRefusal {
     }
 }
 
+/// Why an edit isn't made: the first cause that applies, in this order.
+#[derive(Clone, Copy, Debug, PartialEq, Eq)]
+pub enum EditFault {
+    /// The volume isn't among those that the edits before leave.
+    NoVolume,
+    /// The bytes aren't a name: there are none, there are more than 127, or one of them is zero.
+    BadName,
+    /// The record of the volume that is written, or gets another size, breaks a rule.
+    Record(RecFault),
+    /// There are more bytes than the volume that is written holds.
+    TooLarge,
+    /// The volume would get another size, but its update didn't end, or it is damaged.
+    NotWhole,
+    /// The volume would get another size, but an eraseblock is a member of one of its logical eraseblocks at or above the
+    /// lesser of the two sizes.
+    InUse,
+}
+
+/// Why edits aren't planned: the first cause that applies, in this order; of the edits the first that has a cause. `Memory` may come
+/// at any allocation, whatever else applies.
+#[derive(Clone, Copy, Debug, PartialEq, Eq)]
+pub enum UpdateRefusal {
+    /// The image is refused, for this cause.
+    Attach(Refusal),
+    /// An edit isn't made: which one, from 0, and why.
+    Edit(usize, EditFault),
+    /// Two volumes would have one name: their slots.
+    SameName(u32, u32),
+    /// More volumes are written than slots are free, without a volume and without a member of one with its number: how many are needed,
+    /// and how many there are.
+    NoSlot(usize, usize),
+    /// The volumes would reserve more eraseblocks than before, and with the four that UBI needs more than there are that may be touched: how
+    /// many are needed, and how many there are.
+    NoSpace(u64, usize),
+    /// A volume that is written grows to the size of the device, and so would two of all: their slots.
+    Autoresize(u32, u32),
+    /// The two copies of the volume table aren't both good with equal tables.
+    NeedsRepair,
+    /// The first pages of the new table, as many as this, and then 0xFF, aren't the new table but have the same CRC. The
+    /// number is the least such one.
+    WeakCheck(u32),
+    /// The sequence numbers that the plan needs would pass 2^64 - 1.
+    Exhausted,
+    /// Fewer eraseblocks can be taken than the plan needs: how many it needs, and how many there are.
+    NoFree(usize, usize),
+    /// Memory ran out.
+    Memory,
+}
+
+impl From<AllocError> for UpdateRefusal {
+    ghost from_gives = { λ _ e. e ≡ UpdateRefusal.Memory };
+
+    fn from(_: AllocError) -> UpdateRefusal {
+        UpdateRefusal::Memory
+    }
+}
+
 /// Why the image of a source has no plan.
 #[derive(Clone, Copy, Debug, PartialEq, Eq)]
 pub enum PlanError<C> {
@@ -143,3 +204,62 @@ impl<C: fmt::Display> fmt::Display for PlanError<C> {
 }
 
 impl<C: fmt::Debug + fmt::Display + Drop> Error for PlanError<C> {}
+
+/// Why contents can't be read.
+#[derive(Clone, Copy, Debug, PartialEq, Eq)]
+pub enum ContentsError {
+    /// A read failed: the slot of the volume that is written.
+    Read(u32),
+    /// Memory ran out.
+    Memory,
+}
+
+impl From<AllocError> for ContentsError {
+    ghost from_gives = { λ _ e. e ≡ ContentsError.Memory };
+
+    fn from(_: AllocError) -> ContentsError {
+        ContentsError::Memory
+    }
+}
+
+/// Why edits of the image of a source have no plan.
+#[derive(Clone, Copy, Debug, PartialEq, Eq)]
+pub enum UpdateError {
+    /// A cause applies against the edits, or memory ran out.
+    Refused(UpdateRefusal),
+    /// A read of the image failed: the eraseblock.
+    Read(u32),
+    /// An eraseblock that is listed as one that may not be touched isn't Blank: the plan might have to give it up.
+    NotBlank(u32),
+    /// The source of contents ends before the bytes of a volume that is written do: the edit, from 0.
+    Beyond(usize),
+    /// A read of contents failed: the slot of the volume that is written.
+    Contents(u32),
+}
+
+impl From<ContentsError> for UpdateError {
+    ghost from_gives = { λ error e. e ≡ contents_error error };
+
+    fn from(error: ContentsError) -> UpdateError {
+        match error {
+            ContentsError::Read(id) => UpdateError::Contents(id),
+            ContentsError::Memory => UpdateError::Refused(UpdateRefusal::Memory),
+        }
+    }
+}
+
+impl From<UpdateRefusal> for UpdateError {
+    ghost from_gives = { λ cause e. e ≡ UpdateError.Refused cause };
+
+    fn from(cause: UpdateRefusal) -> UpdateError {
+        UpdateError::Refused(cause)
+    }
+}
+
+impl From<AllocError> for UpdateError {
+    ghost from_gives = { λ _ e. e ≡ UpdateError.Refused UpdateRefusal.Memory };
+
+    fn from(_: AllocError) -> UpdateError {
+        UpdateError::Refused(UpdateRefusal::Memory)
+    }
+}

@@ -1,5 +1,6 @@
 //! Plans that change an image and survive a power cut: a plan gives one logical eraseblock (LEB) new bytes
-//! ([`plan_change`]), or a volume another name ([`plan_rename`]).
+//! ([`plan_change`]), or a volume another name ([`plan_rename`]), or makes edits of whole volumes in one commit
+//! ([`plan_update_from`]).
 //!
 //! A plan is a list of steps, each of which erases an eraseblock or programs one page. After any whole number of steps the
 //! image is accepted, and means the old or the new. A plan is made from the bytes of an image, or from a source that is
@@ -31,21 +32,34 @@
 mod avoided;
 mod change;
 mod copies;
+mod drafting;
+mod edit;
 mod errors;
 mod ground;
 mod image_after;
+mod judging;
+mod known;
 pub mod laws;
+mod laying;
 mod pages;
+mod placing;
 mod plan_steps;
 mod rename;
 mod sites;
 mod step;
 mod takeable;
+mod trim;
+mod update;
+mod updating;
 mod weak_check;
+mod written_out;
 
 pub use avoided::Avoided;
 pub use change::{plan_change, plan_change_from};
-pub use errors::{ChangeRefusal, PlanError, RenameRefusal};
+pub use edit::{Edit, NewVolume};
+pub use errors::{ChangeRefusal, EditFault, PlanError, RenameRefusal, UpdateError, UpdateRefusal};
 pub use image_after::{apply, step_fits, write_after};
 pub use rename::{plan_rename, plan_rename_from};
 pub use step::Step;
+pub use update::UpdatePlan;
+pub use updating::plan_update_from;

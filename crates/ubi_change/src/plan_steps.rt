@@ -2,7 +2,8 @@
 
 ghost use Rattle.std.specs.Prelude.{◌≡◌, ◌++◌, ◌∷◌, [], ◌%◌, ◌^◌, ◌≤◌, ◌<◌, IfSome, OnOk, length};
 ghost use Rattle.ubi_change.specs.inner.Making.{table_target, target_header};
-ghost use Rattle.ubi_change.specs.inner.Sites.{copy_on, lay_on, mount_on, ready_on, release_on};
+ghost use Rattle.ubi_change.specs.Sites.{copy_on, lay_on, mount_on, release_on};
+ghost use Rattle.ubi_change.specs.inner.Sites.{ready_on};
 ghost use Rattle.ubi_change.specs.Plan.{blank_header, copy_header, next_ec, program_header, program_text, renew};
 
 use crate::pages::{ec_page, vid_page};
@@ -170,7 +171,7 @@ fn push_release(
 }
 
 /// Adds what makes an eraseblock ready, and gives it a volume-identifier header and a text behind it.
-fn push_laid(
+pub fn push_laid(
     alloc: Global,
     steps: &mut Vec<Step>,
     geometry: &Geometry,

@@ -2,7 +2,7 @@
 
 ghost use Rattle.std.specs.Prelude.{◌≡◌, ◌<◌, ◌≤◌, ◌++◌, IfErr, IfOk, IfSome, OnOk, if◌then◌else◌, length, take};
 ghost use Rattle.ubi_change.specs.Avoided.{states_avoiding};
-ghost use Rattle.ubi_change.specs.inner.Sites.{FitsIn, is_sole_on, stays_on};
+ghost use Rattle.ubi_change.specs.Sites.{FitsIn, is_sole_on, stays_on};
 ghost use Rattle.ubi_change.specs.inner.Taking.{AreTaken, TakeableIs, with_next};
 ghost use Rattle.ubi_change.specs.Takeable.{is_unused, is_worn};
 ghost use Rattle.ubi_scan.specs.Source.{Narrows, WhereHeld, blocks_in, blocks_of};

@@ -23,7 +23,8 @@ use Rattle.ubi_change.specs.Refused.{first_of, is_bad_length}
 use Rattle.ubi_change.specs.Avoided.{Avoided, states_avoiding}
 use Rattle.ubi_change.specs.Takeable.{takeable}
 use Rattle.ubi_change.specs.Weak.{weak_pages}
-use Rattle.ubi_change.specs.inner.Sites.{FitsIn, HasCounter, IsSiteAt, copy_on, mount_on, ready_on}
+use Rattle.ubi_change.specs.Sites.{FitsIn, HasCounter, copy_on, mount_on}
+use Rattle.ubi_change.specs.inner.Sites.{IsSiteAt, ready_on}
 use Rattle.ubi_change.specs.inner.Taking.{IsGroundOf}
 use Rattle.ubi_change.specs.declared.errors.PlanError.{PlanError}
 use Rattle.ubi_change.specs.declared.errors.PlanError.TheVariants as plan

@@ -18,8 +18,10 @@ use Rattle.ubi_change.specs.RenamePlan.{layout_header, table_pages}
 use Rattle.ubi_change.specs.RenameRefused.{BothGood}
 use Rattle.ubi_change.specs.Avoided.{Avoided, states_avoiding}
 use Rattle.ubi_change.specs.Weak.{weak_pages}
-use Rattle.ubi_change.specs.inner.Sites.{FitsIn, HasCounter, copy_on, site_at}
+use Rattle.ubi_change.specs.Sites.{FitsIn, HasCounter, copy_on}
+use Rattle.ubi_change.specs.inner.Sites.{site_at}
 use Rattle.ubi_change.specs.inner.Taking.{IsGroundOf}
+use Rattle.ubi_change.specs.Sites.{BothFit}
 use Rattle.ubi_change.specs.declared.copies.Holders.{Holders}
 use Rattle.ubi_change.specs.declared.errors.PlanError.{PlanError}
 use Rattle.ubi_change.specs.declared.errors.PlanError.TheVariants as plan
@@ -49,11 +51,6 @@ IsNamingRefusal t id name (refusal.SameName slot) =
     IsSome (get t.of id) × (is_name name ≡ true) × (slot ≢ id)
     × (r : VolumeRecord) × (get t.of slot ≡ Some r) × (r.name ≡ name)
 IsNamingRefusal t id name _ = ⊥
-
--- both eraseblocks that hold a copy
-pub record BothFit (n : ℕ) (two : Holders) : Type 0 where
-  pub first : FitsIn n two.first
-  pub second : FitsIn n two.second
 
 -- the eraseblocks that hold the copies of these eraseblocks, both of which are good; there are none if they aren't
 abbrev pub AreHolders : Sizes → List (List ℕ) → Avoided → Seen → Option Holders → Type 0

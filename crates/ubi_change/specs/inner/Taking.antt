@@ -8,7 +8,8 @@ use Rattle.ubi_volume.specs.declared.attached.BlockState.{BlockState}
 use Rattle.ubi_change.specs.Avoided.{AllBeside, Avoided, is_blank_one, states_avoiding}
 use Rattle.ubi_scan.specs.Marks.{is_listed}
 use Rattle.ubi_change.specs.Takeable.{is_takeable, takeable}
-use Rattle.ubi_change.specs.inner.Sites.{FitsIn, site_at}
+use Rattle.ubi_change.specs.Sites.{FitsIn}
+use Rattle.ubi_change.specs.inner.Sites.{site_at}
 use Rattle.ubi_change.specs.declared.ground.Ground.{Ground}
 use Rattle.ubi_change.specs.Steps.{target}
 use Rattle.ubi_change.specs.declared.step.Step.{Step}

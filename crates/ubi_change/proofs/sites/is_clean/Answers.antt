@@ -1,4 +1,5 @@
-use Rattle.ubi_change.proofs.Prelude.{◌≡◌, Bool, true, drop, ap, sym, ◌∙◌, arith, length-drop, ◌&&◌, IfOk-weaker, is_free, is_blank, block, blocks_of}
+use Rattle.ubi_change.proofs.Prelude.{◌≡◌, Bool, true, drop, ap, sym, ◌∙◌, arith, length-drop, ◌&&◌, IfOk-weaker, is_blank, block, blocks_of}
+use Rattle.ubi_change.specs.Takeable.{is_free}
 use Rattle.ubi_change.proofs.WholeReads.{behind_header}
 use Rattle.ubi_change.proofs.sites.is_clean.Goals as goal
 

@@ -1,4 +1,4 @@
-use Rattle.ubi_change.proofs.Prelude.{◌≡◌, ◌+◌, ◌∙◌, length, sym, subst, ap, arith, IfSome, Some, Source, blocks_in, blocks_of, count_blocks, IsSurveyOf, FitsIn, Site, states_avoiding, survey_narrowed}
+use Rattle.ubi_change.proofs.Prelude.{◌≡◌, ◌∙◌, length, sym, subst, ap, arith, IfSome, Source, blocks_in, blocks_of, count_blocks, IsSurveyOf, FitsIn, Site, states_avoiding, survey_narrowed}
 use Rattle.ubi_change.proofs.FirstTakeable.{all_fit, more_few, more_fit, parted_all, parted_enough, parted_same, parted_some}
 use Rattle.ubi_change.proofs.takeable.first_takeable.Goals as goal
 use Rattle.ubi_change.proofs.takeable.first_takeable.Goals.{in-Some+in_ok-add, in_default}

@@ -1,0 +1,92 @@
+use Rattle.ubi_change.proofs.Prelude.{List, Part, ◌≡◌, err_from_is_err_and, ◌+◌, ◌<◌, ◌^◌, refl, length, None, AllByRecursion, sym, ap, subst, ◌∙◌, arith, Source, states_avoiding, blocks_of, first_taken, first_beyond, all_layings, IsPartReadable, UpdatePlan, IsContentsError, IsSitesError, ContentsError, UpdateError}
+use Rattle.ubi_change.proofs.Touchable.{none_beyond}
+use Rattle.ubi_change.proofs.UpdateKept.{contents_unread_is, sites_are, unbased_is, update_is}
+use Rattle.ubi_change.proofs.updating.plan_update_from.Goals as goal
+
+pub layings_from-requires-clause-parts : goal.layings_from-requires-clause-parts
+layings_from-requires-clause-parts g c =
+    let s = c.args.geometry.now in
+    let es = c.args.edits.now in
+    let size = (g.T.BlockSource.known c.args.contents.now).size in
+    let inside : first_beyond size 0 es ≡ None =
+    ap (λ n. first_beyond n 0 es) (sym c.len.ensures) ∙ sym c.first_beyond.ensures ∙ c.in_default.is in
+    let narrow : size < 2 ^ 64 = (let f = c.len.type_inv in omega (arith, c.len.ensures)) in
+    subst (AllByRecursion (IsPartReadable s size)) (sym c.as_slice.ensures.value)
+    (c.in_ok-surveyed.ensures.readable size narrow (none_beyond size 0 es inside))
+
+pub returns-clause-narrows : goal.returns-clause-narrows
+returns-clause-narrows g c bytes held = c.in_ok-surveyed.ensures.narrows bytes (c.in_ok-sites.ensures.narrows bytes held)
+
+pub returns-clause-plan : goal.returns-clause-plan
+returns-clause-plan g c bytes held contents agreed =
+    let s = c.args.geometry.now in
+    let es = c.args.edits.now in
+    let size = (g.T.BlockSource.known c.args.contents.now).size in
+    let inside : first_beyond size 0 es ≡ None =
+    ap (λ n. first_beyond n 0 es) (sym c.len.ensures) ∙ sym c.first_beyond.ensures ∙ c.in_default.is in
+    let laid = c.in_ok-layings.ensures in
+    let taken = c.in_ok-sites.ensures.taken in
+    let count : c.len-needs.result ≡ length c.in_ok-layings.layings.items = c.len-needs.ensures ∙ c.in_ok-layings.layings.ok.0 in
+    let agrees = g.S.BlockSource.agrees c.based_on.new.source in
+    let read = c.in_ok-surveyed.field-0 in
+    let p : UpdatePlan =
+    (record {
+      surveyed = read.surveyed;
+      parts = read.ready.parts;
+      layings = c.in_ok-layings.layings;
+      sites = c.in_ok-sites.sites;
+      holders = read.ready.holders;
+      pages = read.ready.pages;
+    }) in
+    let sized = (g.met.T.BlockSource.sized c.layings_from.new.contents).sized contents agreed in
+    update_is s c.peb_size.ensures.limits (g.S.BlockSource.known c.args.source.now) agrees c.args.avoided.now es c.in_ok-surveyed.field-0
+    c.in_ok-surveyed.ensures.based bytes (c.in_ok-sites.ensures.narrows bytes held) contents size
+    (sized ∙ ap (λ (k : Source). k.size) laid.known) inside p refl refl refl
+    (laid.layings contents agreed ∙ ap (all_layings s contents) c.as_slice.ensures.value)
+    (taken.taken.held bytes held
+    ∙ ap (λ n. first_taken s (blocks_of s bytes) (states_avoiding c.args.avoided.now c.in_ok-surveyed.field-0.surveyed.states) (n + 2)) count)
+    (let e = taken.enough in omega (arith, e, count)) (let f = taken.few in omega (arith, f, count))
+
+pub returns-in_err-surveyed-clause-refused : goal.returns-in_err-surveyed-clause-refused
+returns-in_err-surveyed-clause-refused g c =
+    let from = err_from_is_err_and c.from_residual-in_err-surveyed.result c.from_residual-in_err-surveyed.ensures.1 in
+    rw (from.1, from.2)
+    (unbased_is c.args.geometry.now (g.S.BlockSource.known c.args.source.now) (g.S.BlockSource.agrees c.based_on.new.source)
+    (g.T.BlockSource.known c.args.contents.now).size (g.T.BlockSource.agrees c.args.contents.now) c.args.avoided.now c.args.edits.now
+    c.in_err-surveyed.field-0.0 c.in_err-surveyed.ensures.refused)
+
+pub returns-in_err-layings-clause-refused : goal.returns-in_err-layings-clause-refused
+returns-in_err-layings-clause-refused g c =
+    let from = err_from_is_err_and c.from_residual-in_err-layings.result c.from_residual-in_err-layings.ensures.1 in
+    let e : ContentsError = c.in_err-layings.field-0.0 in
+    let at = g.T.BlockSource.failed_at c.layings_from.new.contents in
+    rw (from.1, from.2)
+    (contents_unread_is c.args.geometry.now (g.S.BlockSource.known c.args.source.now) (g.S.BlockSource.agrees c.based_on.new.source)
+    c.args.avoided.now c.args.edits.now c.in_ok-surveyed.field-0 c.in_ok-surveyed.ensures.based
+    (g.T.BlockSource.known c.args.contents.now).size (g.T.BlockSource.agrees c.layings_from.new.contents) at e
+    (subst (λ (ps : List Part). IsContentsError ps at e) c.as_slice.ensures.value c.in_err-layings.ensures.refused))
+
+pub returns-in_err-sites-clause-refused : goal.returns-in_err-sites-clause-refused
+returns-in_err-sites-clause-refused g c =
+    let s = c.args.geometry.now in
+    let es = c.args.edits.now in
+    let size = (g.T.BlockSource.known c.args.contents.now).size in
+    let inside : first_beyond size 0 es ≡ None =
+    ap (λ n. first_beyond n 0 es) (sym c.len.ensures) ∙ sym c.first_beyond.ensures ∙ c.in_default.is in
+    let laid = c.in_ok-layings.ensures in
+    let layings = c.in_ok-layings.layings in
+    let count : c.len-needs.result ≡ length layings.items = c.len-needs.ensures ∙ layings.ok.0 in
+    let read = c.in_ok-surveyed.field-0 in
+    let now = g.S.BlockSource.agrees c.take_sites.new.source in
+    let known = g.S.BlockSource.known c.args.source.now in
+    let from = err_from_is_err_and c.from_residual-in_err-sites.result c.from_residual-in_err-sites.ensures.1 in
+    let e : UpdateError = c.in_err-sites.field-0.0 in
+    rw (from.1, from.2)
+    (sites_are s known (g.S.BlockSource.agrees c.based_on.new.source) c.args.avoided.now es read c.in_ok-surveyed.ensures.based now
+    c.in_err-sites.ensures.narrows size (g.T.BlockSource.agrees c.layings_from.new.contents)
+    (λ contents held. (g.met.T.BlockSource.sized c.layings_from.new.contents).sized contents held ∙ ap (λ (k : Source). k.size) laid.known)
+    inside layings.items
+    (λ contents held. laid.layings contents held ∙ ap (all_layings s contents) c.as_slice.ensures.value) e
+    (subst (λ n. IsSitesError s known now c.args.avoided.now read.surveyed n e) (ap (λ n. n + 2) count)
+    (subst (λ (k : Source). IsSitesError s k now c.args.avoided.now read.surveyed (c.len-needs.result + 2) e) c.in_ok-surveyed.ensures.known
+    c.in_err-sites.ensures.refused)))
