@@ -137,7 +137,7 @@ pub use Rattle.ubi_volume.specs.declared.attached.BlockState.{BlockState}
 pub use Rattle.ubi_volume.specs.declared.content.Content.{Content}
 pub use Rattle.ubi_volume.specs.declared.content.Volume.{Volume}
 pub use Rattle.ubi_volume.specs.declared.places.PlaceContent.{PlaceContent}
-pub use Rattle.ubi_change.specs.Avoided.{Avoided, Avoids, BlankBelow, MayTouch, ReadBlank, avoiding, is_avoided, is_blank_one, nothing, state_avoiding, states_avoiding, touchable, touchable_from}
+pub use Rattle.ubi_change.specs.Avoided.{Avoided, Avoids, BlankBelow, MayTouch, ReadBlank, avoiding, is_avoided, is_blank_one, nothing, state_avoiding, states_avoiding, touchable}
 pub use Rattle.ubi_change.specs.CommitAllowed.{AllThere, IsWhole, MayBeCommitted, MayBeSized, commit_needs}
 pub use Rattle.ubi_change.specs.CommitPlan.{commit_plan, edits_plan, lay, lay_all, numbered, table_plan, trimmed, whole_text}
 pub use Rattle.ubi_change.specs.CommitPlanned.{IsFrugalCommit, LeavesBoth, SurvivesCommit, WritesBytes}

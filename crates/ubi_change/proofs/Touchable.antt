@@ -1,24 +1,27 @@
 -- Lists that are gone through from the front: which edit ends past a size, and how many eraseblocks may be touched.
-use Rattle.ubi_change.proofs.Prelude.{◌≡◌, ℕ, suc, ◌+◌, ◌<◌, ◌≤◌, Bool, true, false, cond, List, [], ◌∷◌, length, drop, get_or, refl, ap, sym, ◌∙◌, arith, nat_tests, None, Option, Some, AllByRecursion, cons_option, NewVolume, new_of, news_of, drop-cons, option_map_or, BlockState, Avoided, is_avoided, touchable_from, first_beyond, is_beyond, Edit}
+use Rattle.ubi_change.proofs.Prelude.{◌≡◌, ℕ, ◌+◌, ◌<◌, ◌≤◌, Bool, true, false, cond, not, List, [], ◌∷◌, length, take, get_or, refl, ap, sym, ◌∙◌, arith, nat_tests, None, Option, Some, AllByRecursion, cons_option, count_by, enumerate_from, take_all, NewVolume, new_of, news_of, option_map_or, BlockState, Avoided, is_avoided, touchable, first_beyond, is_beyond, Edit}
 use Rattle.std.proofs.Common.{nat_lt}
+use Rattle.std.specs.List.{position_from}
+use Rattle.std.proofs.lemmas.Iterator.Adapters.{position_from-zero}
+use Rattle.std.proofs.lemmas.List.FromFn.{get_or-enumerate_from, length-enumerate_from}
+use Rattle.std.proofs.lemmas.List.Sums.{count_by_more_no, count_by_more_yes}
 
-drop_one : {X : Type 0} (xs : List X) (i : ℕ) (d : X) → i < length xs → drop i xs ≡ get_or xs i d ∷ drop (i + 1) xs
-drop_one xs i d l = drop-cons xs i d l ∙ ap (λ n. get_or xs i d ∷ drop n xs) (let e : suc i ≡ i + 1 = omega arith in e)
-
--- if there is none, all bytes lie in the source
-pub none_beyond : (size : ℕ) (i : ℕ) (es : List Edit) → first_beyond size i es ≡ None → AllByRecursion (λ v. v.start + v.len ≤ size) (news_of es)
-none_beyond size i [] none = tt
-none_beyond size i (e ∷ es) none = by (new_of e) refl (λ h. none_beyond size (i + 1) es h)
+-- if there is none from the i-th on, all bytes lie in the source
+none_from : (size : ℕ) (i : ℕ) (es : List Edit) → position_from (is_beyond size) i es ≡ None
+    → AllByRecursion (λ v. v.start + v.len ≤ size) (news_of es)
+none_from size i [] none = tt
+none_from size i (e ∷ es) none = by (new_of e) refl (λ h. none_from size (i + 1) es h)
   where
-    both : (b : Bool) → cond b (Some i) (first_beyond size (i + 1) es) ≡ None → (b ≡ false) × (first_beyond size (i + 1) es ≡ None)
+    both : (b : Bool) → cond b (Some i) (position_from (is_beyond size) (i + 1) es) ≡ None
+        → (b ≡ false) × (position_from (is_beyond size) (i + 1) es ≡ None)
     both true k = absurd (cc)
     both false k = (refl, k)
 
-    two : (is_beyond size e ≡ false) × (first_beyond size (i + 1) es ≡ None)
+    two : (is_beyond size e ≡ false) × (position_from (is_beyond size) (i + 1) es ≡ None)
     two = both (is_beyond size e) none
 
     by : (o : Option NewVolume) → new_of e ≡ o
-        → (first_beyond size (i + 1) es ≡ None → AllByRecursion (λ v. v.start + v.len ≤ size) (news_of es))
+        → (position_from (is_beyond size) (i + 1) es ≡ None → AllByRecursion (λ v. v.start + v.len ≤ size) (news_of es))
         → AllByRecursion (λ v. v.start + v.len ≤ size) (cons_option o (news_of es))
     by None k rest = rest two.1
     by (Some v) k rest =
@@ -26,10 +29,34 @@ none_beyond size i (e ∷ es) none = by (new_of e) refl (λ h. none_beyond size 
         sym (ap (λ (o : Option NewVolume). option_map_or (λ v. nat_lt size (v.start + v.len)) o false) k) ∙ two.0 in
         (grind (arith, nat_tests, t), rest two.1)
 
--- one eraseblock more
-pub touchable_next : (av : Avoided) (sts : List BlockState) (p : ℕ) (st : BlockState) → p < length sts → st ≡ get_or sts p st → (b : Bool)
-    → is_avoided av p st ≡ b
-    → touchable_from av p (drop p sts) ≡ cond b 0 1 + touchable_from av (p + 1) (drop (p + 1) sts)
-touchable_next av sts p st inside here b is =
-    ap (touchable_from av p) (drop_one sts p st inside ∙ ap (λ (x : BlockState). x ∷ drop (p + 1) sts) (sym here))
-    ∙ ap (λ b. cond b 0 1 + touchable_from av (p + 1) (drop (p + 1) sts)) is
+pub none_beyond : (size : ℕ) (es : List Edit) → first_beyond size es ≡ None → AllByRecursion (λ v. v.start + v.len ≤ size) (news_of es)
+none_beyond size es none = none_from size 0 es (sym (position_from-zero (is_beyond size) es) ∙ none)
+
+module _ (av : Avoided) (sts : List BlockState) where
+  -- how many of the first n eraseblocks may be touched
+  abbrev pub touchable_first : ℕ → ℕ
+  touchable_first n = count_by (λ e. not (is_avoided av e.0 e.1)) (take n (enumerate_from 0 sts))
+
+  -- one eraseblock more
+  pub touchable_more : (p : ℕ) (st : BlockState) → p < length sts → st ≡ get_or sts p st → (b : Bool) → is_avoided av p st ≡ b
+      → touchable_first (p + 1) ≡ touchable_first p + cond b 0 1
+  touchable_more p st inside here b is = by b (ap (λ e. not (is_avoided av e.0 e.1)) at ∙ ap not is)
+    where
+      l : p < length (enumerate_from 0 sts)
+      l = let n = length-enumerate_from 0 sts in omega arith
+
+      at : get_or (enumerate_from 0 sts) p (p, st) ≡ (p, st)
+      at = get_or-enumerate_from 0 sts p (p, st) inside ∙ ap (λ (x : BlockState). (p, x)) (sym here)
+
+      by : (b : Bool) → not (is_avoided av (get_or (enumerate_from 0 sts) p (p, st)).0 (get_or (enumerate_from 0 sts) p (p, st)).1) ≡ not b
+          → touchable_first (p + 1) ≡ touchable_first p + cond b 0 1
+      by true e =
+          count_by_more_no (λ e. not (is_avoided av e.0 e.1)) (enumerate_from 0 sts) p (p, st) l e
+          ∙ (let z : touchable_first p ≡ touchable_first p + 0 = omega arith in z)
+      by false e = count_by_more_yes (λ e. not (is_avoided av e.0 e.1)) (enumerate_from 0 sts) p (p, st) l e
+
+  -- and all of them
+  pub touchable_all : (n : ℕ) → n ≡ length sts → touchable_first n ≡ touchable av sts
+  touchable_all n all =
+      ap (λ es. count_by (λ e. not (is_avoided av e.0 e.1)) es)
+      (take_all n (enumerate_from 0 sts) (let l = length-enumerate_from 0 sts in omega arith))

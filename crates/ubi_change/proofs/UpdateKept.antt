@@ -12,7 +12,7 @@ use Rattle.ubi_change.specs.declared.errors.UpdateRefusal.TheVariants as refusal
 
 module _ (s : Sizes) (g : IsGeometry s) (k : Source) (agrees : Agreed) (av : Avoided) (es : List Edit) (b : Based) (is : IsBased s k agrees av es b)
     (bytes : List ℕ) (holds : agrees bytes) (contents : List ℕ) (size : ℕ) (sized : length contents ≡ size)
-    (inside : first_beyond size 0 es ≡ None) where
+    (inside : first_beyond size es ≡ None) where
   abbrev seen : Seen
   seen = b.surveyed
 
@@ -20,7 +20,7 @@ module _ (s : Sizes) (g : IsGeometry s) (k : Source) (agrees : Agreed) (av : Avo
   survey = is.survey.held bytes holds
 
   reach : AllByRecursion (λ v. v.start + v.len ≤ length contents) (news_of es)
-  reach = subst (λ n. AllByRecursion (λ v. v.start + v.len ≤ n) (news_of es)) (sym sized) (none_beyond size 0 es inside)
+  reach = subst (λ n. AllByRecursion (λ v. v.start + v.len ≤ n) (news_of es)) (sym sized) (none_beyond size es inside)
 
   pub update_is : (p : UpdatePlan) → p.surveyed ≡ b.surveyed → p.pages.items ≡ b.ready.pages.items → p.holders ≡ b.ready.holders
       → p.layings.items ≡ all_layings s contents b.ready.parts.items
@@ -91,10 +91,10 @@ module _ (s : Sizes) (k : Source) (agrees : Agreed) (av : Avoided) (es : List Ed
 
   -- the eraseblocks that weren't taken
   module _ (now : Agreed) (narrows : Narrows agrees now) (size : ℕ) (agreed : Agreed) (sized : WhereHeld agreed (λ contents. length contents ≡ size))
-      (inside : first_beyond size 0 es ≡ None) (layings : List Laying)
+      (inside : first_beyond size es ≡ None) (layings : List Laying)
       (laid : WhereHeld agreed (λ contents. layings ≡ all_layings s contents b.ready.parts.items)) where
     reaches : (contents : List ℕ) → agreed contents → AllByRecursion (λ v. v.start + v.len ≤ length contents) (news_of es)
-    reaches contents held = subst (λ n. AllByRecursion (λ v. v.start + v.len ≤ n) (news_of es)) (sym (sized contents held)) (none_beyond size 0 es inside)
+    reaches contents held = subst (λ n. AllByRecursion (λ v. v.start + v.len ≤ n) (news_of es)) (sym (sized contents held)) (none_beyond size es inside)
 
     pub sites_are : (e : UpdateError) → IsSitesError s k now av b.surveyed (length layings + 2) e → IsUpdateError s k now size agreed av es e
     sites_are (error.Read p) h = (is.survey.scan.whole, h)

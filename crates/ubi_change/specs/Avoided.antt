@@ -1,5 +1,5 @@
 -- What a plan may not touch, and what attaching shows of an image to a plan that avoids it.
-use Rattle.std.specs.Prelude.{◌≡◌, ℕ, ◌∷◌, ◌+◌, ◌<◌, ◌&&◌, ◌||◌, Bool, true, false, if◌then◌else◌, List, [], length, map, Some, slice_get, refl}
+use Rattle.std.specs.Prelude.{◌≡◌, ℕ, ◌<◌, ◌&&◌, ◌||◌, Bool, true, false, not, if◌then◌else◌, List, [], count_by, length, map, Some, slice_get, refl}
 use Rattle.std.specs.Coded.{Coded, code_by, coded×, coded_bool, coded_list}
 use Rattle.std.specs.List.{enumerate_from}
 use Rattle.ubi_media.specs.Geometry.{Sizes}
@@ -49,14 +49,9 @@ module _ (av : Avoided) where
   abbrev pub avoiding : AttachValue → AttachValue
   avoiding a = record a { states = states_avoiding a.states }
 
-  -- how many of the eraseblocks from p on, which are in these states, may be touched
-  abbrev pub touchable_from : ℕ → List BlockState → ℕ
-  touchable_from p [] = 0
-  touchable_from p (st ∷ sts) = (if is_avoided p st then 0 else 1) + touchable_from (p + 1) sts
-
-  -- how many of all
+  -- how many of the eraseblocks, which are in these states, may be touched
   abbrev pub touchable : List BlockState → ℕ
-  touchable states = touchable_from 0 states
+  touchable states = count_by (λ e. not (is_avoided e.0 e.1)) (enumerate_from 0 states)
 
 -- no step works on a listed eraseblock
 abbrev pub AllBeside : List Bool → List Step → Type 0

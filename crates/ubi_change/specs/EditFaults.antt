@@ -93,7 +93,7 @@ fault_of s used whole t (edit.Remove id) = fault_on t id (λ r. None)
 fault_of s used whole t (edit.Replace id v) = fault_on t id (λ r. writing_fault s v)
 fault_of s used whole t (edit.Create v) = writing_fault s v
 
--- the first edit that isn't made, and why: its number, counted from one, by whether the volume of each reads whole
+-- the first edit that isn't made, and why: its number, counted from i, by whether the volume of each reads whole
 abbrev pub first_edit_fault : Sizes → (ℕ → ℕ → Bool) → (Edit → Bool) → ℕ → Records → List Edit → Option (ℕ × EditFault)
 first_edit_fault s used whole i t [] = None
 first_edit_fault s used whole i t (e ∷ es) =

@@ -1,5 +1,5 @@
 -- The edits that are asked for: the bytes of the volumes that they write lie in a source of contents.
-use Rattle.std.specs.Prelude.{ℕ, ◌+◌, Bool, false, if◌then◌else◌, filter_map, List, [], ◌∷◌, map, nat_lt, Option, Some, None}
+use Rattle.std.specs.Prelude.{ℕ, ◌+◌, Bool, false, filter_map, List, map, nat_lt, Option, Some, None, position}
 use Rattle.std.specs.Option.{option_map_or}
 use Rattle.ubi_media.specs.Geometry.{Sizes}
 use Rattle.ubi_volume.specs.Made.{item_without_blank}
@@ -45,7 +45,6 @@ all_asked s contents es = map (asked s contents) es
 abbrev pub is_beyond : ℕ → Edit → Bool
 is_beyond size e = option_map_or (λ v. nat_lt size (v.start + v.len)) (new_of e) false
 
--- the first edit for which they do: its number, counted from one
-abbrev pub first_beyond : ℕ → ℕ → List Edit → Option ℕ
-first_beyond size i [] = None
-first_beyond size i (e ∷ es) = if is_beyond size e then Some i else first_beyond size (i + 1) es
+-- the first edit for which they do: its number, counted from 0
+abbrev pub first_beyond : ℕ → List Edit → Option ℕ
+first_beyond size es = position (is_beyond size) es

@@ -58,7 +58,7 @@ pub record IsAskedSlot (image : Image) (es : List Edit) (id : ℕ) : Type 0 wher
 
 -- why edits of the image of a source aren't planned, whatever it and the source of contents, of which the size is known, may hold
 abbrev pub IsUpdateError : Sizes → Source → Agreed → ℕ → Agreed → Avoided → List Edit → UpdateError → Type 0
-IsUpdateError s k agrees size agreed av es (error.Beyond i) = first_beyond size 0 es ≡ Some i
+IsUpdateError s k agrees size agreed av es (error.Beyond i) = first_beyond size es ≡ Some i
 IsUpdateError s k agrees size agreed av es (error.Read p) = IsWholeSize s k.size × (p < blocks_in s k)
 IsUpdateError s k agrees size agreed av es (error.NotBlank p) =
     IsWholeSize s k.size × WhereHeld agrees (λ bytes. of_blocks IsNotBlank (image_of s bytes) av p)

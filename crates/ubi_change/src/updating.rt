@@ -36,14 +36,9 @@ fn is_beyond(size: u64, edit: &Edit) -> bool
 
 /// The first edit for which they do, from 0.
 fn first_beyond(size: u64, edits: &[Edit]) -> Option<usize>
-    ensures { result ≡ first_beyond size 0 edits.now }
+    ensures { result ≡ first_beyond size edits.now }
 {
-    for i in 0..edits.len() {
-        if is_beyond(size, &edits[i]) {
-            return Some(i);
-        }
-    }
-    None
+    edits.iter().position(|edit| is_beyond(size, edit))
 }
 
 /// Why what a plan of edits needs couldn't be read.

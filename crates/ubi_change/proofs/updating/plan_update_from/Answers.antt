@@ -8,11 +8,11 @@ layings_from-requires-clause-parts g c =
     let s = c.args.geometry.now in
     let es = c.args.edits.now in
     let size = (g.T.BlockSource.known c.args.contents.now).size in
-    let inside : first_beyond size 0 es ≡ None =
-    ap (λ n. first_beyond n 0 es) (sym c.len.ensures) ∙ sym c.first_beyond.ensures ∙ c.in_default.is in
+    let inside : first_beyond size es ≡ None =
+    ap (λ n. first_beyond n es) (sym c.len.ensures) ∙ sym c.first_beyond.ensures ∙ c.in_default.is in
     let narrow : size < 2 ^ 64 = (let f = c.len.type_inv in omega (arith, c.len.ensures)) in
     subst (AllByRecursion (IsPartReadable s size)) (sym c.as_slice.ensures.value)
-    (c.in_ok-surveyed.ensures.readable size narrow (none_beyond size 0 es inside))
+    (c.in_ok-surveyed.ensures.readable size narrow (none_beyond size es inside))
 
 pub returns-clause-narrows : goal.returns-clause-narrows
 returns-clause-narrows g c bytes held = c.in_ok-surveyed.ensures.narrows bytes (c.in_ok-sites.ensures.narrows bytes held)
@@ -22,8 +22,8 @@ returns-clause-plan g c bytes held contents agreed =
     let s = c.args.geometry.now in
     let es = c.args.edits.now in
     let size = (g.T.BlockSource.known c.args.contents.now).size in
-    let inside : first_beyond size 0 es ≡ None =
-    ap (λ n. first_beyond n 0 es) (sym c.len.ensures) ∙ sym c.first_beyond.ensures ∙ c.in_default.is in
+    let inside : first_beyond size es ≡ None =
+    ap (λ n. first_beyond n es) (sym c.len.ensures) ∙ sym c.first_beyond.ensures ∙ c.in_default.is in
     let laid = c.in_ok-layings.ensures in
     let taken = c.in_ok-sites.ensures.taken in
     let count : c.len-needs.result ≡ length c.in_ok-layings.layings.items = c.len-needs.ensures ∙ c.in_ok-layings.layings.ok.0 in
@@ -71,8 +71,8 @@ returns-in_err-sites-clause-refused g c =
     let s = c.args.geometry.now in
     let es = c.args.edits.now in
     let size = (g.T.BlockSource.known c.args.contents.now).size in
-    let inside : first_beyond size 0 es ≡ None =
-    ap (λ n. first_beyond n 0 es) (sym c.len.ensures) ∙ sym c.first_beyond.ensures ∙ c.in_default.is in
+    let inside : first_beyond size es ≡ None =
+    ap (λ n. first_beyond n es) (sym c.len.ensures) ∙ sym c.first_beyond.ensures ∙ c.in_default.is in
     let laid = c.in_ok-layings.ensures in
     let layings = c.in_ok-layings.layings in
     let count : c.len-needs.result ≡ length layings.items = c.len-needs.ensures ∙ layings.ok.0 in

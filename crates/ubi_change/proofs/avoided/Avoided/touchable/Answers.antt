@@ -1,5 +1,5 @@
 use Rattle.ubi_change.proofs.Prelude.{◌≡◌, ◌<◌, true, false, sym, ap, ◌∙◌, arith, length, get_or_from_slice_get, is_avoided}
-use Rattle.ubi_change.proofs.Touchable.{touchable_next}
+use Rattle.ubi_change.proofs.Touchable.{touchable_more}
 use Rattle.ubi_change.proofs.avoided.Avoided.touchable.Goals as goal
 use Rattle.ubi_change.proofs.avoided.Avoided.touchable.Goals.{then-not-has, else-not-has}
 
@@ -16,10 +16,10 @@ loop-p-preserved c =
     elim c.if-not-has.branch [
       | then-not-has w ↦
           let may : is_avoided av p st ≡ false = sym c.has.ensures ∙ w.if-not-has.true in
-          let step = touchable_next av sts p st inside here false may in
+          let step = touchable_more av sts p st inside here false may in
           record { left = omega (arith, before, step, w.left-is); most = omega (arith, most, w.left-is) }
       | else-not-has w ↦
           let not_may : is_avoided av p st ≡ true = sym c.has.ensures ∙ w.if-not-has.false in
-          let step = touchable_next av sts p st inside here true not_may in
+          let step = touchable_more av sts p st inside here true not_may in
           record { left = omega (arith, before, step, w.left-is); most = omega (arith, most, w.left-is) }
     ]
