@@ -1,5 +1,5 @@
 -- What was read for edits holds for whatever the sources may hold.
-use Rattle.ubi_change.proofs.Prelude.{◌≡◌, ℕ, ◌+◌, ◌≤◌, List, length, None, Some, AllByRecursion, IsGeometry, Sizes, Source, image_of, blocks_of, IsSurvey, Seen, Avoided, states_avoiding, Holders, first_taken, subst, sym, ap, ap₂, ◌∙◌, Agreed, touchable, all_asked, first_beyond, news_of, all_layings, groups_from, in_order, IsUpdateFor, IsBased, Edit, UpdatePlan, Based, Contains, refl, Part, Narrows, WhereHeld, contents_error, IsUpdateCause, IsUpdateError, IsContentsError, IsSitesError, IsUnbased, ContentsError, Laying, UpdateError}
+use Rattle.ubi_change.proofs.Prelude.{◌≡◌, ℕ, ◌+◌, ◌≤◌, List, length, Err, None, Some, AllByRecursion, IsGeometry, Sizes, Source, image_of, blocks_of, IsSurvey, Seen, Avoided, states_avoiding, Holders, first_taken, subst, sym, ap, ap₂, ◌∙◌, Agreed, touchable, all_asked, first_beyond, news_of, all_layings, groups_from, in_order, IsUpdateFor, IsBased, Edit, UpdatePlan, Based, Contains, refl, Part, Narrows, WhereHeld, after_contents, contents_after_update, contents_error, IsUpdateCause, IsUpdateError, IsContentsError, IsSitesError, IsUnbased, ContentsError, Laying, UpdateError}
 use Rattle.ubi_change.proofs.BlankListed.{survey_blank}
 use Rattle.ubi_change.proofs.CommitKept.{commit_avoiding}
 use Rattle.ubi_change.proofs.Surveys.{whole}
@@ -50,32 +50,55 @@ module _ (s : Sizes) (g : IsGeometry s) (k : Source) (agrees : Agreed) (av : Avo
       }
 
 -- why edits of a source have no plan, by why they have no base
-pub unbased_is : (s : Sizes) (k : Source) (agrees : Agreed) (size : ℕ) (agreed : Agreed) (av : Avoided) (es : List Edit) (e : UpdateError)
-    → IsUnbased s k agrees av es e → IsUpdateError s k agrees size agreed av es e
-unbased_is s k agrees size agreed av es (error.Beyond i) h = absurd h
-unbased_is s k agrees size agreed av es (error.Contents id) h = absurd h
-unbased_is s k agrees size agreed av es (error.Read p) h = h
-unbased_is s k agrees size agreed av es (error.NotBlank p) h = h
-unbased_is s k agrees size agreed av es (error.Refused refusal.Memory) h = tt
-unbased_is s k agrees size agreed av es (error.Refused (refusal.Attach c)) h = h
-unbased_is s k agrees size agreed av es (error.Refused (refusal.Edit i f)) h = (h.0, λ bytes holds contents is. h.1 bytes holds contents)
-unbased_is s k agrees size agreed av es (error.Refused (refusal.SameName i j)) h = (h.0, λ bytes holds contents is. h.1 bytes holds contents)
-unbased_is s k agrees size agreed av es (error.Refused (refusal.NoSlot i j)) h = (h.0, λ bytes holds contents is. h.1 bytes holds contents)
-unbased_is s k agrees size agreed av es (error.Refused (refusal.NoSpace i j)) h = (h.0, λ bytes holds contents is. h.1 bytes holds contents)
-unbased_is s k agrees size agreed av es (error.Refused (refusal.Autoresize i j)) h = (h.0, λ bytes holds contents is. h.1 bytes holds contents)
-unbased_is s k agrees size agreed av es (error.Refused refusal.NeedsRepair) h = (h.0, λ bytes holds contents is. h.1 bytes holds contents)
-unbased_is s k agrees size agreed av es (error.Refused (refusal.WeakCheck n)) h = (h.0, λ bytes holds contents is. h.1 bytes holds contents)
-unbased_is s k agrees size agreed av es (error.Refused refusal.Exhausted) h = (h.0, λ bytes holds contents is. h.1 bytes holds contents)
-unbased_is s k agrees size agreed av es (error.Refused (refusal.NoFree n m)) h = (h.0, λ bytes holds contents is. h.1 bytes holds contents)
+pub unbased_is : (s : Sizes) (k : Source) (agrees : Agreed) (size at : ℕ) (agreed : Agreed) (av : Avoided) (es : List Edit) (e : UpdateError)
+    → IsUnbased s k agrees av es e → IsUpdateError s k agrees size at agreed av es e
+unbased_is s k agrees size at agreed av es (error.Beyond i) h = absurd h
+unbased_is s k agrees size at agreed av es (error.Contents id) h = absurd h
+unbased_is s k agrees size at agreed av es (error.Read p) h = h
+unbased_is s k agrees size at agreed av es (error.NotBlank p) h = h
+unbased_is s k agrees size at agreed av es (error.Refused refusal.Memory) h = tt
+unbased_is s k agrees size at agreed av es (error.Refused (refusal.Attach c)) h = h
+unbased_is s k agrees size at agreed av es (error.Refused (refusal.Edit i f)) h = (h.0, λ bytes holds contents is. h.1 bytes holds contents)
+unbased_is s k agrees size at agreed av es (error.Refused (refusal.SameName i j)) h = (h.0, λ bytes holds contents is. h.1 bytes holds contents)
+unbased_is s k agrees size at agreed av es (error.Refused (refusal.NoSlot i j)) h = (h.0, λ bytes holds contents is. h.1 bytes holds contents)
+unbased_is s k agrees size at agreed av es (error.Refused (refusal.NoSpace i j)) h = (h.0, λ bytes holds contents is. h.1 bytes holds contents)
+unbased_is s k agrees size at agreed av es (error.Refused (refusal.Autoresize i j)) h = (h.0, λ bytes holds contents is. h.1 bytes holds contents)
+unbased_is s k agrees size at agreed av es (error.Refused refusal.NeedsRepair) h = (h.0, λ bytes holds contents is. h.1 bytes holds contents)
+unbased_is s k agrees size at agreed av es (error.Refused (refusal.WeakCheck n)) h = (h.0, λ bytes holds contents is. h.1 bytes holds contents)
+unbased_is s k agrees size at agreed av es (error.Refused refusal.Exhausted) h = (h.0, λ bytes holds contents is. h.1 bytes holds contents)
+unbased_is s k agrees size at agreed av es (error.Refused (refusal.NoFree n m)) h = (h.0, λ bytes holds contents is. h.1 bytes holds contents)
+
+-- of the source of contents nothing more is known then
+pub unbased_known : {A : Type 0} (s : Sizes) (k : Source) (agrees : Agreed) (av : Avoided) (es : List Edit) (j : Source) (e : UpdateError)
+    → IsUnbased s k agrees av es e → contents_after_update {A} j (Err e) ≡ j
+unbased_known s k agrees av es j (error.Beyond i) h = absurd h
+unbased_known s k agrees av es j (error.Contents id) h = absurd h
+unbased_known s k agrees av es j (error.Read p) h = refl
+unbased_known s k agrees av es j (error.NotBlank p) h = refl
+unbased_known s k agrees av es j (error.Refused c) h = refl
+
+-- nor if no eraseblocks were taken
+pub sites_known : {A : Type 0} (s : Sizes) (k : Source) (agrees : Agreed) (av : Avoided) (seen : Seen) (needs : ℕ) (j : Source) (e : UpdateError)
+    → IsSitesError s k agrees av seen needs e → contents_after_update {A} j (Err e) ≡ j
+sites_known s k agrees av seen needs j (error.Beyond i) h = absurd h
+sites_known s k agrees av seen needs j (error.Contents id) h = absurd h
+sites_known s k agrees av seen needs j (error.Read p) h = refl
+sites_known s k agrees av seen needs j (error.NotBlank p) h = absurd h
+sites_known s k agrees av seen needs j (error.Refused c) h = refl
+
+-- and if a read of contents failed, that one did
+pub contents_known : {A B : Type 0} (j : Source) (e : ContentsError) → contents_after_update {A} j (Err (contents_error e)) ≡ after_contents {B} j (Err e)
+contents_known j (contents.Read id) = refl
+contents_known j contents.Memory = refl
 
 module _ (s : Sizes) (k : Source) (agrees : Agreed) (av : Avoided) (es : List Edit) (b : Based) (is : IsBased s k agrees av es b) where
   survey_now : (bytes : List ℕ) → agrees bytes → IsSurvey (image_of s bytes) b.surveyed
   survey_now bytes holds = is.survey.held bytes holds
 
   -- a read of contents that failed
-  pub contents_unread_is : (size : ℕ) (agreed : Agreed) (at : ℕ) (e : ContentsError) → IsContentsError b.ready.parts.items at e
-      → IsUpdateError s k agrees size agreed av es (contents_error e)
-  contents_unread_is size agreed at contents.Memory h = tt
+  pub contents_unread_is : (size at : ℕ) (agreed : Agreed) (e : ContentsError) → IsContentsError b.ready.parts.items at e
+      → IsUpdateError s k agrees size at agreed av es (contents_error e)
+  contents_unread_is size at agreed contents.Memory h = tt
   contents_unread_is size agreed at (contents.Read id) h = λ bytes holds.
       (let image = image_of s bytes in
       let survey = survey_now bytes holds in
@@ -87,16 +110,18 @@ module _ (s : Sizes) (k : Source) (agrees : Agreed) (av : Avoided) (es : List Ed
         part = h.0;
         asked = subst (λ (ps : List Part). Contains ps h.0) same h.1;
         slot = sym h.2.0;
+        begins = h.2.1;
+        ends = h.2.2;
       })
 
   -- the eraseblocks that weren't taken
-  module _ (now : Agreed) (narrows : Narrows agrees now) (size : ℕ) (agreed : Agreed) (sized : WhereHeld agreed (λ contents. length contents ≡ size))
+  module _ (now : Agreed) (narrows : Narrows agrees now) (size at : ℕ) (agreed : Agreed) (sized : WhereHeld agreed (λ contents. length contents ≡ size))
       (inside : first_beyond size es ≡ None) (layings : List Laying)
       (laid : WhereHeld agreed (λ contents. layings ≡ all_layings s contents b.ready.parts.items)) where
     reaches : (contents : List ℕ) → agreed contents → AllByRecursion (λ v. v.start + v.len ≤ length contents) (news_of es)
     reaches contents held = subst (λ n. AllByRecursion (λ v. v.start + v.len ≤ n) (news_of es)) (sym (sized contents held)) (none_beyond size es inside)
 
-    pub sites_are : (e : UpdateError) → IsSitesError s k now av b.surveyed (length layings + 2) e → IsUpdateError s k now size agreed av es e
+    pub sites_are : (e : UpdateError) → IsSitesError s k now av b.surveyed (length layings + 2) e → IsUpdateError s k now size at agreed av es e
     sites_are (error.Read p) h = (is.survey.scan.whole, h)
     sites_are (error.Refused refusal.Memory) h = tt
     sites_are (error.Refused refusal.Exhausted) h = (

@@ -79,6 +79,11 @@ abbrev pub after_update : {A : Type 0} → Source → Result A UpdateError → S
 after_update k (Err (error.Read p)) = failed k
 after_update k _ = k
 
+-- what is known of the source of contents after a call: one read failed if the answer is Contents
+abbrev pub contents_after_update : {A : Type 0} → Source → Result A UpdateError → Source
+contents_after_update k (Err (error.Contents id)) = failed k
+contents_after_update k _ = k
+
 -- a failed read of the image, which began at a place, names the eraseblock in which the place lies
 abbrev pub NamesUnread : Sizes → ℕ → UpdateError → Type 0
 NamesUnread s at (error.Read p) = p ≡ at / s.peb_size

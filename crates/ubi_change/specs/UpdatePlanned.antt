@@ -1,5 +1,5 @@
 -- What holds for a plan of edits, and why edits of a source aren't planned.
-use Rattle.std.specs.Prelude.{◌≡◌, ℕ, ◌<◌, Contains, List, Some}
+use Rattle.std.specs.Prelude.{◌≡◌, ℕ, ◌+◌, ◌<◌, ◌≤◌, Contains, List, Some}
 use Rattle.ubi_media.specs.Geometry.{Sizes}
 use Rattle.ubi_scan.specs.Image.{Image, IsWholeSize, image_of, of_blocks}
 use Rattle.ubi_scan.specs.Source.{Agreed, Source, WhereHeld, blocks_in}
@@ -48,23 +48,26 @@ pub record IsUpdateCause (image : Image) (av : Avoided) (contents : List ℕ) (e
   pub first : (d : UpdateRefusal) → update_rank d < update_rank c
       → of_blocks UpdateStands image (avoiding av from) contents (touchable av from.states) es d → ⊥
 
--- a slot is that of a volume that edits of an image write
-pub record IsAskedSlot (image : Image) (es : List Edit) (id : ℕ) : Type 0 where
+-- a place in the source of contents lies in the bytes of a volume that edits of an image write, and the slot is that volume's
+pub record IsAskedAt (image : Image) (es : List Edit) (id at : ℕ) : Type 0 where
   pub from : AttachValue
   pub attached : IsAttached image from
   pub part : Part
   pub asked : Contains (of_blocks asked_parts image from es) part
   pub slot : part.id ≡ id
+  pub begins : part.start ≤ at
+  pub ends : at < part.start + part.len
 
--- why edits of the image of a source aren't planned, whatever it and the source of contents, of which the size is known, may hold
-abbrev pub IsUpdateError : Sizes → Source → Agreed → ℕ → Agreed → Avoided → List Edit → UpdateError → Type 0
-IsUpdateError s k agrees size agreed av es (error.Beyond i) = first_beyond size es ≡ Some i
-IsUpdateError s k agrees size agreed av es (error.Read p) = IsWholeSize s k.size × (p < blocks_in s k)
-IsUpdateError s k agrees size agreed av es (error.NotBlank p) =
+-- why edits of the image of a source aren't planned, whatever it and the source of contents, of which the size is known, may hold; the last
+-- read of contents that failed began at a place
+abbrev pub IsUpdateError : Sizes → Source → Agreed → ℕ → ℕ → Agreed → Avoided → List Edit → UpdateError → Type 0
+IsUpdateError s k agrees size at agreed av es (error.Beyond i) = first_beyond size es ≡ Some i
+IsUpdateError s k agrees size at agreed av es (error.Read p) = IsWholeSize s k.size × (p < blocks_in s k)
+IsUpdateError s k agrees size at agreed av es (error.NotBlank p) =
     IsWholeSize s k.size × WhereHeld agrees (λ bytes. of_blocks IsNotBlank (image_of s bytes) av p)
-IsUpdateError s k agrees size agreed av es (error.Contents id) = WhereHeld agrees (λ bytes. IsAskedSlot (image_of s bytes) es id)
-IsUpdateError s k agrees size agreed av es (error.Refused refusal.Memory) = Unit {0}
-IsUpdateError s k agrees size agreed av es (error.Refused (refusal.Attach c)) = ArePlacesError s k agrees (stream.Refused c)
-IsUpdateError s k agrees size agreed av es (error.Refused c) =
+IsUpdateError s k agrees size at agreed av es (error.Contents id) = WhereHeld agrees (λ bytes. IsAskedAt (image_of s bytes) es id at)
+IsUpdateError s k agrees size at agreed av es (error.Refused refusal.Memory) = Unit {0}
+IsUpdateError s k agrees size at agreed av es (error.Refused (refusal.Attach c)) = ArePlacesError s k agrees (stream.Refused c)
+IsUpdateError s k agrees size at agreed av es (error.Refused c) =
     IsWholeSize s k.size
     × WhereHeld agrees (λ bytes. WhereHeld agreed (λ contents. IsUpdateCause (image_of s bytes) av contents es c))

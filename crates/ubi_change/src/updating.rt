@@ -3,7 +3,7 @@
 ghost use Rattle.std.specs.List.{AllByRecursion};
 ghost use Rattle.std.specs.Prelude.{◌≡◌, ◌≤◌, ◌%◌, ◌^◌, ◌<◌, IfErr, IfOk, length};
 ghost use Rattle.ubi_change.specs.EditsAsked.{first_beyond, is_beyond};
-ghost use Rattle.ubi_change.specs.UpdatePlan.{NamesUnread, after_update};
+ghost use Rattle.ubi_change.specs.UpdatePlan.{NamesUnread, after_update, contents_after_update};
 ghost use Rattle.ubi_change.specs.UpdatePlanned.{IsPlannedUpdate, IsUpdateError};
 ghost use Rattle.ubi_change.specs.inner.Laying.{AreReadable};
 ghost use Rattle.ubi_change.specs.inner.Making.{IsNoWrite};
@@ -131,11 +131,12 @@ pub fn plan_update_from<S: BlockSource, T: BlockSource>(
     edits: &[Edit],
 ) -> Result<UpdatePlan, UpdateError>
     ensures known { S.known source.new ≡ after_update (S.known source.old) result }
+    ensures known_contents { T.known contents.new ≡ contents_after_update (T.known contents.old) result }
     ensures narrows { Narrows (S.agrees source.old) (S.agrees source.new) }
-    ensures narrowed { Narrows (T.agrees contents.old) (T.agrees contents.new) }
+    ensures narrows_contents { Narrows (T.agrees contents.old) (T.agrees contents.new) }
     ensures fits { IfOk result (FitsUpdate geometry.now (T.known contents.old).size) }
     ensures plan { IfOk result (IsPlannedUpdate geometry.now (S.agrees source.new) (T.agrees contents.new) avoided.now edits.now) }
-    ensures refused { IfErr result (IsUpdateError geometry.now (S.known source.old) (S.agrees source.new) (T.known contents.old).size (T.agrees contents.new) avoided.now edits.now) }
+    ensures refused { IfErr result (IsUpdateError geometry.now (S.known source.old) (S.agrees source.new) (T.known contents.old).size (T.failed_at contents.new) (T.agrees contents.new) avoided.now edits.now) }
     ensures named { IfErr result (NamesUnread geometry.now (S.failed_at source.new)) }
 {
     if let Some(i) = first_beyond(contents.len(), edits) {

@@ -1,6 +1,6 @@
 use Rattle.ubi_change.proofs.Prelude.{List, Part, ◌≡◌, err_from_is_err_and, ◌+◌, ◌<◌, ◌^◌, refl, length, None, AllByRecursion, sym, ap, subst, ◌∙◌, arith, Source, states_avoiding, blocks_of, first_taken, first_beyond, all_layings, IsPartReadable, UpdatePlan, IsContentsError, IsSitesError, ContentsError, UpdateError}
 use Rattle.ubi_change.proofs.Touchable.{none_beyond}
-use Rattle.ubi_change.proofs.UpdateKept.{contents_unread_is, sites_are, unbased_is, update_is}
+use Rattle.ubi_change.proofs.UpdateKept.{contents_known, contents_unread_is, sites_are, sites_known, unbased_is, unbased_known, update_is}
 use Rattle.ubi_change.proofs.updating.plan_update_from.Goals as goal
 
 pub layings_from-requires-clause-parts : goal.layings_from-requires-clause-parts
@@ -52,8 +52,8 @@ returns-in_err-surveyed-clause-refused g c =
     let from = err_from_is_err_and c.from_residual-in_err-surveyed.result c.from_residual-in_err-surveyed.ensures.1 in
     rw (from.1, from.2)
     (unbased_is c.args.geometry.now (g.S.BlockSource.known c.args.source.now) (g.S.BlockSource.agrees c.based_on.new.source)
-    (g.T.BlockSource.known c.args.contents.now).size (g.T.BlockSource.agrees c.args.contents.now) c.args.avoided.now c.args.edits.now
-    c.in_err-surveyed.field-0.0 c.in_err-surveyed.ensures.refused)
+    (g.T.BlockSource.known c.args.contents.now).size (g.T.BlockSource.failed_at c.args.contents.now) (g.T.BlockSource.agrees c.args.contents.now)
+    c.args.avoided.now c.args.edits.now c.in_err-surveyed.field-0.0 c.in_err-surveyed.ensures.refused)
 
 pub returns-in_err-layings-clause-refused : goal.returns-in_err-layings-clause-refused
 returns-in_err-layings-clause-refused g c =
@@ -63,7 +63,7 @@ returns-in_err-layings-clause-refused g c =
     rw (from.1, from.2)
     (contents_unread_is c.args.geometry.now (g.S.BlockSource.known c.args.source.now) (g.S.BlockSource.agrees c.based_on.new.source)
     c.args.avoided.now c.args.edits.now c.in_ok-surveyed.field-0 c.in_ok-surveyed.ensures.based
-    (g.T.BlockSource.known c.args.contents.now).size (g.T.BlockSource.agrees c.layings_from.new.contents) at e
+    (g.T.BlockSource.known c.args.contents.now).size at (g.T.BlockSource.agrees c.layings_from.new.contents) e
     (subst (λ (ps : List Part). IsContentsError ps at e) c.as_slice.ensures.value c.in_err-layings.ensures.refused))
 
 pub returns-in_err-sites-clause-refused : goal.returns-in_err-sites-clause-refused
@@ -83,10 +83,31 @@ returns-in_err-sites-clause-refused g c =
     let e : UpdateError = c.in_err-sites.field-0.0 in
     rw (from.1, from.2)
     (sites_are s known (g.S.BlockSource.agrees c.based_on.new.source) c.args.avoided.now es read c.in_ok-surveyed.ensures.based now
-    c.in_err-sites.ensures.narrows size (g.T.BlockSource.agrees c.layings_from.new.contents)
+    c.in_err-sites.ensures.narrows size (g.T.BlockSource.failed_at c.layings_from.new.contents) (g.T.BlockSource.agrees c.layings_from.new.contents)
     (λ contents held. (g.met.T.BlockSource.sized c.layings_from.new.contents).sized contents held ∙ ap (λ (k : Source). k.size) laid.known)
     inside layings.items
     (λ contents held. laid.layings contents held ∙ ap (all_layings s contents) c.as_slice.ensures.value) e
     (subst (λ n. IsSitesError s known now c.args.avoided.now read.surveyed n e) (ap (λ n. n + 2) count)
     (subst (λ (k : Source). IsSitesError s k now c.args.avoided.now read.surveyed (c.len-needs.result + 2) e) c.in_ok-surveyed.ensures.known
     c.in_err-sites.ensures.refused)))
+
+pub returns-in_err-surveyed-clause-known_contents : goal.returns-in_err-surveyed-clause-known_contents
+returns-in_err-surveyed-clause-known_contents g c =
+    let from = err_from_is_err_and c.from_residual-in_err-surveyed.result c.from_residual-in_err-surveyed.ensures.1 in
+    rw (from.1, from.2)
+    (sym (unbased_known c.args.geometry.now (g.S.BlockSource.known c.args.source.now) (g.S.BlockSource.agrees c.based_on.new.source)
+    c.args.avoided.now c.args.edits.now (g.T.BlockSource.known c.args.contents.now) c.in_err-surveyed.field-0.0 c.in_err-surveyed.ensures.refused))
+
+pub returns-in_err-layings-clause-known_contents : goal.returns-in_err-layings-clause-known_contents
+returns-in_err-layings-clause-known_contents g c =
+    let from = err_from_is_err_and c.from_residual-in_err-layings.result c.from_residual-in_err-layings.ensures.1 in
+    rw (from.1, from.2)
+    (c.in_err-layings.ensures.known ∙ sym (contents_known (g.T.BlockSource.known c.args.contents.now) c.in_err-layings.field-0.0))
+
+pub returns-in_err-sites-clause-known_contents : goal.returns-in_err-sites-clause-known_contents
+returns-in_err-sites-clause-known_contents g c =
+    let from = err_from_is_err_and c.from_residual-in_err-sites.result c.from_residual-in_err-sites.ensures.1 in
+    rw (from.1, from.2)
+    (c.in_ok-layings.ensures.known
+    ∙ sym (sites_known c.args.geometry.now _ (g.S.BlockSource.agrees c.take_sites.new.source) c.args.avoided.now c.in_ok-surveyed.field-0.surveyed
+    _ (g.T.BlockSource.known c.args.contents.now) c.in_err-sites.field-0.0 c.in_err-sites.ensures.refused))
