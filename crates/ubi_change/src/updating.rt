@@ -1,15 +1,12 @@
 //! The plan of edits of the image of a source.
 
-ghost use Rattle.std.specs.List.{AllByRecursion};
-ghost use Rattle.std.specs.Prelude.{◌≡◌, ◌≤◌, ◌%◌, ◌^◌, ◌<◌, IfErr, IfOk, length};
+ghost use Rattle.std.specs.Prelude.{◌≡◌, IfErr, IfOk, length};
 ghost use Rattle.ubi_change.specs.EditsAsked.{first_beyond, is_beyond};
 ghost use Rattle.ubi_change.specs.UpdatePlan.{NamesUnread, after_update, contents_after_update};
 ghost use Rattle.ubi_change.specs.UpdatePlanned.{IsPlannedUpdate, IsUpdateError};
-ghost use Rattle.ubi_change.specs.inner.Laying.{AreReadable};
 ghost use Rattle.ubi_change.specs.inner.Making.{IsNoWrite};
 ghost use Rattle.ubi_change.specs.UpdatePlan.{FitsUpdate};
 ghost use Rattle.ubi_change.specs.inner.Updating.{IsBased, IsUnbased, update_error};
-ghost use Rattle.ubi_media.specs.Geometry.{leb_size};
 ghost use Rattle.ubi_scan.specs.Source.{Narrows};
 
 use crate::avoided::Avoided;
@@ -82,10 +79,6 @@ fn based_on<S: BlockSource>(
     ensures known { S.known source.new ≡ after_update (S.known source.old) result }
     ensures narrows { Narrows (S.agrees source.old) (S.agrees source.new) }
     ensures based { IfOk result (IsBased geometry.now (S.known source.old) (S.agrees source.new) avoided.now edits.now) }
-    ensures readable { IfOk result (λ based. AreReadable geometry.now edits.now based.ready.parts.items) }
-    ensures paged { IfOk result (λ based. length based.ready.pages.items % geometry.now.page ≡ 0) }
-    ensures short { IfOk result (λ based. length based.ready.pages.items < 2 ^ 31) }
-    ensures fits { IfOk result (λ based. length based.ready.pages.items ≤ leb_size geometry.now) }
     ensures refused { IfErr result (IsUnbased geometry.now (S.known source.old) (S.agrees source.new) avoided.now edits.now) }
     ensures named { IfErr result (NamesUnread geometry.now (S.failed_at source.new)) }
 {

@@ -1,6 +1,6 @@
 -- What a plan of edits is based on.
-use Rattle.std.specs.Prelude.{ℕ, ◌≤◌, ◌<◌, Bool, List, None, Some}
-use Rattle.ubi_media.specs.Geometry.{Sizes}
+use Rattle.std.specs.Prelude.{◌≡◌, ℕ, ◌%◌, ◌^◌, ◌≤◌, ◌<◌, Bool, List, length, None, Some}
+use Rattle.ubi_media.specs.Geometry.{Sizes, leb_size}
 use Rattle.ubi_scan.specs.Image.{IsWholeSize, image_of, of_blocks}
 use Rattle.ubi_scan.specs.Source.{Agreed, Source, WhereHeld, blocks_in}
 use Rattle.ubi_scan.specs.declared.errors.StreamError.{StreamError}
@@ -10,6 +10,7 @@ use Rattle.ubi_volume.specs.Survey.{IsSurveyOf}
 use Rattle.ubi_change.specs.Avoided.{Avoided, IsNotBlank, touchable}
 use Rattle.ubi_change.specs.UpdatePlanned.{IsUpdateCause}
 use Rattle.ubi_change.specs.inner.Known.{AreWholes}
+use Rattle.ubi_change.specs.inner.Laying.{AreReadable}
 use Rattle.ubi_change.specs.inner.Ready.{IsReady}
 use Rattle.ubi_change.specs.inner.Renaming.{AreHoldersOf}
 use Rattle.ubi_change.specs.inner.Taking.{NotBlankIs}
@@ -18,12 +19,19 @@ use Rattle.ubi_change.specs.declared.errors.UpdateError.{UpdateError}
 use Rattle.ubi_change.specs.declared.errors.UpdateError.TheVariants as error
 use Rattle.ubi_change.specs.declared.errors.UpdateRefusal.TheVariants as refusal
 use Rattle.ubi_change.specs.declared.updating.Based.{Based}
+use Rattle.ubi_change.specs.declared.written_out.Ready.{Ready}
 
 -- what an error of a reading says about edits
 abbrev pub update_error : StreamError → UpdateError
 update_error (stream.Refused c) = error.Refused (refusal.Attach c)
 update_error (stream.Read p written) = error.Read p
 update_error _ = error.Refused refusal.Memory
+
+-- the pages of the new table are whole, and fit into a LEB
+pub record HasPages (s : Sizes) (r : Ready) : Type 0 where
+  pub paged : length r.pages.items % s.page ≡ 0
+  pub short : length r.pages.items < 2 ^ 31
+  pub fit : length r.pages.items ≤ leb_size s
 
 -- what was read of a source for edits, and what they write: nothing that is listed holds anything, and no cause stands up to the CRC of
 -- the new table, whatever the source may hold
@@ -34,6 +42,8 @@ pub record IsBased (s : Sizes) (k : Source) (agrees : Agreed) (av : Avoided) (es
   pub read : WhereHeld agrees (λ bytes. AreWholes (image_of s bytes) b.surveyed es wholes)
   pub holders : AreHoldersOf s k agrees av b.surveyed (Some b.ready.holders)
   pub ready : IsReady s b.surveyed wholes (Some b.ready.holders) es (touchable av b.surveyed.states) b.ready
+  pub readable : AreReadable s es b.ready.parts.items
+  pub pages : HasPages s b.ready
   pub most : touchable av b.surveyed.states ≤ s.pebs
 
 -- why a plan of edits has nothing to be based on: a read failed, or something that is listed isn't Blank, or a cause stands up to the CRC

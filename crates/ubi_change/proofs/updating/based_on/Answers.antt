@@ -37,6 +37,12 @@ returns-in_ok-ready-in-Ok-clause-based g c =
       holders = subst (AreHoldersOf s (g.S.BlockSource.known c.args.source.now) (g.S.BlockSource.agrees c.known_from.new.source) av seen)
           ready.both is.holders;
       ready = subst (λ (o : Option Holders). IsReady s seen known.wholes.items o es (touchable av seen.states) r) ready.both second;
+      readable = c.in_ok-ready-in-Ok.ensures.readable;
+      pages = record {
+        paged = c.in_ok-ready-in-Ok.ensures.paged;
+        short = c.in_ok-ready-in-Ok.ensures.short;
+        fit = c.in_ok-ready-in-Ok.ensures.fits;
+      };
       most = subst (λ n. n ≤ s.pebs) c.touchable-room.ensures.value c.touchable-room.ensures.most;
     }
 

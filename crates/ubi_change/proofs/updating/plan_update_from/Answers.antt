@@ -1,4 +1,4 @@
-use Rattle.ubi_change.proofs.Prelude.{List, Part, ◌≡◌, err_from_is_err_and, ◌+◌, ◌<◌, ◌^◌, refl, length, None, AllByRecursion, sym, ap, subst, ◌∙◌, arith, Source, states_avoiding, blocks_of, first_taken, first_beyond, all_layings, IsPartReadable, UpdatePlan, IsContentsError, IsSitesError, ContentsError, UpdateError}
+use Rattle.ubi_change.proofs.Prelude.{List, Part, ◌≡◌, err_from_is_err_and, ◌+◌, ◌<◌, ◌^◌, refl, length, None, AllByRecursion, sym, ap, subst, ◌∙◌, arith, Source, states_avoiding, blocks_in, blocks_of, BothFit, FitsIn, first_taken, first_beyond, all_layings, IsPartReadable, UpdatePlan, IsContentsError, IsSitesError, ContentsError, UpdateError}
 use Rattle.ubi_change.proofs.Touchable.{none_beyond}
 use Rattle.ubi_change.proofs.UpdateKept.{contents_known, contents_unread_is, sites_are, sites_known, unbased_is, unbased_known, update_is}
 use Rattle.ubi_change.proofs.updating.plan_update_from.Goals as goal
@@ -12,10 +12,32 @@ layings_from-requires-clause-parts g c =
     ap (λ n. first_beyond n es) (sym c.len.ensures) ∙ sym c.first_beyond.ensures ∙ c.in_default.is in
     let narrow : size < 2 ^ 64 = (let f = c.len.type_inv in omega (arith, c.len.ensures)) in
     subst (AllByRecursion (IsPartReadable s size)) (sym c.as_slice.ensures.value)
-    (c.in_ok-surveyed.ensures.readable size narrow (none_beyond size es inside))
+    (c.in_ok-surveyed.ensures.based.readable size narrow (none_beyond size es inside))
 
 pub returns-clause-narrows : goal.returns-clause-narrows
 returns-clause-narrows g c bytes held = c.in_ok-surveyed.ensures.narrows bytes (c.in_ok-sites.ensures.narrows bytes held)
+
+pub returns-clause-fits : goal.returns-clause-fits
+returns-clause-fits g c =
+    let s = c.args.geometry.now in
+    let known = g.S.BlockSource.known c.args.source.now in
+    let is = c.in_ok-surveyed.ensures.based in
+    let taken = c.in_ok-sites.ensures.taken in
+    let sites = c.in_ok-sites.sites.items in
+    let total = is.survey.count in
+    let count : c.len-needs.result ≡ length c.in_ok-layings.layings.items = c.len-needs.ensures ∙ c.in_ok-layings.layings.ok.0 in
+    record {
+      sound = c.peb_size.ensures.limits;
+      sites = subst (λ n. AllByRecursion (FitsIn n) sites) (sym total)
+          (subst (λ (k : Source). AllByRecursion (FitsIn (blocks_in s k)) sites) c.in_ok-surveyed.ensures.known taken.taken.fit);
+      enough = let e = taken.enough in omega (arith, e, count);
+      holders = subst (λ n. BothFit n c.in_ok-surveyed.field-0.ready.holders) (sym total) is.holders.fits;
+      lie = c.in_ok-layings.ensures.lie;
+      paged = is.pages.paged;
+      short = is.pages.short;
+      fit = is.pages.fit;
+      few = let f = taken.few in omega (arith, f, count);
+    }
 
 pub returns-clause-plan : goal.returns-clause-plan
 returns-clause-plan g c bytes held contents agreed =
