@@ -1,5 +1,6 @@
 -- The plan of an attached image, with no cause against it, survives every cut.
-use Rattle.ubi_change.proofs.Prelude.{◌≡◌, ◌≢◌, ℕ, suc, ◌+◌, ◌/◌, ◌%◌, ◌^◌, ◌<◌, ◌≤◌, Bool, true, false, not, List, [], ◌∷◌, ◌++◌, append_assoc, length, set, refl, ap, sym, ◌∙◌, subst, arith, length-append, length-set, None, Option, Some, ◌==◌, IfSome, count_by, nat_lt, option_map, then_some, FinMap, option_map_or, nat_cmp, nat_tests, Sizes, IsGeometry, leb_size, is_static, data_pad, usable, vid_bytes, EcHeader, VidHeader, VolKind, VolumeRecord, Image, eraseblocks, of_blocks, NoMember, Wins, Agrees, Records, AllBlank, AcceptsBlocks, AttachValue, Fits, IsVolume, Content, Volume, records_meant, found_wins, none_found, SurvivesCuts, programs_copy, turn, blank_header, copy_header, leb_header, next_ec, mapped_plan, needs, plan_of, prepare, program_header, program_text, ready_bytes, ready_ec, release, taken, unmapped_plan, causes, first_cause, first_of, is_bad_length, ec_at, is_worn, takeable, weak_pages, pages_needed, ChangeRefusal, Step, own_causes, laid, rec_fault, half_pad, reserved_within, changed, pages_of, ◌-◌, SurvivesHarm, SurvivesTears}
+use Rattle.ubi_change.proofs.Prelude.{◌≡◌, ◌≢◌, ℕ, suc, ◌+◌, ◌/◌, ◌%◌, ◌^◌, ◌<◌, ◌≤◌, Bool, true, false, not, List, [], ◌∷◌, ◌++◌, append_assoc, length, set, refl, ap, sym, ◌∙◌, subst, arith, length-append, length-set, None, Option, Some, ◌==◌, IfSome, count_by, nat_lt, option_map, then_some, FinMap, option_map_or, nat_cmp, nat_tests, Sizes, IsGeometry, leb_size, is_static, data_pad, usable, vid_bytes, EcHeader, VidHeader, VolKind, VolumeRecord, Image, eraseblocks, of_blocks, NoMember, Wins, Agrees, Records, AllBlank, AcceptsBlocks, AttachValue, Fits, IsVolume, Content, Volume, records_meant, found_wins, SurvivesCuts, programs_copy, turn, blank_header, copy_header, leb_header, next_ec, mapped_plan, needs, plan_of, prepare, program_header, program_text, ready_bytes, ready_ec, release, taken, unmapped_plan, causes, first_cause, first_of, is_bad_length, ec_at, is_worn, takeable, weak_pages, pages_needed, ChangeRefusal, Step, own_causes, laid, rec_fault, half_pad, reserved_within, changed, pages_of, ◌-◌, SurvivesHarm, SurvivesTears}
+use Rattle.ubi_volume.proofs.Winners.{none_found}
 use Rattle.std.specs.FinMap as finite
 use Rattle.ubi_media.specs.declared.vid.VolKind.TheVariants as kind
 use Rattle.ubi_volume.specs.declared.content.Content.TheVariants as content

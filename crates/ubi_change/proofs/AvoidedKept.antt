@@ -1,6 +1,6 @@
 -- The steps of a plan that avoids something touch none of it: what is taken isn't avoided, since the plan sees that as
 -- used; and what is given up isn't, since it holds a LEB, and the listed eraseblocks begin blank.
-use Rattle.ubi_change.proofs.Prelude.{ready_ec, EcHeader, ◌≡◌, ℕ, zero, suc, ◌<◌, ◌≤◌, Bool, true, false, List, [], ◌∷◌, length, take, get_or, refl, ap, sym, ◌∙◌, subst, arith, ◌&&◌, ◌||◌, IfSome, None, Option, Some, option_map, slice_get, option_map_or, IsGeometry, Sizes, Image, block, ec, eraseblocks, of_blocks, Leb, Wins, layout, Records, IsAttached, BlockStateIs, AttachValue, records_of, BlockState, Volume, found_wins, TouchesOnly, given_up, needs, plan_of, taken, first_cause, rename_plan, MayBeNamed, ReadBlank, MayTouch, Avoided, Avoids, avoiding, is_avoided, is_blank_one, is_listed, state_avoiding, target, ec_at, is_unused, stays, takeable, Step}
+use Rattle.ubi_change.proofs.Prelude.{ready_ec, EcHeader, ◌≡◌, ℕ, zero, suc, ◌<◌, ◌≤◌, Bool, true, false, List, [], ◌∷◌, length, take, get_or, refl, ap, sym, ◌∙◌, subst, arith, ◌&&◌, ◌||◌, IfSome, None, Option, Some, option_map, slice_get, option_map_or, IsGeometry, Sizes, Image, block, ec, eraseblocks, of_blocks, Leb, Wins, Records, IsAttached, BlockStateIs, AttachValue, records_of, BlockState, Volume, found_wins, TouchesOnly, given_up, needs, plan_of, taken, first_cause, ReadBlank, MayTouch, Avoided, Avoids, avoiding, is_avoided, is_blank_one, is_listed, state_avoiding, target, ec_at, is_unused, stays, takeable, Step}
 use Rattle.std.specs.Prelude.{not}
 use Rattle.std.specs.FinMap as finite
 use Rattle.ubi_media.specs.declared.ec.EcRead.TheVariants as ec_read
@@ -9,10 +9,6 @@ use Rattle.ubi_change.proofs.Attached.{Changing, no_cause}
 use Rattle.ubi_change.proofs.BlankListed.{blank_one}
 use Rattle.ubi_change.proofs.Choosing.{Each, MayBeTaken, each_map, may_be_taken, takeable_each}
 use Rattle.ubi_change.proofs.Premises.{left_of}
-use Rattle.ubi_change.proofs.RenameAttached as rename
-use Rattle.ubi_change.proofs.TableAttached as table
-use Rattle.ubi_change.proofs.RenameAttached.{Renaming}
-use Rattle.ubi_change.proofs.RenameFrugal.{rename_frugal}
 use Rattle.ubi_change.proofs.PlanPremises.{IsShown, seen_state, shown_avoiding, not_avoided}
 use Rattle.ubi_change.proofs.Touched.{plan_touches}
 use Rattle.ubi_change.proofs.Unused.{nameless_ec, nameless_loses}
@@ -82,7 +78,7 @@ module _ (image : Image) (av : Avoided) (from : AttachValue) (att : IsAttached i
   a = avoiding av from
 
   -- what may be taken may be touched
-  taken_may : (p : ℕ) → MayBeTaken s bs a.states p → MayTouch s bs av p
+  pub taken_may : (p : ℕ) → MayBeTaken s bs a.states p → MayTouch s bs av p
   taken_may p may =
       by_state s bs av (records_of from.meaning) p (slice_get from.states p) (att.states.1 p)
       (ap (λ o. option_map_or is_unused o false) (sym (seen_state av from.states p))
@@ -125,24 +121,3 @@ module _ (image : Image) (av : Avoided) (from : AttachValue) (att : IsAttached i
       (plan_of s bs a v.entry id lnum new)
       (plan_touches s bs a v.entry id lnum new enough)
       (given_may id lnum enough, takeable_may (needs s bs a id lnum))
-
-  pub rename_avoids : (g : IsGeometry s) (id : ℕ) (name : List ℕ) (allowed : of_blocks MayBeNamed image a id name)
-      → Avoids s bs av (rename_plan s bs a id name)
-  rename_avoids g id name allowed =
-      let r : Renaming = record {
-        image = image;
-        geometry = g;
-        from = a;
-        attached = shown_avoiding image av from att;
-        id = id;
-        name = name;
-        allowed = allowed;
-      } in
-      avoids_each s bs av (table.old0 (rename.w r) ∷ table.old1 (rename.w r) ∷ take 2 (takeable s bs a.states)) (rename_plan s bs a id name)
-      (rename_frugal r).touches (
-        winner_may s bs av (records_of from.meaning) (layout, 0) (table.old0 (rename.w r)) blank (table.wins0 (rename.w r)),
-        (
-          winner_may s bs av (records_of from.meaning) (layout, 1) (table.old1 (rename.w r)) blank (table.wins1 (rename.w r)),
-          takeable_may 2,
-        ),
-      )

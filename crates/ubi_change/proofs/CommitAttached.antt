@@ -1,6 +1,7 @@
 -- The plan of a commit of an attached image: LEBs are written as orphans, and then the table by which they count. It survives
 -- every cut.
-use Rattle.ubi_change.proofs.Prelude.{◌≡◌, ℕ, zero, suc, ◌+◌, ◌<◌, ◌≤◌, ◌⊎◌, inl, inr, cond, List, [], ◌∷◌, ◌++◌, length, refl, ap, sym, ◌∙◌, subst, arith, None, Option, Some, option_map_or, count_by, nat_lt, cases_lt, fold-append, sum_by-append, IsGeometry, Sizes, Image, eraseblocks, of_blocks, Leb, NoMember, Wins, layout, leb_of, named_in, AcceptsBlocks, AttachValue, IsOutside, Meant, Records, records_of, VolumeRecord, BothGood, found_wins, none_found, programs_copy, turn, holder, taken, takeable, table_pages, weak_pages, blocks_after, step_done, Step, same_Some, Static, get, VolKind, lay_all, table_plan, Laid, LeavesBoth, SurvivesCommit, AllByRecursion, AreApart, IsNoneOf, ◌-◌, SurvivesHarm, SurvivesTears, pages_needed, pages_of}
+use Rattle.ubi_change.proofs.Prelude.{◌≡◌, ℕ, zero, suc, ◌+◌, ◌<◌, ◌≤◌, ◌⊎◌, inl, inr, cond, List, [], ◌∷◌, ◌++◌, length, refl, ap, sym, ◌∙◌, subst, arith, None, Option, Some, option_map_or, count_by, nat_lt, cases_lt, fold-append, sum_by-append, IsGeometry, Sizes, Image, eraseblocks, of_blocks, Leb, NoMember, Wins, layout, leb_of, named_in, AcceptsBlocks, AttachValue, IsOutside, Meant, Records, records_of, VolumeRecord, BothGood, found_wins, programs_copy, turn, holder, taken, takeable, table_pages, weak_pages, blocks_after, step_done, Step, same_Some, Static, get, VolKind, lay_all, table_plan, Laid, LeavesBoth, SurvivesCommit, AllByRecursion, AreApart, IsNoneOf, ◌-◌, SurvivesHarm, SurvivesTears, pages_needed, pages_of}
+use Rattle.ubi_volume.proofs.Winners.{none_found}
 use Rattle.std.specs.FinMap as finite
 use Rattle.ubi_media.specs.declared.vid.VolKind.TheVariants as kind
 use Rattle.ubi_change.proofs.OrphansWritten.{AreFilled, AreWritable, IsWritten, filled_all}

@@ -45,7 +45,7 @@ module _ (image : Image) (a : AttachValue) (att : IsShown image a) (es : List Ed
   frugal : of_blocks IsFrugalCommit image a (of_blocks commit_needs image a es) n (of_blocks edits_plan image a es)
   frugal = committed_frugal image g a att new n is may.both may.strong may.few may.enough
 
-  fits : of_blocks WritesBytes image a es → of_blocks AllFit image (of_blocks edits_plan image a es)
+  pub fits : of_blocks WritesBytes image a es → of_blocks AllFit image (of_blocks edits_plan image a es)
   fits bytes = committed_fits image g a att new n is may.both may.strong may.few may.enough
       (texts_have image.sizes new bytes.texts) bytes.pages
 

@@ -4,7 +4,7 @@ use Rattle.ubi_change.specs.declared.errors.UpdateRefusal.TheVariants as refusal
 use Rattle.ubi_change.proofs.EditedAllowed.{edited_meaning}
 use Rattle.ubi_change.proofs.EditedRecords.{edited_are, fresh_are, written_are}
 use Rattle.ubi_change.proofs.EditsSized.{edits_sized, edits_there, news_whole}
-use Rattle.ubi_change.proofs.RenameMade.{both_records}
+use Rattle.ubi_change.proofs.BothRecords.{both_records}
 
 module _ (s : Sizes) (bs : List (List ℕ)) (a : AttachValue) (contents : List ℕ) (room : ℕ) (es : List Edit) (acc : AcceptsBlocks s bs a.meaning)
     (most : room ≤ s.pebs) (t : Records) (both : BothGood s bs t) (records : AreRecords (asked_records s bs a es))

@@ -1,7 +1,8 @@
 -- A rename is a commit of one edit: nothing more stands against it, it means the same, and its plan is the same.
-use Rattle.ubi_change.proofs.Prelude.{◌≡◌, ◌≢◌, ℕ, ◌+◌, inl, inr, cond, List, [], ◌∷◌, ◌++◌, length, refl, ap, sym, ◌∙◌, subst, arith, cases_eq, eq_by_cmp, nat_cmp, nat_cmp_total, None, Option, Some, option_map_or, same_Some, same_test, apart_test, Sizes, Image, eraseblocks, of_blocks, AttachValue, IsMeaning, Meant, VolumeMap, Volume, copy_plan, rename_plan, renamed, volume_named, MayBeNamed, SurvivesRename, LeavesBothGood, table_pages, records_of, weak_pages, IsGeometry, empty, get-empty, get-insert, Holds, held_entry, Laid, laid_blocks, commit_plan, lay_all, table_plan, LeavesBoth, SurvivesCommit, MayBeCommitted, commit_needs, Rename, edited_in, fresh, made_in, placed, with_volume}
+use Rattle.ubi_change.proofs.Prelude.{◌≡◌, ◌≢◌, ℕ, ◌+◌, ◌-◌, inl, inr, cond, List, [], ◌∷◌, ◌++◌, length, refl, ap, sym, ◌∙◌, subst, arith, cases_eq, eq_by_cmp, nat_cmp, nat_cmp_total, None, Option, Some, option_map_or, same_Some, same_test, apart_test, Sizes, Image, eraseblocks, of_blocks, AttachValue, IsMeaning, Meant, VolumeMap, Volume, copy_plan, rename_plan, renamed, volume_named, MayBeNamed, SurvivesRename, LeavesBothGood, table_pages, records_of, weak_pages, IsGeometry, empty, get-empty, get-insert, Holds, held_entry, Laid, laid_blocks, commit_plan, edits_plan, lay_all, turn, renamed_pages, pages_of, pages_needed, AreBytes, AllByRecursion, AllFit, SurvivesHarm, SurvivesTears, Step, table_plan, LeavesBoth, SurvivesCommit, MayBeCommitted, commit_needs, Rename, edited_in, fresh, made_in, placed, with_volume}
 use Rattle.ubi_change.specs.Edited.{Edit}
 use Rattle.std.specs.FinMap as finite
+use Rattle.ubi_change.proofs.CommitKept.{fits, harmed, torn}
 use Rattle.ubi_change.proofs.CommitSurvives.{shown_both, shown_survives}
 use Rattle.ubi_change.proofs.PlanPremises.{IsShown}
 use Rattle.ubi_change.proofs.RenamedMeaning as naming
@@ -19,7 +20,7 @@ placed_nil vs [] = refl
 placed_nil vs (j ∷ js) = refl
 
 module _ (s : Sizes) (bs : List (List ℕ)) (m : Meant) (id : ℕ) (name : List ℕ) where
-  abbrev one : List Edit
+  abbrev pub one : List Edit
   one = Rename id name ∷ []
 
   -- it makes the renamed meaning
@@ -65,7 +66,7 @@ module _ (s : Sizes) (bs : List (List ℕ)) (a : AttachValue) (id : ℕ) (name :
     next_is : IsMeaning (renamed m id name)
     next_is =
         subst IsMeaning (sym (naming.renamed-is m is id name may.volume may.there may.named free))
-        (naming.renamed-next m is id name may.volume may.there may.named free).meaning
+        (naming.meaning_next m is id name may.volume may.there may.named free)
 
     sized : (i : ℕ) (v w : Volume) → finite.get m.volumes i ≡ Some v
         → finite.get (with_volume m.volumes id (λ v. volume_named v name)) i ≡ Some w → w.entry.reserved ≡ v.entry.reserved
@@ -142,3 +143,29 @@ module _ (image : Image) (g : IsGeometry image.sizes) (a : AttachValue) (att : I
       subst (λ (n : Meant). LeavesBoth s bs n (rename_plan s bs a id name)) (edited-is s bs a.meaning id name)
       (subst (LeavesBoth s bs (edited_in s bs a.meaning es)) (plan-is s bs a id name)
       (shown_both image a att es commits g))
+
+  -- what holds of the commit and of what it makes holds of the plan and of the renamed meaning
+  has : (F : Meant → List Step → Type 0) → F (edited_in s bs a.meaning es) (edits_plan s bs a es)
+      → F (renamed a.meaning id name) (rename_plan s bs a id name)
+  has F h =
+      subst (λ (n : Meant). F n (rename_plan s bs a id name)) (edited-is s bs a.meaning id name)
+      (subst (F (edited_in s bs a.meaning es)) (plan-is s bs a id name) h)
+
+  pub rename_tears : SurvivesTears s bs a.meaning (renamed a.meaning id name) (rename_plan s bs a id name)
+      (turn s (rename_plan s bs a id name) (renamed_pages s a.meaning id name))
+  rename_tears = has (λ n xs. SurvivesTears s bs a.meaning n xs (turn s xs (table_pages s (records_of n)))) (torn image a att es commits g)
+
+  pub rename_harm : SurvivesHarm s bs a.meaning (renamed a.meaning id name) (rename_plan s bs a id name)
+      (turn s (rename_plan s bs a id name) (renamed_pages s a.meaning id name))
+      (turn s (rename_plan s bs a id name) (renamed_pages s a.meaning id name)
+      + (pages_of s (renamed_pages s a.meaning id name) - pages_needed s (renamed_pages s a.meaning id name)))
+  rename_harm = has
+      (λ n xs. let new = table_pages s (records_of n) in
+      SurvivesHarm s bs a.meaning n xs (turn s xs new) (turn s xs new + (pages_of s new - pages_needed s new)))
+      (harmed image a att es commits g)
+
+  pub rename_fits : AreBytes (renamed_pages s a.meaning id name) → AllFit s bs (rename_plan s bs a id name)
+  rename_fits bytes = has (λ n xs. AllFit s bs xs) (fits image a att es commits g (record {
+    texts = subst (AllByRecursion (λ l. AreBytes l.text)) (sym (laid-none s bs a.meaning id name)) tt;
+    pages = subst (λ (n : Meant). AreBytes (table_pages s (records_of n))) (sym (edited-is s bs a.meaning id name)) bytes;
+  }))

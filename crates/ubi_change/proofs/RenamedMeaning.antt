@@ -1,56 +1,8 @@
 -- A meaning with another name in one record is a meaning, and its volumes are the same except for that name.
-use Rattle.ubi_change.proofs.Prelude.{◌≡◌, ◌≢◌, ℕ, inl, inr, Bool, true, false, cond, List, refl, ap, sym, ◌∙◌, subst, arith, IfSome, None, Option, Some, option_map, nat_cmp_total, sum_by, option_map_or, cases_eq, same_Some, Sizes, is_name, VolumeRecord, apart_test, at_itself, at_other, same_test, revalued_is, sum_revalued, Fits, IsMeaning, IsVolume, KeepsNoBlank, Meant, VolumeMap, records_of, Content, Volume, record_of, with_name, sound_named, ReadSame, nameless, renamed, volume_named}
+use Rattle.ubi_change.proofs.Prelude.{◌≡◌, ◌≢◌, ℕ, inl, inr, Bool, true, false, cond, List, refl, ap, sym, ◌∙◌, subst, arith, IfSome, None, Option, Some, option_map, nat_cmp_total, sum_by, option_map_or, cases_eq, same_Some, Sizes, is_name, VolumeRecord, apart_test, at_itself, at_other, same_test, revalued_is, sum_revalued, Fits, IsMeaning, IsVolume, KeepsNoBlank, Meant, VolumeMap, Content, Volume, with_name, sound_named, ReadSame, nameless, renamed, volume_named}
 use Rattle.std.proofs.Common.{◌==◌}
 use Rattle.std.specs.FinMap as finite
 use Rattle.ubi_volume.specs.declared.content.Content.TheVariants as content
-use Rattle.ubi_change.proofs.SameButName.{AreAlike, IsAlike}
-
--- a meaning is another but for names
-pub record IsRenamed (m n : Meant) : Type 0 where
-  pub sizes : n.sizes ≡ m.sizes
-  pub image_seq : n.image_seq ≡ m.image_seq
-  pub meaning : IsMeaning n
-  pub same : ReadSame m n
-
--- a volume is missing in both, or is in both with the same content and records that are alike
-abbrev pub AreRenamed : Option Volume → Option Volume → Type 0
-AreRenamed None None = Unit {0}
-AreRenamed (Some v) (Some w) = IsAlike v.entry w.entry × (w.content ≡ v.content)
-AreRenamed _ _ = ⊥
-
-are_renamed : (o p : Option Volume) → option_map nameless p ≡ option_map nameless o → AreRenamed o p
-are_renamed None None e = tt
-are_renamed (Some v) (Some w) e =
-    let k : nameless w ≡ nameless v = same_Some (nameless w) (nameless v) e in (
-      record {
-        reserved = ap (λ (z : Volume). z.entry.reserved) k;
-        alignment = ap (λ (z : Volume). z.entry.alignment) k;
-        kind = ap (λ (z : Volume). z.entry.kind) k;
-        marker = ap (λ (z : Volume). z.entry.marker) k;
-      },
-      ap (λ (z : Volume). z.content) k,
-    )
-are_renamed None (Some w) e = absurd (cc)
-are_renamed (Some v) None e = absurd (cc)
-
-pub renamed_at : (m n : Meant) → IsRenamed m n → (id : ℕ)
-    → AreRenamed (finite.get m.volumes id) (finite.get n.volumes id)
-renamed_at m n r id = are_renamed (finite.get m.volumes id) (finite.get n.volumes id) (r.same id)
-
-entries_alike : (o p : Option Volume) → AreRenamed o p
-    → AreAlike (option_map (λ (v : Volume). v.entry) o) (option_map (λ (v : Volume). v.entry) p)
-entries_alike None None a = tt
-entries_alike (Some v) (Some w) a = a.0
-entries_alike None (Some w) a = absurd a
-entries_alike (Some v) None a = absurd a
-
--- so are the records
-pub records_alike : (m n : Meant) → IsRenamed m n → (id : ℕ)
-    → AreAlike (finite.get (records_of m).of id) (finite.get (records_of n).of id)
-records_alike m n r id =
-    subst (λ (o : Option VolumeRecord). AreAlike o (finite.get (records_of n).of id)) (sym (record_of m id))
-    (subst (λ (o : Option VolumeRecord). AreAlike (option_map (λ (v : Volume). v.entry) (finite.get m.volumes id)) o)
-    (sym (record_of n id)) (entries_alike (finite.get m.volumes id) (finite.get n.volumes id) (renamed_at m n r id)))
 
 -- what a volume holds doesn't depend on its name
 fits_named : (s : Sizes) (r : VolumeRecord) (name : List ℕ) (c : Content) → Fits s r c → Fits s (with_name r name) c
@@ -115,18 +67,7 @@ module _ (m : Meant) (is : IsMeaning m) (id : ℕ) (name : List ℕ) (v : Volume
     | inr e ↦ there i e ∙ sym (others_stay i e (finite.get m.volumes i))
   ]
 
-  -- so each reads the same, and as much is reserved
-  read_one : (b : Bool) (w : Volume) → nameless (cond b (volume_named w name) w) ≡ nameless w
-  read_one true w = refl
-  read_one false w = refl
-
-  read_slot : (i : ℕ) (o : Option Volume) → option_map nameless (option_map (volume_at i) o) ≡ option_map nameless o
-  read_slot i None = refl
-  read_slot i (Some w) = ap Some (read_one (i == id) w)
-
-  read_next : ReadSame m next
-  read_next i = ap (option_map nameless) (volumes_at i) ∙ read_slot i (finite.get m.volumes i)
-
+  -- so as much is reserved
   reserved_one : (b : Bool) (w : Volume) → (cond b (volume_named w name) w).entry.reserved ≡ w.entry.reserved
   reserved_one true w = refl
   reserved_one false w = refl
@@ -165,10 +106,37 @@ module _ (m : Meant) (is : IsMeaning m) (id : ℕ) (name : List ℕ) (v : Volume
     space = (let e = reserved_same in let l = is.space in omega arith);
   }
 
-  pub renamed-next : IsRenamed m next
-  renamed-next = record {
-    sizes = refl;
-    image_seq = refl;
-    meaning = meaning_next;
-    same = read_next;
-  }
+-- where the volume is there, it has the name, and the others stay as they are
+module _ (m : Meant) (id : ℕ) (name : List ℕ) (v : Volume) (was : finite.get m.volumes id ≡ Some v) where
+  now_is : renamed m id name ≡ record m { volumes = finite.insert m.volumes id (volume_named v name) }
+  now_is =
+      ap
+      (λ (o : Option Volume). option_map_or
+      (λ (v : Volume). record m { volumes = finite.insert m.volumes id (volume_named v name) }) o m) was
+
+  pub renamed_here : finite.get (renamed m id name).volumes id ≡ Some (volume_named v name)
+  renamed_here = ap (λ (n : Meant). finite.get n.volumes id) now_is
+      ∙ finite.get-insert nat_cmp_total m.volumes id (volume_named v name) id
+      ∙ ap (λ b. cond b (Some (volume_named v name)) (finite.get m.volumes id)) (same_test id)
+
+  pub renamed_there : (i : ℕ) → i ≢ id → finite.get (renamed m id name).volumes i ≡ finite.get m.volumes i
+  renamed_there i e = ap (λ (n : Meant). finite.get n.volumes i) now_is
+      ∙ finite.get-insert nat_cmp_total m.volumes id (volume_named v name) i
+      ∙ ap (λ b. cond b (Some (volume_named v name)) (finite.get m.volumes i)) (apart_test i id e)
+
+-- each volume reads as before
+pub renamed_same : (m : Meant) (id : ℕ) (name : List ℕ) → ReadSame m (renamed m id name)
+renamed_same m id name i = by (finite.get m.volumes id) refl
+  where
+    by : (o : Option Volume) → finite.get m.volumes id ≡ o
+        → option_map nameless (finite.get (renamed m id name).volumes i) ≡ option_map nameless (finite.get m.volumes i)
+    by None e = ap
+        (λ (o : Option Volume). option_map nameless (finite.get (option_map_or
+        (λ (v : Volume). record m { volumes = finite.insert m.volumes id (volume_named v name) }) o m).volumes i)) e
+    by (Some v) e = elim (cases_eq i id) [
+      | inl same ↦
+          ap (λ (k : ℕ). option_map nameless (finite.get (renamed m id name).volumes k)) same
+          ∙ ap (option_map nameless) (renamed_here m id name v e)
+          ∙ sym (ap (option_map nameless) (ap (finite.get m.volumes) same ∙ e))
+      | inr other ↦ ap (option_map nameless) (renamed_there m id name v e i other)
+    ]

@@ -1,5 +1,5 @@
 -- The steps of a plan work within their eraseblocks: each page lies there, and its bytes are one page.
-use Rattle.ubi_change.proofs.Prelude.{◌≡◌, ℕ, zero, suc, ◌+◌, ◌*◌, ◌/◌, ◌%◌, ◌<◌, ◌≤◌, Bool, true, false, cond, List, [], ◌∷◌, ◌++◌, length, map, drop, refl, subst, arith, length-drop, Option, enumerate_from, first_chunks, div-add-mod, length-take-le, same_Some, ec_bytes, IsGeometry, Sizes, leb_size, EcHeader, VidHeader, Found, length-filled, AllWithin, FitsBlock, next_ec, program_header, program_text, renew, layout_header, target, pages_of, steps_on, BothFit, two_copies, FitsIn, copy_on, mount_on, ready_on, release_on, stays_on, Holders, Site, Spares, Step, Target, lay_on}
+use Rattle.ubi_change.proofs.Prelude.{◌≡◌, ℕ, zero, suc, ◌+◌, ◌*◌, ◌/◌, ◌%◌, ◌<◌, ◌≤◌, Bool, true, false, cond, List, [], ◌∷◌, ◌++◌, length, map, drop, refl, subst, arith, length-drop, Option, enumerate_from, first_chunks, div-add-mod, length-take-le, same_Some, ec_bytes, IsGeometry, Sizes, leb_size, EcHeader, VidHeader, Found, length-filled, AllWithin, FitsBlock, next_ec, program_header, program_text, renew, target, pages_of, steps_on, FitsIn, copy_on, mount_on, ready_on, release_on, stays_on, Site, Step, Target, lay_on}
 use Rattle.ubi_change.specs.declared.sites.Sites.{Sites as OnSites}
 use Rattle.ubi_change.specs.declared.sites.Sites.TheVariants as on
 use Rattle.ubi_change.specs.declared.step.Step.TheVariants as step
@@ -13,11 +13,11 @@ module _ (s : Sizes) (n : ℕ) where
   EachWithin [] = Unit {0}
   EachWithin (x ∷ xs) = ((target x < n) × FitsBlock s x) × EachWithin xs
 
-  within_append : (xs ys : List Step) → EachWithin xs → EachWithin ys → EachWithin (xs ++ ys)
+  pub within_append : (xs ys : List Step) → EachWithin xs → EachWithin ys → EachWithin (xs ++ ys)
   within_append [] ys a b = b
   within_append (x ∷ xs) ys a b = (a.0, within_append xs ys a.1 b)
 
-  all_within : (steps : List Step) → EachWithin steps → AllWithin s n steps
+  pub all_within : (steps : List Step) → EachWithin steps → AllWithin s n steps
   all_within [] a k next e = absurd (cc)
   all_within (x ∷ xs) a zero next e = subst (λ (y : Step). (target y < n) × FitsBlock s y) (same_Some x next e) a.0
   all_within (x ∷ xs) a (suc k) next e = all_within xs a.1 k next e
@@ -107,13 +107,3 @@ module _ (s : Sizes) (n : ℕ) where
       change_within t new (on.Unmapped first copy) fit small paged short =
           all_within _ (within_append (mount_on s scan first _) _ (mount_within first _ fit.0 (omega arith))
           (copy_within copy _ new first (ready_on scan first) fit.1 fit.0 small paged short))
-
-      -- and those of a rename
-      pub rename_within : (old : Holders) (two : Spares) (new : List ℕ) → BothFit n old → FitsIn n two.first → FitsIn n two.second
-          → length new % s.page ≡ 0 → length new ≤ leb_size s → AllWithin s n (two_copies s scan old two new)
-      rename_within old two new both first second paged short =
-          let h = layout_header 0 (scan.top_sqnum + 1) new in
-          let i = layout_header 1 (scan.top_sqnum + 2) new in
-          all_within _ (within_append (copy_on s scan two.first h new old.first old.first.ec) _
-          (copy_within two.first h new old.first old.first.ec first both.first (omega arith) paged short)
-          (copy_within two.second i new old.second old.second.ec second both.second (omega arith) paged short))

@@ -4,8 +4,7 @@ use Rattle.ubi_change.proofs.PlanPremises.{IsShown, shown}
 use Rattle.ubi_change.proofs.PlanFits.{plan_fits}
 use Rattle.ubi_change.proofs.PlanSurvives.{torn_cut, torn_whole}
 use Rattle.ubi_change.proofs.Attached.{Changing, harm_all, tears_all}
-use Rattle.ubi_change.proofs.RenameAttached.{Renaming, rename_harm, rename_tears}
-use Rattle.ubi_change.proofs.RenameFits.{rename_fits}
+use Rattle.ubi_change.proofs.RenameCommits.{rename_fits, rename_harm, rename_tears}
 
 -- what holds of the eraseblocks holds of the image
 module _ (image : Image) (g : IsGeometry image.sizes) (a : AttachValue) (att : IsShown image a) (m n : Meant)
@@ -54,19 +53,7 @@ plan_survives_tears_law image a id lnum new v g of_image there allowed =
 pub rename_survives_tears_law : RenameSurvivesTears
 rename_survives_tears_law image a id name g att may =
     let known = shown image a att in
-    let r : Renaming = record {
-      image = image;
-      geometry = g;
-      from = a;
-      attached = known;
-      id = id;
-      name = name;
-      allowed = may;
-    } in (
-      rename_tears r,
-      rename_harm r,
-      λ bytes. (
-        image_torn image g a known _ _ _ _ 0 (rename_fits r bytes) (rename_tears r),
-        image_harmed image g a known _ _ _ _ _ (rename_fits r bytes) (rename_harm r),
-      ),
-    )
+    let torn = rename_tears image g a known id name may in
+    let harm = rename_harm image g a known id name may in
+    let fits = rename_fits image g a known id name may in
+    (torn, harm, λ bytes. (image_torn image g a known _ _ _ _ 0 (fits bytes) torn, image_harmed image g a known _ _ _ _ _ (fits bytes) harm))

@@ -1,10 +1,6 @@
 -- Lists that are gone through from the front: which edit ends past a size, and how many eraseblocks may be touched.
-use Rattle.ubi_change.proofs.Prelude.{◌≡◌, ℕ, ◌+◌, ◌<◌, ◌≤◌, Bool, true, false, cond, not, List, [], ◌∷◌, length, take, get_or, refl, ap, sym, ◌∙◌, arith, nat_tests, None, Option, Some, AllByRecursion, cons_option, count_by, enumerate_from, take_all, NewVolume, new_of, news_of, option_map_or, BlockState, Avoided, is_avoided, touchable, first_beyond, is_beyond, Edit}
+use Rattle.ubi_change.proofs.Prelude.{◌≡◌, ℕ, ◌+◌, ◌<◌, ◌≤◌, Bool, true, false, cond, not, List, [], ◌∷◌, length, take, get_or, refl, ap, sym, ◌∙◌, arith, nat_tests, None, Option, Some, AllByRecursion, cons_option, count_by, enumerate_from, take_all, NewVolume, new_of, news_of, option_map_or, BlockState, Avoided, is_avoided, touchable, first_beyond, is_beyond, Edit, position_from, position_from-zero, get_or-enumerate_from, length-enumerate_from, count_by_more_no, count_by_more_yes}
 use Rattle.std.proofs.Common.{nat_lt}
-use Rattle.std.specs.List.{position_from}
-use Rattle.std.proofs.lemmas.Iterator.Adapters.{position_from-zero}
-use Rattle.std.proofs.lemmas.List.FromFn.{get_or-enumerate_from, length-enumerate_from}
-use Rattle.std.proofs.lemmas.List.Sums.{count_by_more_no, count_by_more_yes}
 
 -- if there is none from the i-th on, all bytes lie in the source
 none_from : (size : ℕ) (i : ℕ) (es : List Edit) → position_from (is_beyond size) i es ≡ None
@@ -46,7 +42,11 @@ module _ (av : Avoided) (sts : List BlockState) where
       l = let n = length-enumerate_from 0 sts in omega arith
 
       at : get_or (enumerate_from 0 sts) p (p, st) ≡ (p, st)
-      at = get_or-enumerate_from 0 sts p (p, st) inside ∙ ap (λ (x : BlockState). (p, x)) (sym here)
+      at =
+          let zero : 0 + p ≡ p = omega arith in
+          get_or-enumerate_from 0 sts p (p, st) inside
+          ∙ ap {B = ℕ × BlockState} (λ (k : ℕ). (k, get_or sts p st)) zero
+          ∙ ap {B = ℕ × BlockState} (λ (x : BlockState). (p, x)) (sym here)
 
       by : (b : Bool) → not (is_avoided av (get_or (enumerate_from 0 sts) p (p, st)).0 (get_or (enumerate_from 0 sts) p (p, st)).1) ≡ not b
           → touchable_first (p + 1) ≡ touchable_first p + cond b 0 1

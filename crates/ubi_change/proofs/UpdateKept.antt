@@ -1,7 +1,8 @@
 -- What was read for edits holds for whatever the sources may hold.
-use Rattle.ubi_change.proofs.Prelude.{◌≡◌, ℕ, ◌+◌, ◌≤◌, List, length, Err, None, Some, AllByRecursion, IsGeometry, Sizes, Source, image_of, blocks_of, IsSurvey, Seen, Avoided, states_avoiding, Holders, first_taken, subst, sym, ap, ap₂, ◌∙◌, Agreed, touchable, all_asked, first_beyond, news_of, all_layings, groups_from, in_order, IsUpdateFor, IsBased, Edit, UpdatePlan, Based, Contains, refl, Part, Narrows, WhereHeld, after_contents, contents_after_update, contents_error, IsUpdateCause, IsUpdateError, IsContentsError, IsSitesError, IsUnbased, ContentsError, Laying, UpdateError}
+use Rattle.ubi_change.proofs.Prelude.{◌≡◌, ℕ, ◌+◌, ◌≤◌, List, length, Err, None, Some, AllByRecursion, IsGeometry, Sizes, Source, image_of, blocks_of, IsSurvey, Seen, Avoided, states_avoiding, Holders, first_taken, subst, sym, ap, ap₂, ◌∙◌, Agreed, touchable, all_asked, first_beyond, news_of, all_layings, groups_from, in_order, IsUpdateFor, IsBased, IsBeside, AreHolders, Edit, UpdatePlan, Based, Contains, refl, Part, Narrows, WhereHeld, after_contents, contents_after_update, contents_error, IsUpdateCause, IsUpdateError, IsContentsError, IsSitesError, IsUnbased, ContentsError, Laying, UpdateError}
 use Rattle.ubi_change.proofs.BlankListed.{survey_blank}
 use Rattle.ubi_change.proofs.CommitKept.{commit_avoiding}
+use Rattle.ubi_change.proofs.PlanBeside.{survey_beside}
 use Rattle.ubi_change.proofs.Surveys.{whole}
 use Rattle.ubi_change.proofs.Touchable.{none_beyond}
 use Rattle.ubi_change.proofs.UpdateMade as make
@@ -23,12 +24,12 @@ module _ (s : Sizes) (g : IsGeometry s) (k : Source) (agrees : Agreed) (av : Avo
   reach = subst (λ n. AllByRecursion (λ v. v.start + v.len ≤ n) (news_of es)) (sym sized) (none_beyond size es inside)
 
   pub update_is : (p : UpdatePlan) → p.surveyed ≡ b.surveyed → p.pages.items ≡ b.ready.pages.items → p.holders ≡ b.ready.holders
-      → p.layings.items ≡ all_layings s contents b.ready.parts.items
+      → p.parts.items ≡ b.ready.parts.items → p.layings.items ≡ all_layings s contents b.ready.parts.items
       → p.sites.items ≡ first_taken s (blocks_of s bytes) (states_avoiding av seen.states) (length p.layings.items + 2)
       → length p.layings.items + 2 ≤ length p.sites.items
       → seen.scan.top_sqnum + (length p.layings.items + 2) ≤ 0xFFFFFFFFFFFFFFFF
       → IsUpdateFor (image_of s bytes) av contents es p
-  update_is p surveyed pages holders laid taking enough few =
+  update_is p surveyed pages holders parts laid taking enough few =
       let image = image_of s bytes in
       let room = touchable av seen.states in
       let are = is.read bytes holds survey in
@@ -40,7 +41,11 @@ module _ (s : Sizes) (g : IsGeometry s) (k : Source) (agrees : Agreed) (av : Avo
         from = whole image seen survey;
         attached = survey.attached;
         blank = blank;
+        none = make.no_cause image av seen survey contents room es is.wholes are (Some b.ready.holders) b.ready is.ready reach p.layings.items laid
+            held is.most p.sites.items taking enough few;
         allowed = may;
+        parts = parts ∙ make.parts_are image av seen survey contents room es is.wholes are (Some b.ready.holders) b.ready is.ready;
+        pages = pages ∙ make.pages_are image av seen survey contents room es is.wholes are (Some b.ready.holders) b.ready is.ready;
         layings = make.layings_are image av seen survey contents room es is.wholes are (Some b.ready.holders) b.ready is.ready reach p.layings.items laid;
         plan = ap (λ (v : Seen). in_order (groups_from s v.scan contents p.pages.items p.holders 0 p.layings.items p.sites.items)) surveyed
             ∙ ap₂ (λ (pages : List ℕ) (old : Holders). in_order (groups_from s seen.scan contents pages old 0 p.layings.items p.sites.items)) pages holders
@@ -69,8 +74,8 @@ unbased_is s k agrees size at agreed av es (error.Refused refusal.Exhausted) h =
 unbased_is s k agrees size at agreed av es (error.Refused (refusal.NoFree n m)) h = (h.0, λ bytes holds contents is. h.1 bytes holds contents)
 
 -- of the source of contents nothing more is known then
-pub unbased_known : {A : Type 0} (s : Sizes) (k : Source) (agrees : Agreed) (av : Avoided) (es : List Edit) (j : Source) (e : UpdateError)
-    → IsUnbased s k agrees av es e → contents_after_update {A} j (Err e) ≡ j
+pub unbased_known : (s : Sizes) (k : Source) (agrees : Agreed) (av : Avoided) (es : List Edit) (j : Source) (e : UpdateError)
+    → IsUnbased s k agrees av es e → contents_after_update {A = UpdatePlan} j (Err e) ≡ j
 unbased_known s k agrees av es j (error.Beyond i) h = absurd h
 unbased_known s k agrees av es j (error.Contents id) h = absurd h
 unbased_known s k agrees av es j (error.Read p) h = refl
@@ -78,16 +83,16 @@ unbased_known s k agrees av es j (error.NotBlank p) h = refl
 unbased_known s k agrees av es j (error.Refused c) h = refl
 
 -- nor if no eraseblocks were taken
-pub sites_known : {A : Type 0} (s : Sizes) (k : Source) (agrees : Agreed) (av : Avoided) (seen : Seen) (needs : ℕ) (j : Source) (e : UpdateError)
-    → IsSitesError s k agrees av seen needs e → contents_after_update {A} j (Err e) ≡ j
-sites_known s k agrees av seen needs j (error.Beyond i) h = absurd h
-sites_known s k agrees av seen needs j (error.Contents id) h = absurd h
-sites_known s k agrees av seen needs j (error.Read p) h = refl
-sites_known s k agrees av seen needs j (error.NotBlank p) h = absurd h
-sites_known s k agrees av seen needs j (error.Refused c) h = refl
+pub sites_known : (s : Sizes) (k : Source) (agrees : Agreed) (av : Avoided) (v : Seen) (needs : ℕ) (j : Source) (e : UpdateError)
+    → IsSitesError s k agrees av v needs e → contents_after_update {A = UpdatePlan} j (Err e) ≡ j
+sites_known s k agrees av v needs j (error.Beyond i) h = absurd h
+sites_known s k agrees av v needs j (error.Contents id) h = absurd h
+sites_known s k agrees av v needs j (error.Read p) h = refl
+sites_known s k agrees av v needs j (error.NotBlank p) h = absurd h
+sites_known s k agrees av v needs j (error.Refused c) h = refl
 
 -- and if a read of contents failed, that one did
-pub contents_known : {A B : Type 0} (j : Source) (e : ContentsError) → contents_after_update {A} j (Err (contents_error e)) ≡ after_contents {B} j (Err e)
+pub contents_known : (j : Source) (e : ContentsError) → contents_after_update {A = UpdatePlan} j (Err (contents_error e)) ≡ after_contents {A = UpdatePlan} j (Err e)
 contents_known j (contents.Read id) = refl
 contents_known j contents.Memory = refl
 
@@ -113,6 +118,18 @@ module _ (s : Sizes) (k : Source) (agrees : Agreed) (av : Avoided) (es : List Ed
         begins = h.2.1;
         ends = h.2.2;
       })
+
+  -- none of the eraseblocks of a plan is listed, if the source can hold anything
+  pub update_beside : (now : Agreed) → Narrows agrees now → (p : UpdatePlan) (n : ℕ) → p.holders ≡ b.ready.holders
+      → WhereHeld now (λ bytes. p.sites.items ≡ first_taken s (blocks_of s bytes) (states_avoiding av b.surveyed.states) n)
+      → WhereHeld now (λ bytes. IsBeside av.marks p)
+  update_beside now narrows p n same taken bytes holds =
+      let image = image_of s bytes in
+      let before = narrows bytes holds in
+      let survey = survey_now bytes before in
+      survey_beside image av b.surveyed survey (survey_blank image b.surveyed survey av is.blank) p n
+      (subst (λ (two : Holders). AreHolders s (blocks_of s bytes) av b.surveyed (Some two)) (sym same) (is.holders.held bytes before))
+      (taken bytes holds)
 
   -- the eraseblocks that weren't taken
   module _ (now : Agreed) (narrows : Narrows agrees now) (size at : ℕ) (agreed : Agreed) (sized : WhereHeld agreed (λ contents. length contents ≡ size))

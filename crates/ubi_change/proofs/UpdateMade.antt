@@ -39,7 +39,7 @@ module _ (image : Image) (av : Avoided) (seen : Seen) (is : IsSurvey image seen)
     table_is : ready.table ≡ asked_records s bs a es
     table_is = made.table ∙ ap (λ (t : Records). edited_records (is_used s bs) t es) is.records
 
-    pages_are : r.pages.items ≡ table_pages s (asked_records s bs a es)
+    pub pages_are : r.pages.items ≡ table_pages s (asked_records s bs a es)
     pages_are = ready.pages ∙ ap (table_pages s) table_is
 
     faultless : first_edit_fault s (is_used s bs) (reads_whole is.meaning) 0 (records_of is.meaning) es ≡ None
@@ -115,7 +115,7 @@ module _ (image : Image) (av : Avoided) (seen : Seen) (is : IsSurvey image seen)
             let l = length-map (takeable s bs a.states) (site_at s bs a.states) in
             omega (arith, enough, k, l)
 
-        no_cause : (c : UpdateRefusal) → UpdateStands s bs a contents room es c → ⊥
+        pub no_cause : (c : UpdateRefusal) → UpdateStands s bs a contents room es c → ⊥
         no_cause refusal.NeedsRepair h = h held.0.0 held.0.1
         no_cause (refusal.WeakCheck k) h =
             let e : Some k ≡ None = sym h ∙ ap (weak_pages s) (sym pages_are) ∙ ready.strong in absurd (cc)

@@ -1,8 +1,7 @@
 -- The winners tell from which number on the LEBs of a volume have members.
-use Rattle.ubi_change.proofs.Prelude.{◌≡◌, ℕ, ◌<◌, ◌≤◌, Bool, true, false, not, List, [], length, get_or, refl, ap, sym, ◌∙◌, subst, arith, nat_tests, None, Option, Some, option_map, option_map_or, ◌==◌, find, is_some, nat_lt, same_Some, none_passes, Sizes, VidHeader, block, Leb, NoMember, Wins, leb_of, member, get_or_default, MatchOption, IsMember, AreWinners, leb_cmp, is_at_least, is_used, TellsUsed}
+use Rattle.ubi_change.proofs.Prelude.{◌≡◌, ℕ, ◌<◌, ◌≤◌, Bool, true, false, not, List, [], length, get_or, refl, ap, sym, ◌∙◌, subst, arith, nat_tests, None, Option, Some, option_map, option_map_or, ◌==◌, find, is_some, nat_lt, same_Some, none_passes, Sizes, VidHeader, block, Leb, NoMember, Wins, leb_of, member, get_or_default, MatchOption, IsMember, AreWinners, leb_cmp, is_at_least, is_used, TellsUsed, none_found}
 use Rattle.std.proofs.Common.{◌&&◌}
 use Rattle.std.specs.FinMap as finite
-use Rattle.ubi_media.proofs.First.{none_found}
 use Rattle.ubi_change.proofs.Premises.{left_of, right_of}
 
 module _ (s : Sizes) (bs : List (List ℕ)) (vol from : ℕ) where

@@ -1,10 +1,13 @@
 -- The groups of steps of a plan of edits: one for each LEB that is written, and one for each copy of the volume table.
-use Rattle.std.specs.Prelude.{◌≡◌, ℕ, ◌+◌, ◌/◌, ◌%◌, ◌^◌, ◌<◌, ◌≤◌, List, [], ◌∷◌, flat_map, length, Result, Err, Some, slice_get}
+use Rattle.std.specs.Prelude.{◌≡◌, ℕ, ◌+◌, ◌/◌, ◌%◌, ◌^◌, ◌<◌, ◌≤◌, ◌==◌, All, Bool, count_by, false, List, [], ◌∷◌, flat_map, length, Result, Err, Some, slice_get}
 use Rattle.std.specs.List.{AllByRecursion}
+use Rattle.ubi_media.specs.Fields.{AreBytes}
 use Rattle.ubi_media.specs.Geometry.{IsGeometry, Sizes, leb_size}
 use Rattle.ubi_media.specs.declared.vid.VidHeader.{VidHeader}
+use Rattle.ubi_scan.specs.Image.{IsWholeSize}
+use Rattle.ubi_scan.specs.Marks.{is_listed}
 use Rattle.ubi_scan.specs.Scan.{Found}
-use Rattle.ubi_scan.specs.Source.{Source, failed}
+use Rattle.ubi_scan.specs.Source.{Source, blocks_in, failed}
 use Rattle.ubi_laid.specs.Pieces.{LiesIn, checked_header}
 use Rattle.ubi_laid.specs.declared.pieces.Piece.{Piece}
 use Rattle.ubi_change.specs.CommitPlan.{trimmed}
@@ -51,6 +54,10 @@ module _ (s : Sizes) (scan : Found) where
 abbrev pub plan_groups : Sizes → UpdatePlan → List ℕ → List (List Step)
 plan_groups s p contents = groups_from s p.surveyed.scan contents p.pages.items p.holders 0 p.layings.items p.sites.items
 
+-- how many LEBs of the volume in a slot are written
+abbrev pub leb_count : UpdatePlan → ℕ → ℕ
+leb_count p id = count_by (λ l. l.piece.header.vol_id == id) p.layings.items
+
 -- groups of steps, one after the other
 abbrev pub in_order : List (List Step) → List Step
 in_order groups = flat_map (λ steps. steps) groups
@@ -66,7 +73,19 @@ pub record FitsUpdate (s : Sizes) (size : ℕ) (p : UpdatePlan) : Type 0 where
   pub paged : length p.pages.items % s.page ≡ 0
   pub short : length p.pages.items < 2 ^ 31
   pub fit : length p.pages.items ≤ leb_size s
+  pub bytes : AreBytes p.pages.items
   pub few : p.surveyed.scan.top_sqnum + (length p.layings.items + 2) ≤ 0xFFFFFFFFFFFFFFFF
+
+-- a source has whole eraseblocks, as many as a plan knows of
+pub record IsPlanOf (s : Sizes) (k : Source) (p : UpdatePlan) : Type 0 where
+  pub whole : IsWholeSize s k.size
+  pub count : length p.surveyed.states ≡ blocks_in s k
+
+-- none of the eraseblocks that a plan works on is listed
+pub record IsBeside (marks : List Bool) (p : UpdatePlan) : Type 0 where
+  pub sites : All (λ t. is_listed marks t.pnum ≡ false) p.sites.items
+  pub first : is_listed marks p.holders.first.pnum ≡ false
+  pub second : is_listed marks p.holders.second.pnum ≡ false
 
 -- why a group isn't made: a read of its piece failed, which began at this place; or memory ran out
 abbrev pub IsGroupError : Sizes → UpdatePlan → ℕ → ℕ → ContentsError → Type 0

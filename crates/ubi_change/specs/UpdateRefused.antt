@@ -15,6 +15,9 @@ use Rattle.ubi_change.specs.Takeable.{takeable}
 use Rattle.ubi_change.specs.Weak.{weak_pages}
 use Rattle.ubi_laid.specs.declared.part.Part.{Part}
 use Rattle.ubi_change.specs.declared.edit.Edit.{Edit}
+use Rattle.ubi_change.specs.declared.edit.Edit.TheVariants as edit
+use Rattle.ubi_change.specs.declared.errors.EditFault.{EditFault}
+use Rattle.ubi_change.specs.declared.errors.EditFault.TheVariants as fault
 use Rattle.ubi_change.specs.declared.errors.UpdateRefusal.{UpdateRefusal}
 use Rattle.ubi_change.specs.declared.errors.UpdateRefusal.TheVariants as refusal
 
@@ -30,6 +33,25 @@ update_rank (refusal.WeakCheck _) = 7
 update_rank refusal.Exhausted = 8
 update_rank (refusal.NoFree _ _) = 9
 update_rank _ = 0
+
+-- an edit that gives a volume another name
+abbrev pub IsRename : Edit → Type 0
+IsRename (edit.Rename id name) = Unit {0}
+IsRename _ = ⊥
+
+-- why such an edit isn't made
+abbrev pub IsNamingFault : EditFault → Type 0
+IsNamingFault fault.NoVolume = Unit {0}
+IsNamingFault fault.BadName = Unit {0}
+IsNamingFault _ = ⊥
+
+-- what can stop such edits: they write no volume, and no volume reserves more
+abbrev pub StopsRenames : UpdateRefusal → Type 0
+StopsRenames (refusal.Edit i f) = IsNamingFault f
+StopsRenames (refusal.NoSlot n k) = ⊥
+StopsRenames (refusal.NoSpace n k) = ⊥
+StopsRenames (refusal.Autoresize i j) = ⊥
+StopsRenames _ = Unit {0}
 
 module _ (s : Sizes) (used : ℕ → ℕ → Bool) (whole : Edit → Bool) (t : Records) (room : ℕ) (es : List Edit) where
   -- a cause that the records and the members say applies: from which number on the LEBs of each volume have members, whether the

@@ -1,11 +1,12 @@
 //! What a plan may not touch.
 
 ghost use Rattle.std.specs.Prelude.{◌≡◌, ◌<◌, ◌≤◌, Some, length, slice_get};
-ghost use Rattle.ubi_change.specs.inner.Taking.{ListedIs, NotBlankIs};
+ghost use Rattle.ubi_change.specs.inner.Taking.{ListedIs, NotBlankIs, listed_site};
 ghost use Rattle.ubi_change.specs.Avoided.{is_avoided, is_blank_one, state_avoiding, states_avoiding};
 ghost use Rattle.ubi_change.specs.Avoided.{touchable};
 ghost use Rattle.ubi_scan.specs.Marks.{is_listed};
 
+use crate::sites::Site;
 use crate::step::Step;
 use std::marker::Model;
 use ubi_media::Geometry;
@@ -96,6 +97,16 @@ impl<'a> Avoided<'a> {
         ensures { NotBlankIs self.now.marks surveyed.now.states result }
     {
         not_blank(self.marks, geometry, surveyed)
+    }
+
+    /// The number of the first of some eraseblocks that is listed, if one is.
+    pub(crate) fn listed_site(&self, sites: &[Site]) -> Option<u32>
+        ensures { result ≡ listed_site self.now.marks sites.now }
+    {
+        sites
+            .iter()
+            .find(|site| is_listed(self.marks, site.pnum))
+            .map(|site| site.pnum)
     }
 
     /// The listed eraseblock of a step that works on one, if there is one.

@@ -11,6 +11,7 @@ ghost use Rattle.ubi_change.specs.inner.Drafting.{IsFirstEditFault, IsUndrafted,
 ghost use Rattle.ubi_media.specs.Name.{is_name};
 ghost use Rattle.ubi_media.specs.Record.{rec_fault};
 ghost use Rattle.ubi_media.specs.declared.record.VolumeRecord.{VolumeRecord};
+ghost use Rattle.ubi_change.specs.UpdateRefused.{IsRename, IsNamingFault, StopsRenames};
 ghost use Rattle.ubi_table.specs.Drafted.{without_record};
 ghost use Rattle.ubi_table.specs.Named.{with_name};
 
@@ -148,6 +149,7 @@ fn make(
     ensures fault { IfOk result (λ f. (used : ℕ → ℕ → Bool) → TellsUsed scan.now.winners used → f ≡ fault_of geometry.now used whole draft.old edit.now) }
     ensures left { IfOk result (λ f. f ≡ None → draft.new ≡ records_left draft.old edit.now) }
     ensures sound { IfOk result (λ f. f ≡ None → IfSome (new_of edit.now) (λ v. writing_fault geometry.now v ≡ None)) }
+    ensures renames { IfOk result (λ f. IsRename edit.now → IfSome f IsNamingFault) }
 {
     match edit {
         Edit::Rename(id, name) => rename(draft, *id, name.as_slice()),
@@ -177,6 +179,7 @@ pub fn drafted(
     ensures left { OnOk result (draft.new ≡ all_records_left draft.old edits.now) }
     ensures sound { OnOk result (AllByRecursion (λ v. writing_fault geometry.now v ≡ None) (news_of edits.now)) }
     ensures refused { IfErr result (IsUndrafted geometry.now scan.now.winners wholes.now draft.old edits.now) }
+    ensures renames { IfErr result (λ c. AllByRecursion IsRename edits.now → StopsRenames c) }
 {
     for i in 0..edits.len() {
         if let Some(fault) = make(geometry, scan, wholes[i], draft, &edits[i])? {

@@ -1,4 +1,4 @@
-//! Why a change or a rename isn't planned.
+//! Why a change, a rename or edits aren't planned.
 
 ghost use Rattle.std.specs.Prelude.{◌≡◌, Some};
 ghost use Rattle.ubi_change.specs.declared.errors.ChangeRefusal.{ChangeRefusal};
@@ -7,7 +7,7 @@ ghost use Rattle.ubi_change.specs.Laying.{contents_error};
 ghost use Rattle.ubi_change.specs.declared.errors.ContentsError.{ContentsError};
 ghost use Rattle.ubi_change.specs.declared.errors.UpdateError.{UpdateError};
 ghost use Rattle.ubi_change.specs.declared.errors.UpdateRefusal.{UpdateRefusal};
-ghost use Rattle.ubi_change.specs.ErrorTexts.{change_refusal_text, plan_error_text, rename_refusal_text};
+ghost use Rattle.ubi_change.specs.ErrorTexts.{change_refusal_text, contents_error_text, edit_fault_text, plan_error_text, rename_refusal_text, update_error_text, update_refusal_text};
 
 use std::alloc::AllocError;
 use std::error::Error;
@@ -141,6 +141,23 @@ pub enum EditFault {
     InUse,
 }
 
+impl fmt::Display for EditFault {
+    ghost output = { λ fault. Some (edit_fault_text fault) };
+
+    fn fmt<W: fmt::Write>(&self, f: &mut fmt::Formatter<W>) -> fmt::Result {
+        match self {
+            EditFault::NoVolume => f.write_str("U1 NoVolume"),
+            EditFault::BadName => f.write_str("N1 BadName"),
+            EditFault::Record(fault) => write!(f, "U2 Record {fault}"),
+            EditFault::TooLarge => f.write_str("U3 TooLarge"),
+            EditFault::NotWhole => f.write_str("U4 NotWhole"),
+            EditFault::InUse => f.write_str("U5 InUse"),
+        }
+    }
+}
+
+impl Error for EditFault {}
+
 /// Why edits aren't planned: the first cause that applies, in this order; of the edits the first that has a cause. `Memory` may come
 /// at any allocation, whatever else applies.
 #[derive(Clone, Copy, Debug, PartialEq, Eq)]
@@ -171,6 +188,28 @@ pub enum UpdateRefusal {
     /// Memory ran out.
     Memory,
 }
+
+impl fmt::Display for UpdateRefusal {
+    ghost output = { λ cause. Some (update_refusal_text cause) };
+
+    fn fmt<W: fmt::Write>(&self, f: &mut fmt::Formatter<W>) -> fmt::Result {
+        match self {
+            UpdateRefusal::Attach(cause) => write!(f, "{cause}"),
+            UpdateRefusal::Edit(i, fault) => write!(f, "{fault} edit={i}"),
+            UpdateRefusal::SameName(i, j) => write!(f, "N2 SameName slot={i} slot={j}"),
+            UpdateRefusal::NoSlot(n, has) => write!(f, "U6 NoSlot needs={n} has={has}"),
+            UpdateRefusal::NoSpace(n, has) => write!(f, "U7 NoSpace needs={n} has={has}"),
+            UpdateRefusal::Autoresize(i, j) => write!(f, "U8 Autoresize slot={i} slot={j}"),
+            UpdateRefusal::NeedsRepair => f.write_str("N3 NeedsRepair"),
+            UpdateRefusal::WeakCheck(pages) => write!(f, "K7 WeakCheck pages={pages}"),
+            UpdateRefusal::Exhausted => f.write_str("K8 Exhausted"),
+            UpdateRefusal::NoFree(n, has) => write!(f, "K9 NoFree needs={n} has={has}"),
+            UpdateRefusal::Memory => f.write_str("out of memory"),
+        }
+    }
+}
+
+impl Error for UpdateRefusal {}
 
 impl From<AllocError> for UpdateRefusal {
     ghost from_gives = { λ _ e. e ≡ UpdateRefusal.Memory };
@@ -214,6 +253,19 @@ pub enum ContentsError {
     Memory,
 }
 
+impl fmt::Display for ContentsError {
+    ghost output = { λ error. Some (contents_error_text error) };
+
+    fn fmt<W: fmt::Write>(&self, f: &mut fmt::Formatter<W>) -> fmt::Result {
+        match self {
+            ContentsError::Read(id) => write!(f, "a read of contents failed volume={id}"),
+            ContentsError::Memory => f.write_str("out of memory"),
+        }
+    }
+}
+
+impl Error for ContentsError {}
+
 impl From<AllocError> for ContentsError {
     ghost from_gives = { λ _ e. e ≡ ContentsError.Memory };
 
@@ -236,6 +288,22 @@ pub enum UpdateError {
     /// A read of contents failed: the slot of the volume that is written.
     Contents(u32),
 }
+
+impl fmt::Display for UpdateError {
+    ghost output = { λ error. Some (update_error_text error) };
+
+    fn fmt<W: fmt::Write>(&self, f: &mut fmt::Formatter<W>) -> fmt::Result {
+        match self {
+            UpdateError::Refused(cause) => write!(f, "{cause}"),
+            UpdateError::Read(p) => write!(f, "a read failed block={p}"),
+            UpdateError::NotBlank(p) => write!(f, "K10 NotBlank block={p}"),
+            UpdateError::Beyond(i) => write!(f, "the contents end too early edit={i}"),
+            UpdateError::Contents(id) => write!(f, "a read of contents failed volume={id}"),
+        }
+    }
+}
+
+impl Error for UpdateError {}
 
 impl From<ContentsError> for UpdateError {
     ghost from_gives = { λ error e. e ≡ contents_error error };

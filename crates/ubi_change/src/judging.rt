@@ -1,10 +1,12 @@
 //! What edits make of the volumes of an image, and why not.
 
+ghost use Rattle.std.specs.List.{AllByRecursion};
 ghost use Rattle.std.specs.Prelude.{◌≡◌, IfErr, IfOk, length, option_copied};
 ghost use Rattle.ubi_change.specs.Placed.{autoresized_twice, first_flagged, flagged_twice, is_any_flagged, is_flagged};
 ghost use Rattle.ubi_change.specs.inner.Drafting.{IsUndrafted};
-ghost use Rattle.ubi_change.specs.inner.Judging.{IsJudged, IsPlaced, IsUnjudged};
+ghost use Rattle.ubi_change.specs.inner.Judging.{IsJudged, IsPlaced, IsRenamedAlone, IsUnjudged};
 ghost use Rattle.ubi_change.specs.inner.Laying.{AreReadable};
+ghost use Rattle.ubi_change.specs.UpdateRefused.{IsRename, StopsRenames};
 ghost use Rattle.ubi_table.specs.Records.{AreRecords};
 
 use crate::drafting::drafted;
@@ -54,6 +56,8 @@ fn with_new_volumes(
     ensures sizes { IfOk result (λ placed. placed.draft.sizes ≡ geometry.now) }
     ensures readable { IfOk result (λ placed. AreReadable geometry.now edits.now placed.parts.items) }
     ensures refused { IfErr result (IsUndrafted geometry.now surveyed.now.scan.winners wholes.now surveyed.now.records edits.now) }
+    ensures renamed { IfOk result (λ placed. AllByRecursion IsRename edits.now → IsRenamedAlone surveyed.now.records placed) }
+    ensures renames { IfErr result (λ c. AllByRecursion IsRename edits.now → StopsRenames c) }
 {
     let (scan, table) = (surveyed.scan(), surveyed.table());
     let mut draft = Draft::of(alloc, table)?;
@@ -147,6 +151,7 @@ pub fn judge(
     ensures sizes { IfOk result (λ judged. judged.table.sizes ≡ geometry.now) }
     ensures readable { IfOk result (λ judged. AreReadable geometry.now edits.now judged.parts.items) }
     ensures refused { IfErr result (IsUnjudged geometry.now surveyed.now wholes.now edits.now room) }
+    ensures renames { IfErr result (λ c. AllByRecursion IsRename edits.now → StopsRenames c) }
 {
     let Placed {
         draft,

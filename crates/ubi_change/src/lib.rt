@@ -57,7 +57,9 @@ mod written_out;
 pub use avoided::Avoided;
 pub use change::{plan_change, plan_change_from};
 pub use edit::{Edit, NewVolume};
-pub use errors::{ChangeRefusal, EditFault, PlanError, RenameRefusal, UpdateError, UpdateRefusal};
+pub use errors::{
+    ChangeRefusal, ContentsError, EditFault, PlanError, RenameRefusal, UpdateError, UpdateRefusal,
+};
 pub use image_after::{apply, step_fits, write_after};
 pub use rename::{plan_rename, plan_rename_from};
 pub use step::Step;

@@ -1,145 +1,112 @@
-//! The plan of a rename, and the table with the new name.
+//! The plan of a rename, which is a plan of edits.
 
-ghost use Rattle.std.specs.Prelude.{◌≡◌, ◌%◌, ◌^◌, ◌<◌, ◌≤◌, ◌+◌, IfErr, IfOk, length, option_copied};
-ghost use Rattle.ubi_change.specs.Fitting.{AllFit, AllWithin};
-ghost use Rattle.ubi_change.specs.inner.Making.{IsNoWrite};
-ghost use Rattle.ubi_change.specs.inner.Renaming.{AreCopiesOf, CopiesHaveRoom, FitsRenamable, IsNamable, IsNamingRefusal, IsRenamable, IsUnrenamed, other_named, rename_error, two_copies};
+ghost use Rattle.std.specs.Prelude.{◌≡◌, [], ◌∷◌, IfErr, IfOk};
+ghost use Rattle.ubi_change.specs.Fitting.{AllFit};
 ghost use Rattle.ubi_change.specs.Order.{RisesBetweenErases};
 ghost use Rattle.ubi_change.specs.Planned.{NamesFailed, after_plan};
-ghost use Rattle.ubi_change.specs.RenamePlan.{table_pages};
 ghost use Rattle.ubi_change.specs.RenamePlanned.{IsFrugalRenameOf, IsPlannedRename, IsRenameError, IsRenameRefusal, IsTheRename, KeepsReading, LeavesBothGoodOf, SurvivesRenameOf, SurvivesRenameTearsOf};
-ghost use Rattle.ubi_media.specs.Fields.{AreBytes};
-ghost use Rattle.ubi_media.specs.Geometry.{leb_size};
+ghost use Rattle.ubi_change.specs.UpdatePlan.{NamesUnread, after_update};
+ghost use Rattle.ubi_change.specs.UpdateRefused.{StopsRenames};
+ghost use Rattle.ubi_change.specs.inner.Renaming.{StopsRename, rename_cause, rename_error};
+ghost use Rattle.ubi_change.specs.declared.edit.Edit.TheVariants as edit;
 ghost use Rattle.ubi_scan.specs.Image.{image_of, of_blocks};
 ghost use Rattle.ubi_scan.specs.Source.{Narrows};
-ghost use Rattle.ubi_scan.specs.Stream.{NamesBlock, after};
-ghost use Rattle.ubi_table.specs.Named.{records_named};
-ghost use Rattle.ubi_volume.specs.Places.{ArePlacesError};
 
 use crate::avoided::Avoided;
-use crate::copies::{Holders, holders_of};
-use crate::errors::{PlanError, RenameRefusal};
-use crate::ground::{Ground, ground_of};
-use crate::pages::table_pages;
-use crate::plan_steps::{Replacement, Target, push_copy};
-use crate::sites::{Spares, spares_of};
+use crate::edit::Edit;
+use crate::errors::{EditFault, PlanError, RenameRefusal, UpdateError, UpdateRefusal};
 use crate::step::Step;
-use crate::weak_check::weak_place;
+use crate::updating::plan_update_from;
 use std::alloc::{AllocError, Global};
-use ubi_media::{Geometry, VolName, VolumeRecord};
-use ubi_scan::{BlockSource, MemorySource, Scan, StreamError};
-use ubi_table::Table;
+use ubi_media::Geometry;
+use ubi_scan::{BlockSource, MemorySource};
+use ubi_volume::Bytes;
 
-/// What the plan of a rename reads of a source.
-#[derive(Drop)]
-struct Renamable {
-    /// The image, and the eraseblocks that may be taken.
-    ground: Ground,
-    /// The eraseblocks that hold the copies of the volume table, if both are good.
-    holders: Option<Holders>,
-}
-
-/// Reads what the plan of a rename needs.
+/// The edit that gives a volume another name.
 ///
 /// # Errors
 ///
-/// As [`ubi_volume::survey_from`].
-fn prepare<S: BlockSource>(
+/// Memory ran out.
+fn renaming(alloc: Global, id: u32, name: &[u8]) -> Result<Vec<Edit>, AllocError>
+    ensures { IfOk result (λ edits. edits.items ≡ edit.Rename id name.now ∷ []) }
+{
+    let name = Bytes::new(Vec::from_slice(alloc, name)?);
+    let mut edits = Vec::new(alloc);
+    edits.push(Edit::Rename(id, name))?;
+    Ok(edits)
+}
+
+/// Why a volume gets no other name, by why the edit isn't planned.
+fn rename_cause(id: u32, cause: UpdateRefusal) -> RenameRefusal
+    requires { StopsRenames cause }
+    ensures { result ≡ rename_cause id cause }
+{
+    match cause {
+        UpdateRefusal::Attach(cause) => RenameRefusal::Attach(cause),
+        UpdateRefusal::Edit(_, EditFault::NoVolume) => RenameRefusal::NoVolume,
+        UpdateRefusal::Edit(_, EditFault::BadName) => RenameRefusal::BadName,
+        UpdateRefusal::SameName(first, next) => {
+            RenameRefusal::SameName(if first == id { next } else { first })
+        }
+        UpdateRefusal::NeedsRepair => RenameRefusal::NeedsRepair,
+        UpdateRefusal::WeakCheck(pages) => RenameRefusal::WeakCheck(pages),
+        UpdateRefusal::Exhausted => RenameRefusal::Exhausted,
+        UpdateRefusal::NoFree(_, _) => RenameRefusal::NoFree,
+        UpdateRefusal::Memory => RenameRefusal::Memory,
+        // No volume is written, and none reserves more.
+        UpdateRefusal::Edit(_, _)
+        | UpdateRefusal::NoSlot(_, _)
+        | UpdateRefusal::NoSpace(_, _)
+        | UpdateRefusal::Autoresize(_, _) => unreachable!(),
+    }
+}
+
+/// Why a rename has no plan, by why its edit has none.
+fn rename_error(id: u32, error: UpdateError) -> PlanError<RenameRefusal>
+    requires { StopsRename error }
+    ensures { result ≡ rename_error id error }
+{
+    match error {
+        UpdateError::Refused(cause) => PlanError::Refused(rename_cause(id, cause)),
+        UpdateError::Read(p) => PlanError::Read(p),
+        UpdateError::NotBlank(p) => PlanError::NotBlank(p),
+        // No contents are written.
+        UpdateError::Beyond(_) | UpdateError::Contents(_) => unreachable!(),
+    }
+}
+
+/// The steps of the plan of the edit.
+///
+/// # Errors
+///
+/// As [`plan_update_from`].
+fn steps_of<S: BlockSource>(
     alloc: Global,
     geometry: &Geometry,
     source: &mut S,
     avoided: &Avoided,
-) -> Result<Renamable, StreamError>
-    ensures known { S.known source.new ≡ after (S.known source.old) result }
-    ensures narrows { Narrows (S.agrees source.old) (S.agrees source.new) }
-    ensures prepared { IfOk result (IsRenamable geometry.now (S.known source.old) (S.agrees source.new) avoided.now) }
-    ensures refused { IfErr result (ArePlacesError geometry.now (S.known source.old) (S.agrees source.new)) }
-    ensures named { IfErr result (NamesBlock geometry.now (S.failed_at source.new)) }
-{
-    let mut buffer = Vec::from_elem(alloc, 0u8, geometry.peb_size() as usize)?;
-    let buffer = buffer.as_mut_slice();
-    let ground = ground_of(alloc, geometry, source, avoided, 2, buffer)?;
-    let holders = holders_of(alloc, geometry, source, &ground.surveyed, avoided, buffer)?;
-    Ok(Renamable { ground, holders })
-}
-
-/// The steps that rewrite both copies. Each is followed by the erase of the eraseblock that held it.
-fn two_copies(
-    alloc: Global,
-    geometry: &Geometry,
-    scan: &Scan,
-    holders: &Holders,
-    spares: &Spares,
-    new: &[u8],
-) -> Result<Vec<Step>, AllocError>
-    requires paged { length new.now % geometry.now.page ≡ 0 }
-    requires short { length new.now < 2 ^ 31 }
-    requires room { CopiesHaveRoom scan.now holders.now spares.now }
-    ensures bytes { AreBytes new.now }
-    ensures steps { IfOk result (λ steps. steps.items ≡ two_copies geometry.now scan.now holders.now spares.now new.now) }
-{
-    let first = Replacement {
-        target: spares.first,
-        header: Target::of_table(0).copy_header(scan.top_sqnum() + 1, new),
-        old: holders.first,
-        old_ec: holders.first.ec,
-    };
-    let second = Replacement {
-        target: spares.second,
-        header: Target::of_table(1).copy_header(scan.top_sqnum() + 2, new),
-        old: holders.second,
-        old_ec: holders.second.ec,
-    };
-    let mut steps = Vec::new(alloc);
-    push_copy(alloc, &mut steps, geometry, scan, &first, new)?;
-    push_copy(alloc, &mut steps, geometry, scan, &second, new)?;
-    Ok(steps)
-}
-
-/// The steps of the plan, by what was read for it.
-///
-/// # Errors
-///
-/// The first cause that applies, except `Attach`, or `Memory`.
-fn rename_steps(
-    alloc: Global,
-    geometry: &Geometry,
-    renamable: &Renamable,
     id: u32,
     name: &[u8],
-) -> Result<Vec<Step>, RenameRefusal>
-    requires { FitsRenamable geometry.now renamable.now }
-    ensures steps { IfOk result (λ steps. AreCopiesOf geometry.now renamable.now id name.now steps.items) }
-    ensures within { IfOk result (λ steps. AllWithin geometry.now (length renamable.now.ground.surveyed.states) steps.items) }
-    ensures refused { IfErr result (IsUnrenamed geometry.now renamable.now id name.now) }
+) -> Result<Vec<Step>, UpdateError>
+    ensures known { S.known source.new ≡ after_update (S.known source.old) result }
+    ensures narrows { Narrows (S.agrees source.old) (S.agrees source.new) }
+    ensures plan { IfOk result (λ steps. IsPlannedRename geometry.now (S.known source.old) (S.agrees source.new) avoided.now id name.now steps.items) }
+    ensures refused { IfErr result (λ e. IsRenameError geometry.now (S.known source.old) (S.agrees source.new) avoided.now id name.now (rename_error id e)) }
+    ensures stops { IfErr result StopsRename }
+    ensures named { IfErr result (NamesUnread geometry.now (S.failed_at source.new)) }
 {
-    let Ground { surveyed, taken } = &renamable.ground;
-    // By the limits of the geometry, the pages fit into an eraseblock.
-    prove!(geometry.page() >= 64);
-    let new = renamed_pages(alloc, geometry, surveyed.table(), id, name)?;
-    let Some(holders) = renamable.holders else {
-        return Err(RenameRefusal::NeedsRepair);
-    };
-    if let Some(pages) = weak_place(geometry, new.as_slice()) {
-        return Err(RenameRefusal::WeakCheck(pages));
-    }
-    let scan = surveyed.scan();
-    let spares = spares_of(scan, taken.as_slice())?;
-    Ok(two_copies(alloc, geometry, scan, &holders, &spares, new.as_slice())?)
-}
-
-/// Why what a plan needs couldn't be read.
-fn unread(error: StreamError) -> PlanError<RenameRefusal>
-    requires { IsNoWrite error }
-    ensures { result ≡ rename_error error }
-{
-    match error {
-        StreamError::Refused(cause) => PlanError::Refused(RenameRefusal::Attach(cause)),
-        StreamError::Read(p, _) => PlanError::Read(p),
-        StreamError::Memory => PlanError::Refused(RenameRefusal::Memory),
-        // Nothing is written.
-        StreamError::Write(_) => unreachable!(),
-    }
+    let edits = renaming(alloc, id, name)?;
+    let mut contents = MemorySource::new(&[]);
+    let plan = plan_update_from(
+        alloc,
+        geometry,
+        source,
+        avoided,
+        &mut contents,
+        edits.as_slice(),
+    )?;
+    let mut buffer = Vec::from_elem(alloc, 0u8, geometry.peb_size() as usize)?;
+    Ok(plan.steps(alloc, geometry, &mut contents, buffer.as_mut_slice())?)
 }
 
 /// The steps of [`plan_rename`] for the image of a source. One of its eraseblocks is held at a time.
@@ -166,20 +133,9 @@ pub fn plan_rename_from<S: BlockSource>(
     ensures refused { IfErr result (IsRenameError geometry.now (S.known source.old) (S.agrees source.new) avoided.now id name.now) }
     ensures named { IfErr result (NamesFailed geometry.now (S.failed_at source.new)) }
 {
-    // The law that plans survive needs it.
-    prove!(geometry.page() >= 64);
-    match prepare(alloc, geometry, source, avoided) {
-        Ok(renamable) => match avoided.not_blank(geometry, &renamable.ground.surveyed) {
-            Some(p) => Err(PlanError::NotBlank(p)),
-            None => match rename_steps(alloc, geometry, &renamable, id, name) {
-                Ok(steps) => match avoided.listed(steps.as_slice()) {
-                    Some(p) => Err(PlanError::NotBlank(p)),
-                    None => Ok(steps),
-                },
-                Err(cause) => Err(PlanError::Refused(cause)),
-            },
-        },
-        Err(error) => Err(unread(error)),
+    match steps_of(alloc, geometry, source, avoided, id, name) {
+        Ok(steps) => Ok(steps),
+        Err(error) => Err(rename_error(id, error)),
     }
 }
 
@@ -234,62 +190,4 @@ pub fn plan_rename(
         // No eraseblock is listed.
         Err(PlanError::NotBlank(_)) => unreachable!(),
     }
-}
-
-/// The first entry of another volume that has a name.
-fn other_named<'a>(
-    entries: &'a [(u32, VolumeRecord)],
-    id: u32,
-    name: &VolName,
-) -> Option<&'a (u32, VolumeRecord)>
-    ensures { option_copied result ≡ other_named id name.now entries.now }
-{
-    entries.iter().find(|entry| entry.0 != id && entry.1.name.as_bytes() == name.as_bytes())
-}
-
-/// The name that a volume of a table may get.
-///
-/// # Errors
-///
-/// `NoVolume`, and else `BadName`, and else `SameName`.
-fn new_name(table: &Table, id: u32, name: &[u8]) -> Result<VolName, RenameRefusal>
-    ensures name { IfOk result (λ n. n ≡ name.now) }
-    ensures may { IfOk result (λ _. IsNamable table.now id name.now) }
-    ensures refused { IfErr result (IsNamingRefusal table.now id name.now) }
-{
-    if table.get(id).is_none() {
-        return Err(RenameRefusal::NoVolume);
-    }
-    let Some(name) = VolName::new(name) else {
-        return Err(RenameRefusal::BadName);
-    };
-    match other_named(table.entries(), id, &name) {
-        Some(entry) => Err(RenameRefusal::SameName(entry.0)),
-        None => Ok(name),
-    }
-}
-
-/// The pages of a table in which a volume has another name.
-///
-/// # Errors
-///
-/// `NoVolume`, and else `BadName`, and else `SameName`; or `Memory`.
-pub fn renamed_pages(
-    alloc: Global,
-    geometry: &Geometry,
-    table: &Table,
-    id: u32,
-    name: &[u8],
-) -> Result<Vec<u8>, RenameRefusal>
-    requires { table.now.sizes ≡ geometry.now }
-    ensures pages { IfOk result (λ bytes. bytes.items ≡ table_pages geometry.now (records_named table.now id name.now)) }
-    ensures paged { IfOk result (λ bytes. length bytes.items % geometry.now.page ≡ 0) }
-    ensures short { IfOk result (λ bytes. length bytes.items < 2 ^ 31) }
-    ensures fits { IfOk result (λ bytes. length bytes.items ≤ leb_size geometry.now) }
-    ensures may { IfOk result (λ _. IsNamable table.now id name.now) }
-    ensures refused { IfErr result (IsNamingRefusal table.now id name.now) }
-{
-    let name = new_name(table, id, name)?;
-    let renamed = table.renamed(alloc, id, &name)?;
-    Ok(table_pages(alloc, geometry, &renamed)?)
 }

@@ -2,7 +2,6 @@
 
 ghost use Rattle.std.specs.Prelude.{◌≡◌, ◌&&◌, ◌<◌, ◌≤◌, IfErr, IfOk, IfSome, Some, drop, length, slice_get};
 ghost use Rattle.ubi_change.specs.inner.Making.{AreSites, IsSitesRefusal};
-ghost use Rattle.ubi_change.specs.inner.Renaming.{AreSpares, IsSparesRefusal};
 ghost use Rattle.ubi_change.specs.inner.Sites.{IsSiteOf};
 ghost use Rattle.ubi_change.specs.Takeable.{is_free};
 ghost use Rattle.ubi_media.specs.Fields.{is_blank};
@@ -11,7 +10,7 @@ ghost use Rattle.ubi_scan.specs.Numbers.{valid_ec};
 ghost use Rattle.ubi_scan.specs.Source.{Narrows, WhereHeld, blocks_in, blocks_of};
 ghost use Rattle.ubi_scan.specs.Stream.{IsReadFault, NamesBlock, after};
 
-use crate::errors::{ChangeRefusal, RenameRefusal};
+use crate::errors::ChangeRefusal;
 use ubi_media::{EcHeader, EcRead, Geometry, read_ec};
 use ubi_scan::{BlockSource, Scan, StreamError, read_part};
 use ubi_volume::{BlockState, is_blank_part};
@@ -154,35 +153,5 @@ pub fn sites_of(scan: &Scan, winner: Option<Site>, taken: &[Site]) -> Result<Sit
             copy: *copy,
         }),
         _ => Err(ChangeRefusal::NoFree),
-    }
-}
-
-/// The eraseblocks that a rename takes.
-#[derive(Clone, Copy)]
-pub struct Spares {
-    /// The eraseblock that gets copy 0.
-    pub first: Site,
-    /// The eraseblock that gets copy 1.
-    pub second: Site,
-}
-
-/// The eraseblocks that a rename takes, if two sequence numbers are left: the first two that may be taken.
-///
-/// # Errors
-///
-/// `Exhausted`, and else `NoFree`.
-pub fn spares_of(scan: &Scan, taken: &[Site]) -> Result<Spares, RenameRefusal>
-    ensures spares { IfOk result (AreSpares scan.now taken.now) }
-    ensures refused { IfErr result (IsSparesRefusal scan.now taken.now) }
-{
-    if scan.top_sqnum() > u64::MAX - 2 {
-        return Err(RenameRefusal::Exhausted);
-    }
-    match (taken.first(), taken.get(1)) {
-        (Some(first), Some(second)) => Ok(Spares {
-            first: *first,
-            second: *second,
-        }),
-        _ => Err(RenameRefusal::NoFree),
     }
 }

@@ -1,14 +1,17 @@
 //! The plan of edits, and its steps.
 
-ghost use Rattle.std.specs.Prelude.{◌≡◌, ℕ, ◌+◌, ◌<◌, IfErr, IfOk, Some, length, slice_get};
+ghost use Rattle.std.specs.Prelude.{◌≡◌, ℕ, ◌+◌, ◌<◌, Bool, IfErr, IfOk, List, Some, length, slice_get};
+ghost use Rattle.ubi_change.specs.Avoided.{AllBeside};
 ghost use Rattle.ubi_change.specs.Fitting.{AllWithin};
 ghost use Rattle.ubi_change.specs.Laying.{after_contents};
-ghost use Rattle.ubi_change.specs.UpdatePlan.{copy_steps, plan_groups};
+ghost use Rattle.ubi_change.specs.UpdatePlan.{copy_steps, in_order, leb_count, plan_groups};
 ghost use Rattle.ubi_change.specs.declared.sites.Site.{Site};
 ghost use Rattle.ubi_change.specs.Sites.{FitsIn};
-ghost use Rattle.ubi_change.specs.UpdatePlan.{FitsUpdate, IsGroupError};
+ghost use Rattle.ubi_change.specs.UpdatePlan.{FitsUpdate, IsBeside, IsGroupError};
+ghost use Rattle.ubi_change.specs.inner.Updating.{listed_in};
 ghost use Rattle.ubi_scan.specs.Source.{Narrows, WhereHeld};
 
+use crate::avoided::Avoided;
 use crate::copies::Holders;
 use crate::errors::ContentsError;
 use crate::laying::{Laying, read_piece};
@@ -16,6 +19,7 @@ use crate::plan_steps::{Replacement, Target, push_copy, push_laid};
 use crate::sites::Site;
 use crate::step::Step;
 use crate::trim::trimmed_text;
+use crate::written_out::Ready;
 use std::alloc::{AllocError, Global};
 use ubi_laid::{Part, header_of};
 use ubi_media::{Geometry, VidHeader};
@@ -59,6 +63,7 @@ fn lay_group<T: BlockSource>(
     ensures narrows { Narrows (T.agrees contents.old) (T.agrees contents.new) }
     ensures steps { IfOk result (λ steps. WhereHeld (T.agrees contents.new) (λ bytes. slice_get (plan_groups geometry.now plan.now bytes) k ≡ Some steps.items)) }
     ensures within { IfOk result (λ steps. AllWithin geometry.now (length plan.now.surveyed.states) steps.items) }
+    ensures beside { IfOk result (λ steps. (marks : List Bool) → IsBeside marks plan.now → AllBeside marks steps.items) }
     ensures refused { IfErr result (IsGroupError geometry.now plan.now k (T.failed_at contents.new)) }
 {
     let scan = plan.surveyed.scan();
@@ -109,11 +114,61 @@ fn copy_group(
 }
 
 impl UpdatePlan {
+    /// The plan that writes this.
+    pub(crate) fn of(
+        surveyed: Surveyed,
+        ready: Ready,
+        layings: Vec<Laying>,
+        sites: Vec<Site>,
+    ) -> UpdatePlan
+        ensures { result ≡ record { surveyed = surveyed; parts = ready.parts; layings = layings; sites = sites; holders = ready.holders; pages = ready.pages } }
+    {
+        let Ready {
+            parts,
+            pages,
+            holders,
+        } = ready;
+        UpdatePlan {
+            surveyed,
+            parts,
+            layings,
+            sites,
+            holders,
+            pages,
+        }
+    }
+
+    /// The number of the first listed eraseblock that the plan works on, if there is one.
+    pub(crate) fn listed(&self, avoided: &Avoided) -> Option<u32>
+        ensures { result ≡ listed_in avoided.now.marks self.now }
+    {
+        let Holders { first, second } = self.holders;
+        let taken = avoided.listed_site(self.sites.as_slice());
+        taken.or(avoided.listed_site(&[first, second]))
+    }
+
     /// How many groups of steps there are.
     pub fn group_count(&self) -> usize
         ensures { result ≡ length self.now.layings.items + 2 }
     {
         self.layings.len() + 2
+    }
+
+    /// The volumes that are written, each with its slot, in the order of their edits.
+    pub fn parts(&self) -> &[Part]
+        ensures { result.now ≡ self.now.parts.items }
+    {
+        self.parts.as_slice()
+    }
+
+    /// How many logical eraseblocks of the volume in a slot are written: those that aren't left blank.
+    pub fn leb_count(&self, id: u32) -> usize
+        ensures { result ≡ leb_count self.now id }
+    {
+        self.layings
+            .iter()
+            .filter(|laying| laying.piece.header.vol_id == id)
+            .count()
     }
 
     /// The steps of a group. The contents are read again, and the buffer has the size of an eraseblock.
@@ -136,6 +191,7 @@ impl UpdatePlan {
         ensures narrows { Narrows (T.agrees contents.old) (T.agrees contents.new) }
         ensures steps { IfOk result (λ steps. WhereHeld (T.agrees contents.new) (λ bytes. slice_get (plan_groups geometry.now self.now bytes) k ≡ Some steps.items)) }
         ensures within { IfOk result (λ steps. AllWithin geometry.now (length self.now.surveyed.states) steps.items) }
+        ensures beside { IfOk result (λ steps. (marks : List Bool) → IsBeside marks self.now → AllBeside marks steps.items) }
         ensures refused { IfErr result (IsGroupError geometry.now self.now k (T.failed_at contents.new)) }
     {
         let written = self.layings.len();
@@ -146,5 +202,34 @@ impl UpdatePlan {
         } else {
             Ok(copy_group(alloc, geometry, self, 1, k, &self.holders.second)?)
         }
+    }
+
+    /// All steps: those of each group, in order. The contents are read again, and the buffer has the size of an eraseblock.
+    ///
+    /// # Errors
+    ///
+    /// `Read` if a read failed. `Memory` if memory ran out.
+    pub fn steps<T: BlockSource>(
+        &self,
+        alloc: Global,
+        geometry: &Geometry,
+        contents: &mut T,
+        buffer: &mut [u8],
+    ) -> Result<Vec<Step>, ContentsError>
+        requires fits { FitsUpdate geometry.now (T.known contents.old).size self.now }
+        requires room { length buffer.old ≡ geometry.now.peb_size }
+        ensures known { T.known contents.new ≡ after_contents (T.known contents.old) result }
+        ensures narrows { Narrows (T.agrees contents.old) (T.agrees contents.new) }
+        ensures steps { IfOk result (λ steps. WhereHeld (T.agrees contents.new) (λ bytes. steps.items ≡ in_order (plan_groups geometry.now self.now bytes))) }
+        ensures within { IfOk result (λ steps. AllWithin geometry.now (length self.now.surveyed.states) steps.items) }
+        ensures beside { IfOk result (λ steps. (marks : List Bool) → IsBeside marks self.now → AllBeside marks steps.items) }
+        ensures refused { IfErr result (λ e. (k : ℕ) × IsGroupError geometry.now self.now k (T.failed_at contents.new) e) }
+    {
+        let mut steps = Vec::new(alloc);
+        for k in 0..self.group_count() {
+            let mut group = self.group(alloc, geometry, k, contents, buffer)?;
+            steps.append(&mut group)?;
+        }
+        Ok(steps)
     }
 }

@@ -3,9 +3,9 @@
 ghost use Rattle.std.specs.Prelude.{◌≡◌, IfErr, IfOk, length};
 ghost use Rattle.ubi_change.specs.EditsAsked.{first_beyond, is_beyond};
 ghost use Rattle.ubi_change.specs.UpdatePlan.{NamesUnread, after_update, contents_after_update};
-ghost use Rattle.ubi_change.specs.UpdatePlanned.{IsPlannedUpdate, IsUpdateError};
+ghost use Rattle.ubi_change.specs.UpdatePlanned.{IsPlannedUpdate, IsUpdateError, StopsIfRenames};
 ghost use Rattle.ubi_change.specs.inner.Making.{IsNoWrite};
-ghost use Rattle.ubi_change.specs.UpdatePlan.{FitsUpdate};
+ghost use Rattle.ubi_change.specs.UpdatePlan.{FitsUpdate, IsBeside, IsPlanOf};
 ghost use Rattle.ubi_change.specs.inner.Updating.{IsBased, IsUnbased, update_error};
 ghost use Rattle.ubi_scan.specs.Source.{Narrows};
 
@@ -81,6 +81,7 @@ fn based_on<S: BlockSource>(
     ensures based { IfOk result (IsBased geometry.now (S.known source.old) (S.agrees source.new) avoided.now edits.now) }
     ensures refused { IfErr result (IsUnbased geometry.now (S.known source.old) (S.agrees source.new) avoided.now edits.now) }
     ensures named { IfErr result (NamesUnread geometry.now (S.failed_at source.new)) }
+    ensures renames { IfErr result (StopsIfRenames edits.now) }
 {
     match known_from(alloc, geometry, source, avoided, edits, buffer) {
         Ok(known) => {
@@ -93,15 +94,8 @@ fn based_on<S: BlockSource>(
                 return Err(UpdateError::NotBlank(p));
             }
             let room = avoided.touchable(geometry, &surveyed);
-            let ready = make_ready(
-                alloc,
-                geometry,
-                &surveyed,
-                wholes.as_slice(),
-                holders,
-                edits,
-                room,
-            )?;
+            let wholes = wholes.as_slice();
+            let ready = make_ready(alloc, geometry, &surveyed, wholes, holders, edits, room)?;
             Ok(Based { surveyed, ready })
         }
         Err(error) => Err(unread(error)),
@@ -127,10 +121,13 @@ pub fn plan_update_from<S: BlockSource, T: BlockSource>(
     ensures known_contents { T.known contents.new ≡ contents_after_update (T.known contents.old) result }
     ensures narrows { Narrows (S.agrees source.old) (S.agrees source.new) }
     ensures narrows_contents { Narrows (T.agrees contents.old) (T.agrees contents.new) }
+    ensures source { IfOk result (IsPlanOf geometry.now (S.known source.old)) }
     ensures fits { IfOk result (FitsUpdate geometry.now (T.known contents.old).size) }
+    ensures beside { IfOk result (IsBeside avoided.now.marks) }
     ensures plan { IfOk result (IsPlannedUpdate geometry.now (S.agrees source.new) (T.agrees contents.new) avoided.now edits.now) }
     ensures refused { IfErr result (IsUpdateError geometry.now (S.known source.old) (S.agrees source.new) (T.known contents.old).size (T.failed_at contents.new) (T.agrees contents.new) avoided.now edits.now) }
     ensures named { IfErr result (NamesUnread geometry.now (S.failed_at source.new)) }
+    ensures renames { IfErr result (StopsIfRenames edits.now) }
 {
     if let Some(i) = first_beyond(contents.len(), edits) {
         return Err(UpdateError::Beyond(i));
@@ -138,20 +135,12 @@ pub fn plan_update_from<S: BlockSource, T: BlockSource>(
     let mut buffer = Vec::from_elem(alloc, 0u8, geometry.peb_size() as usize)?;
     let buffer = buffer.as_mut_slice();
     let Based { surveyed, ready } = based_on(alloc, geometry, source, avoided, edits, buffer)?;
-    let Ready {
-        parts,
-        pages,
-        holders,
-    } = ready;
-    let layings = layings_from(alloc, geometry, parts.as_slice(), contents, buffer)?;
+    let layings = layings_from(alloc, geometry, ready.parts.as_slice(), contents, buffer)?;
     let needs = layings.len() + 2;
     let sites = take_sites(alloc, geometry, source, &surveyed, avoided, needs, buffer)?;
-    Ok(UpdatePlan {
-        surveyed,
-        parts,
-        layings,
-        sites,
-        holders,
-        pages,
-    })
+    let plan = UpdatePlan::of(surveyed, ready, layings, sites);
+    match plan.listed(avoided) {
+        Some(p) => Err(UpdateError::NotBlank(p)),
+        None => Ok(plan),
+    }
 }

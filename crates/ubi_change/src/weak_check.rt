@@ -3,7 +3,7 @@
 ghost use Rattle.std.specs.Prelude.{◌≡◌, ◌==◌, ◌%◌, ◌^◌, ◌<◌, ◌&&◌, length, not};
 ghost use Rattle.ubi_change.specs.Weak.{weak_pages};
 ghost use Rattle.ubi_media.specs.Check.{check_from};
-ghost use Rattle.ubi_media.specs.Fields.{blank, is_blank};
+ghost use Rattle.ubi_media.specs.Fields.{AreBytes, blank, is_blank};
 
 use ubi_media::{Geometry, crc, crc_more, is_blank};
 
@@ -43,7 +43,8 @@ fn is_weak(front: u32, rest: &[u8], whole: u32) -> bool
 pub fn weak_place(geometry: &Geometry, new: &[u8]) -> Option<u32>
     requires paged { length new.now % geometry.now.page ≡ 0 }
     requires short { length new.now < 2 ^ 32 }
-    ensures { result ≡ weak_pages geometry.now new.now }
+    ensures value { result ≡ weak_pages geometry.now new.now }
+    ensures bytes { AreBytes new.now }
 {
     let page = geometry.page() as usize;
     let whole = crc(new);

@@ -1,9 +1,12 @@
 //! What edits write, as far as it doesn't depend on contents, and the eraseblocks that are taken for it.
 
+ghost use Rattle.std.specs.List.{AllByRecursion};
 ghost use Rattle.std.specs.Prelude.{◌≡◌, ◌%◌, ◌^◌, ◌<◌, ◌≤◌, IfErr, IfOk, length};
 ghost use Rattle.ubi_change.specs.inner.Laying.{AreReadable};
 ghost use Rattle.ubi_change.specs.inner.Ready.{AreSitesTaken, IsReady, IsSitesError, IsUnready};
 ghost use Rattle.ubi_change.specs.UpdatePlan.{NamesUnread, after_update};
+ghost use Rattle.ubi_change.specs.UpdateRefused.{IsRename, StopsRenames};
+ghost use Rattle.ubi_media.specs.Fields.{AreBytes};
 ghost use Rattle.ubi_media.specs.Geometry.{leb_size};
 ghost use Rattle.ubi_scan.specs.Source.{Narrows};
 ghost use Rattle.ubi_volume.specs.Survey.{IsSurveyOf};
@@ -55,7 +58,9 @@ pub fn make_ready(
     ensures paged { IfOk result (λ ready. length ready.pages.items % geometry.now.page ≡ 0) }
     ensures short { IfOk result (λ ready. length ready.pages.items < 2 ^ 31) }
     ensures fits { IfOk result (λ ready. length ready.pages.items ≤ leb_size geometry.now) }
+    ensures bytes { IfOk result (λ ready. AreBytes ready.pages.items) }
     ensures refused { IfErr result (IsUnready geometry.now surveyed.now wholes.now holders edits.now room) }
+    ensures renames { IfErr result (λ c. AllByRecursion IsRename edits.now → StopsRenames c) }
 {
     let Judged { table, parts } = judge(alloc, geometry, surveyed, wholes, edits, room)?;
     let pages = table_pages(alloc, geometry, &table)?;

@@ -1,6 +1,7 @@
 -- What private functions find when edits are judged.
-use Rattle.std.specs.Prelude.{◌≡◌, ℕ, ◌<◌, Bool, List, None, length, map}
+use Rattle.std.specs.Prelude.{◌≡◌, ℕ, ◌<◌, Bool, List, [], None, length, map}
 use Rattle.ubi_media.specs.Geometry.{Sizes}
+use Rattle.ubi_table.specs.Records.{Records, space}
 use Rattle.ubi_volume.specs.Survey.{Seen}
 use Rattle.ubi_change.specs.EditsAsked.{news_of}
 use Rattle.ubi_change.specs.Placed.{edited_parts, edited_records, free_slots}
@@ -19,6 +20,12 @@ pub record IsPlaced (s : Sizes) (v : Seen) (wholes : List Bool) (es : List Edit)
   pub has : (used : ℕ → ℕ → Bool) → TellsUsed v.scan.winners used → p.has ≡ length (free_slots used v.records)
   pub parts : (used : ℕ → ℕ → Bool) → TellsUsed v.scan.winners used → p.parts.items ≡ edited_parts used v.records es
   pub draft : (used : ℕ → ℕ → Bool) → TellsUsed v.scan.winners used → p.draft ≡ edited_records used v.records es
+
+-- the records reserve as much as before, and no volume is written
+pub record IsRenamedAlone (t : Records) (p : Placed) : Type 0 where
+  pub needs : p.needs ≡ 0
+  pub parts : p.parts.items ≡ []
+  pub same : space p.draft ≡ space t
 
 -- no cause applies that the records and the members say, and this is what the edits make
 pub record IsMade (s : Sizes) (v : Seen) (used : ℕ → ℕ → Bool) (whole : Edit → Bool) (es : List Edit) (room : ℕ) (j : Judged) : Type 0 where

@@ -1,5 +1,5 @@
 -- The eraseblocks that a plan takes, read one by one.
-use Rattle.std.specs.Prelude.{◌≡◌, ◌<◌, ℕ, Bool, true, false, if◌then◌else◌, List, [], ◌∷◌, ◌++◌, length, map, nat_lt, take, Option, Some, None, IfSome, slice_get}
+use Rattle.std.specs.Prelude.{◌≡◌, ◌<◌, ℕ, Bool, true, false, if◌then◌else◌, List, [], ◌∷◌, ◌++◌, find, length, map, nat_lt, take, Option, Some, None, IfSome, option_map, slice_get}
 use Rattle.std.specs.List.{AllByRecursion}
 use Rattle.ubi_media.specs.Geometry.{Sizes}
 use Rattle.ubi_scan.specs.Source.{Agreed, Source, WhereHeld, blocks_in, blocks_of}
@@ -46,6 +46,10 @@ abbrev pub NotBlankIs : List Bool → List BlockState → Option ℕ → Type 0
 NotBlankIs marks states None = SayBlank marks states (length states)
 NotBlankIs marks states (Some p) =
     (is_listed marks p ≡ true) × ((st : BlockState) × (slice_get states p ≡ Some st) × (is_blank_one st ≡ false)) × SayBlank marks states p
+
+-- the number of the first of some eraseblocks that is listed, if one is
+abbrev pub listed_site : List Bool → List Site → Option ℕ
+listed_site marks ts = option_map (λ t. t.pnum) (find (λ t. is_listed marks t.pnum) ts)
 
 -- the eraseblock of a step that works on a listed one, if there is one
 abbrev pub ListedIs : List Bool → List Step → Option ℕ → Type 0

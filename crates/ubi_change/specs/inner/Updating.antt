@@ -1,5 +1,7 @@
 -- What a plan of edits is based on.
-use Rattle.std.specs.Prelude.{◌≡◌, ℕ, ◌%◌, ◌^◌, ◌≤◌, ◌<◌, Bool, List, length, None, Some}
+use Rattle.std.specs.Prelude.{◌≡◌, ℕ, ◌%◌, ◌^◌, ◌≤◌, ◌<◌, Bool, List, [], ◌∷◌, length, Option, None, Some}
+use Rattle.std.specs.Option.{option_or}
+use Rattle.ubi_media.specs.Fields.{AreBytes}
 use Rattle.ubi_media.specs.Geometry.{Sizes, leb_size}
 use Rattle.ubi_scan.specs.Image.{IsWholeSize, image_of, of_blocks}
 use Rattle.ubi_scan.specs.Source.{Agreed, Source, WhereHeld, blocks_in}
@@ -13,11 +15,12 @@ use Rattle.ubi_change.specs.inner.Known.{AreWholes}
 use Rattle.ubi_change.specs.inner.Laying.{AreReadable}
 use Rattle.ubi_change.specs.inner.Ready.{IsReady}
 use Rattle.ubi_change.specs.inner.Renaming.{AreHoldersOf}
-use Rattle.ubi_change.specs.inner.Taking.{NotBlankIs}
+use Rattle.ubi_change.specs.inner.Taking.{NotBlankIs, listed_site}
 use Rattle.ubi_change.specs.declared.edit.Edit.{Edit}
 use Rattle.ubi_change.specs.declared.errors.UpdateError.{UpdateError}
 use Rattle.ubi_change.specs.declared.errors.UpdateError.TheVariants as error
 use Rattle.ubi_change.specs.declared.errors.UpdateRefusal.TheVariants as refusal
+use Rattle.ubi_change.specs.declared.update.UpdatePlan.{UpdatePlan}
 use Rattle.ubi_change.specs.declared.updating.Based.{Based}
 use Rattle.ubi_change.specs.declared.written_out.Ready.{Ready}
 
@@ -32,6 +35,7 @@ pub record HasPages (s : Sizes) (r : Ready) : Type 0 where
   pub paged : length r.pages.items % s.page ≡ 0
   pub short : length r.pages.items < 2 ^ 31
   pub fit : length r.pages.items ≤ leb_size s
+  pub bytes : AreBytes r.pages.items
 
 -- what was read of a source for edits, and what they write: nothing that is listed holds anything, and no cause stands up to the CRC of
 -- the new table, whatever the source may hold
@@ -45,6 +49,10 @@ pub record IsBased (s : Sizes) (k : Source) (agrees : Agreed) (av : Avoided) (es
   pub readable : AreReadable s es b.ready.parts.items
   pub pages : HasPages s b.ready
   pub most : touchable av b.surveyed.states ≤ s.pebs
+
+-- the number of the first listed eraseblock that a plan works on, if there is one
+abbrev pub listed_in : List Bool → UpdatePlan → Option ℕ
+listed_in marks p = option_or (listed_site marks p.sites.items) (listed_site marks (p.holders.first ∷ p.holders.second ∷ []))
 
 -- why a plan of edits has nothing to be based on: a read failed, or something that is listed isn't Blank, or a cause stands up to the CRC
 -- of the new table, whatever the contents; or memory ran out

@@ -1,4 +1,5 @@
-use Rattle.ubi_change.proofs.Prelude.{◌≡◌, ℕ, ◌<◌, Bool, ap, ap₂, sym, ◌∙◌, subst, List, None, Records, AllByRecursion, Sizes, rec_fault, slots, length, Part, all_records_left, first_edit_fault, news_of, TellsUsed, Found, free_slots, parts_of, records_with, NewVolume, IsPartReadable}
+use Rattle.ubi_change.proofs.Prelude.{◌≡◌, ℕ, ◌<◌, Bool, [], space, ap, ap₂, sym, ◌∙◌, subst, List, None, Records, AllByRecursion, Sizes, rec_fault, slots, length, Part, all_records_left, first_edit_fault, news_of, TellsUsed, Found, free_slots, parts_of, records_with, NewVolume, IsPartReadable}
+use Rattle.ubi_change.proofs.OnlyRenames.{no_news, no_parts_of, space_left}
 use Rattle.ubi_change.proofs.PlacedParts.{parts_below, parts_readable, parts_sound, with_sizes}
 use Rattle.ubi_change.proofs.judging.with_new_volumes.Goals as goal
 
@@ -63,3 +64,21 @@ returns-clause-readable c = λ size narrow reach.
     (c.as_slice-volumes.ensures.value ∙ c.in_ok-written.ensures) in
     subst (AllByRecursion (IsPartReadable s size)) (sym is)
     (parts_readable s free (news_of c.args.edits.now) c.in_ok-drafted.ensures.sound size narrow reach)
+
+pub returns-clause-renamed : goal.returns-clause-renamed
+returns-clause-renamed c = λ alone.
+    let t = c.args.surveyed.now.records in
+    let es = c.args.edits.now in
+    let none = no_news es alone in
+    let before = c.in_ok-draft.ensures ∙ c.table-table.ensures in
+    let parts : c.in_ok-parts.parts.items ≡ [] =
+    c.in_ok-parts.ensures
+    ∙ ap (λ (vs : List NewVolume). parts_of c.as_slice-slots.result.now vs) (c.as_slice-volumes.ensures.value ∙ c.in_ok-written.ensures ∙ none)
+    ∙ no_parts_of c.as_slice-slots.result.now in
+    record {
+      needs = ap length (c.as_slice-volumes.ensures.value) ∙ ap length (c.in_ok-written.ensures ∙ none);
+      parts = parts;
+      same = ap space (c.in_ok-place.ensures
+          ∙ ap (λ (ps : List Part). records_with c.drafted.new.draft ps) (c.as_slice.ensures.value ∙ parts)
+          ∙ c.in_ok-drafted.ensures.left ∙ ap (λ (t : Records). all_records_left t es) before) ∙ space_left t es alone;
+    }

@@ -10,7 +10,7 @@ returns-in_err-ready-in-Ok-clause-refused g c =
     let known = c.in-Ok.known in
     let cause = c.in_err-ready-in-Ok.field-0.0 in
     let from = err_from_is_err_and c.from_residual.result c.from_residual.ensures.1 in
-    let first = subst (λ (ws : List Bool). IsUnready s known.surveyed ws known.holders es c.touchable-room.result cause) c.as_slice.ensures.value
+    let first = subst (λ (ws : List Bool). IsUnready s known.surveyed ws known.holders es c.touchable-room.result cause) c.as_slice-wholes.ensures.value
     c.in_err-ready-in-Ok.ensures.refused in
     let second = subst (λ n. IsUnready s known.surveyed known.wholes.items known.holders es n cause) c.touchable-room.ensures.value first in
     rw (from.1, from.2)
@@ -27,7 +27,7 @@ returns-in_ok-ready-in-Ok-clause-based g c =
     let r = c.in_ok-ready-in-Ok.ready in
     let is = c.in-Ok.ensures.read in
     let ready = c.in_ok-ready-in-Ok.ensures.ready in
-    let first = subst (λ (ws : List Bool). IsReady s seen ws known.holders es c.touchable-room.result r) c.as_slice.ensures.value ready in
+    let first = subst (λ (ws : List Bool). IsReady s seen ws known.holders es c.touchable-room.result r) c.as_slice-wholes.ensures.value ready in
     let second = subst (λ n. IsReady s seen known.wholes.items known.holders es n r) c.touchable-room.ensures.value first in
     record {
       survey = is.survey;
@@ -42,6 +42,7 @@ returns-in_ok-ready-in-Ok-clause-based g c =
         paged = c.in_ok-ready-in-Ok.ensures.paged;
         short = c.in_ok-ready-in-Ok.ensures.short;
         fit = c.in_ok-ready-in-Ok.ensures.fits;
+        bytes = c.in_ok-ready-in-Ok.ensures.bytes;
       };
       most = subst (λ n. n ≤ s.pebs) c.touchable-room.ensures.value c.touchable-room.ensures.most;
     }

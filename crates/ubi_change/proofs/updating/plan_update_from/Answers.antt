@@ -1,6 +1,7 @@
-use Rattle.ubi_change.proofs.Prelude.{List, Part, ◌≡◌, err_from_is_err_and, ◌+◌, ◌<◌, ◌^◌, refl, length, None, AllByRecursion, sym, ap, subst, ◌∙◌, arith, Source, states_avoiding, blocks_in, blocks_of, BothFit, FitsIn, first_taken, first_beyond, all_layings, IsPartReadable, UpdatePlan, IsContentsError, IsSitesError, ContentsError, UpdateError}
+use Rattle.ubi_change.proofs.Prelude.{List, Part, ◌≡◌, err_from_is_err_and, ◌+◌, ◌<◌, ◌^◌, refl, length, None, AllByRecursion, sym, ap, subst, ◌∙◌, arith, Source, states_avoiding, blocks_in, blocks_of, BothFit, FitsIn, FitsUpdate, IsPlanOf, IsUpdateFor, image_of, first_taken, first_beyond, all_layings, IsPartReadable, UpdatePlan, IsContentsError, IsSitesError, ContentsError, UpdateError}
+use Rattle.ubi_change.proofs.PlanBeside.{beside_is, never_in}
 use Rattle.ubi_change.proofs.Touchable.{none_beyond}
-use Rattle.ubi_change.proofs.UpdateKept.{contents_known, contents_unread_is, sites_are, sites_known, unbased_is, unbased_known, update_is}
+use Rattle.ubi_change.proofs.UpdateKept.{contents_known, contents_unread_is, sites_are, sites_known, unbased_is, unbased_known, update_beside, update_is}
 use Rattle.ubi_change.proofs.updating.plan_update_from.Goals as goal
 
 pub layings_from-requires-clause-parts : goal.layings_from-requires-clause-parts
@@ -26,7 +27,7 @@ returns-clause-fits g c =
     let sites = c.in_ok-sites.sites.items in
     let total = is.survey.count in
     let count : c.len-needs.result ≡ length c.in_ok-layings.layings.items = c.len-needs.ensures ∙ c.in_ok-layings.layings.ok.0 in
-    record {
+    subst (FitsUpdate s (g.T.BlockSource.known c.args.contents.now).size) (sym c.of-plan.ensures) (record {
       sound = c.peb_size.ensures.limits;
       sites = subst (λ n. AllByRecursion (FitsIn n) sites) (sym total)
           (subst (λ (k : Source). AllByRecursion (FitsIn (blocks_in s k)) sites) c.in_ok-surveyed.ensures.known taken.taken.fit);
@@ -36,8 +37,15 @@ returns-clause-fits g c =
       paged = is.pages.paged;
       short = is.pages.short;
       fit = is.pages.fit;
+      bytes = is.pages.bytes;
       few = let f = taken.few in omega (arith, f, count);
-    }
+    })
+
+pub returns-clause-source : goal.returns-clause-source
+returns-clause-source g c =
+    let s = c.args.geometry.now in
+    let is = c.in_ok-surveyed.ensures.based.survey in
+    subst (IsPlanOf s (g.S.BlockSource.known c.args.source.now)) (sym c.of-plan.ensures) (record { whole = is.scan.whole; count = is.count })
 
 pub returns-clause-plan : goal.returns-clause-plan
 returns-clause-plan g c bytes held contents agreed =
@@ -61,13 +69,32 @@ returns-clause-plan g c bytes held contents agreed =
       pages = read.ready.pages;
     }) in
     let sized = (g.met.T.BlockSource.sized c.layings_from.new.contents).sized contents agreed in
-    update_is s c.peb_size.ensures.limits (g.S.BlockSource.known c.args.source.now) agrees c.args.avoided.now es c.in_ok-surveyed.field-0
+    subst (IsUpdateFor (image_of s bytes) c.args.avoided.now contents es) (sym c.of-plan.ensures)
+    (update_is s c.peb_size.ensures.limits (g.S.BlockSource.known c.args.source.now) agrees c.args.avoided.now es c.in_ok-surveyed.field-0
     c.in_ok-surveyed.ensures.based bytes (c.in_ok-sites.ensures.narrows bytes held) contents size
-    (sized ∙ ap (λ (k : Source). k.size) laid.known) inside p refl refl refl
+    (sized ∙ ap (λ (k : Source). k.size) laid.known) inside p refl refl refl refl
     (laid.layings contents agreed ∙ ap (all_layings s contents) c.as_slice.ensures.value)
     (taken.taken.held bytes held
     ∙ ap (λ n. first_taken s (blocks_of s bytes) (states_avoiding c.args.avoided.now c.in_ok-surveyed.field-0.surveyed.states) (n + 2)) count)
-    (let e = taken.enough in omega (arith, e, count)) (let f = taken.few in omega (arith, f, count))
+    (let e = taken.enough in omega (arith, e, count)) (let f = taken.few in omega (arith, f, count)))
+
+pub returns-clause-beside : goal.returns-clause-beside
+returns-clause-beside g c = beside_is c.args.avoided.now.marks c.of-plan.result (sym c.in-None.ensures)
+
+pub returns-in-Some-listed-clause-refused : goal.returns-in-Some-listed-clause-refused
+returns-in-Some-listed-clause-refused g c =
+    let s = c.args.geometry.now in
+    let is = c.in_ok-surveyed.ensures.based in
+    let known = g.S.BlockSource.known c.args.source.now in (
+      is.survey.scan.whole,
+      λ bytes held. absurd (never_in c.args.avoided.now.marks c.of-plan.result
+          (update_beside s known (g.S.BlockSource.agrees c.based_on.new.source) c.args.avoided.now c.args.edits.now c.in_ok-surveyed.field-0 is
+          (g.S.BlockSource.agrees c.take_sites.new.source) c.in_ok-sites.ensures.narrows c.of-plan.result (c.len-needs.result + 2)
+          (ap (λ (p : UpdatePlan). p.holders) c.of-plan.ensures)
+          (λ bytes held. ap (λ (p : UpdatePlan). p.sites.items) c.of-plan.ensures ∙ c.in_ok-sites.ensures.taken.taken.held bytes held)
+          bytes held)
+          c.in-Some-listed.p (sym c.in-Some-listed.ensures)),
+    )
 
 pub returns-in_err-surveyed-clause-refused : goal.returns-in_err-surveyed-clause-refused
 returns-in_err-surveyed-clause-refused g c =
@@ -131,5 +158,5 @@ returns-in_err-sites-clause-known_contents g c =
     let from = err_from_is_err_and c.from_residual-in_err-sites.result c.from_residual-in_err-sites.ensures.1 in
     rw (from.1, from.2)
     (c.in_ok-layings.ensures.known
-    ∙ sym (sites_known c.args.geometry.now _ (g.S.BlockSource.agrees c.take_sites.new.source) c.args.avoided.now c.in_ok-surveyed.field-0.surveyed
-    _ (g.T.BlockSource.known c.args.contents.now) c.in_err-sites.field-0.0 c.in_err-sites.ensures.refused))
+    ∙ sym (sites_known c.args.geometry.now (g.S.BlockSource.known c.based_on.new.source) (g.S.BlockSource.agrees c.take_sites.new.source) c.args.avoided.now c.in_ok-surveyed.field-0.surveyed
+    (c.len-needs.result + 2) (g.T.BlockSource.known c.args.contents.now) c.in_err-sites.field-0.0 c.in_err-sites.ensures.refused))

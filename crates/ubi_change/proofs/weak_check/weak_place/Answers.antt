@@ -1,4 +1,4 @@
-use Rattle.ubi_change.proofs.Prelude.{◌≡◌, ◌≤◌, ◌<◌, inl, inr, ◌*◌, ◌/◌, ℕ, false, length, refl, subst, sym, ◌∙◌, arith, below_or_last, piece_within, is_weak, pages_of}
+use Rattle.ubi_change.proofs.Prelude.{◌≡◌, ◌≤◌, ◌<◌, inl, inr, ◌*◌, ◌/◌, ℕ, false, length, refl, subst, sym, ◌∙◌, arith, bytes_each, below_or_last, piece_within, is_weak, pages_of}
 use Rattle.ubi_change.proofs.WeakPlaces.{first_place, front_more, front_none, no_place, weak_told}
 use Rattle.ubi_change.proofs.weak_check.weak_place.Goals as goal
 
@@ -11,8 +11,8 @@ within n page k len some e l =
 pub loop-k-init : goal.loop-k-init
 loop-k-init c = (front_none c.args.geometry.now c.args.new.now, λ j l. absurd (omega arith))
 
-pub returns-then-is_weak : goal.returns-then-is_weak
-returns-then-is_weak c =
+pub returns-then-is_weak-clause-value : goal.returns-then-is_weak-clause-value
+returns-then-is_weak-clause-value c =
     let s = c.args.geometry.now in
     let here = within c.page-page.result s.page c.loop-k.k (length c.args.new.now) c.page-page.ensures.limits.page_from
     c.page-page.ensures.value c.loop-k-test.true in
@@ -38,9 +38,15 @@ loop-k-preserved c =
       ],
     )
 
-pub returns : goal.returns
-returns c =
+pub returns-clause-value : goal.returns-clause-value
+returns-clause-value c =
     let s = c.args.geometry.now in
     let all : pages_of s c.args.new.now ≤ c.loop-k.k =
     subst (λ (n : ℕ). length c.args.new.now / n ≤ c.loop-k.k) c.page-page.ensures.value c.loop-k-test.false in
     sym (no_place s c.args.new.now (λ j l. c.loop-k.invariant.1 j (omega arith)))
+
+pub returns-then-is_weak-clause-bytes : goal.returns-then-is_weak-clause-bytes
+returns-then-is_weak-clause-bytes c = bytes_each c.args.new.now (λ i. (c.type_inv.new i).fits)
+
+pub returns-clause-bytes : goal.returns-clause-bytes
+returns-clause-bytes c = bytes_each c.args.new.now (λ i. (c.type_inv.new i).fits)

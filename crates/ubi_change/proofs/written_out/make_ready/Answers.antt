@@ -1,4 +1,4 @@
-use Rattle.ubi_change.proofs.Prelude.{refl, ap, sym, ◌∙◌, subst, err_from_is_err_and, Option, IsSome, weak_pages, Holders}
+use Rattle.ubi_change.proofs.Prelude.{refl, ap, sym, ◌∙◌, subst, err_from_is_err_and, Option, AreBytes, IsSome, weak_pages, Holders}
 use Rattle.ubi_change.proofs.ReadyCauses.{unready_from}
 use Rattle.ubi_change.proofs.written_out.make_ready.Goals as goal
 
@@ -14,7 +14,7 @@ returns-in-Some-weak_place-clause-refused c = (
   c.in_ok-table.field-0,
   c.in_ok-table.ensures.judged,
   subst (λ (o : Option Holders). IsSome o) (sym c.in-Some.is) refl,
-  ap (weak_pages c.args.geometry.now) (sym (c.as_slice.ensures.value ∙ c.in_ok-pages.ensures.pages)) ∙ sym c.weak_place.ensures
+  ap (weak_pages c.args.geometry.now) (sym (c.as_slice.ensures.value ∙ c.in_ok-pages.ensures.pages)) ∙ sym c.weak_place.ensures.value
       ∙ c.in-Some-weak_place.is,
 )
 
@@ -25,5 +25,8 @@ returns-clause-ready c = record {
   records = c.in_ok-table.ensures.records;
   pages = c.in_ok-pages.ensures.pages;
   both = c.in-Some.is;
-  strong = ap (weak_pages c.args.geometry.now) (sym c.as_slice.ensures.value) ∙ sym c.weak_place.ensures ∙ c.in-None.is;
+  strong = ap (weak_pages c.args.geometry.now) (sym c.as_slice.ensures.value) ∙ sym c.weak_place.ensures.value ∙ c.in-None.is;
 }
+
+pub returns-clause-bytes : goal.returns-clause-bytes
+returns-clause-bytes c = subst AreBytes c.as_slice.ensures.value c.weak_place.ensures.bytes

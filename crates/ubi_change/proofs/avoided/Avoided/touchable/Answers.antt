@@ -1,5 +1,5 @@
 use Rattle.ubi_change.proofs.Prelude.{◌≡◌, ◌<◌, true, false, sym, ap, ◌∙◌, arith, length, get_or_from_slice_get, is_avoided}
-use Rattle.ubi_change.proofs.Touchable.{touchable_more}
+use Rattle.ubi_change.proofs.Touchable.{touchable_all, touchable_more}
 use Rattle.ubi_change.proofs.avoided.Avoided.touchable.Goals as goal
 use Rattle.ubi_change.proofs.avoided.Avoided.touchable.Goals.{then-not-has, else-not-has}
 
@@ -23,3 +23,10 @@ loop-p-preserved c =
           let step = touchable_more av sts p st inside here true not_may in
           record { left = omega (arith, before, step, w.left-is); most = omega (arith, most, w.left-is) }
     ]
+
+pub returns-clause-value : goal.returns-clause-value
+returns-clause-value c =
+    let all = c.loop-p.auto.p-end in
+    let count = ap length c.states-count.ensures in
+    c.loop-p.invariant.left
+    ∙ touchable_all c.args.self.now c.args.surveyed.now.states c.loop-p.p (omega (arith, all, count, c.loop-p-test.false))
