@@ -1,5 +1,4 @@
 pub mod BuildReads
-pub mod ByteVectors
 pub mod CommandNames
 pub mod CommandWords
 pub mod Composed
@@ -12,7 +11,6 @@ pub mod GivenBytes
 pub mod GivenKey
 pub mod GivenWords
 pub mod HeldBlocks
-pub mod Hexadecimals
 pub mod Lacking
 pub mod LeastTold
 pub mod Levels
@@ -20,7 +18,6 @@ pub mod LinesReadBack
 pub mod RequestsOf
 pub mod ToolVectors
 pub mod Unhelped
-pub mod UnitNumbers
 pub mod UntypedIsTyped
 pub mod Uses
 pub mod Walks

@@ -1,13 +1,13 @@
 -- The names that the proofs of this crate speak of, and where they come from.
 pub use Rattle.std.proofs.Common.{Bool, Less, List, None, Option, Some, [], ap, append-nil, ap₂, arith, cond, drop, false, get_or, inl, inr, length, map, not, refl, replicate, rules, slice_range, string_bytes, subst, suc, sym, take, true, true≢false, zero, ℕ, ◌%◌, ◌&&◌, ◌*◌, ◌++◌, ◌+◌, ◌-◌, ◌/◌, ◌<◌, ◌==◌, ◌^◌, ◌||◌, ◌↔◌, ◌∙◌, ◌∷◌, ◌≡◌, ◌≤◌, ◌⊎◌}
-pub use Rattle.std.proofs.Math.Nat.{mod-add-div', mul-le-mul_left, mul-le-mul_right, mul-mod_left}
+pub use Rattle.std.proofs.Math.Nat.{mod-add-div', mul-le-mul_right, mul-mod_left}
 pub use Rattle.std.proofs.Math.Seq.{drop-append-add}
 pub use Rattle.std.proofs.lemmas.Bool.{eqb-true, le-leb, ne_eqb}
 pub use Rattle.std.proofs.lemmas.Bool.Decides.{nat_tests}
 pub use Rattle.std.proofs.lemmas.Cmp.{nat_cmp_total, ranked}
 pub use Rattle.std.proofs.lemmas.Fmt.{digits_decimal, digits_value-decimal}
 pub use Rattle.std.proofs.lemmas.Int.{ints}
-pub use Rattle.std.proofs.lemmas.List.{append_assoc, at_drop_more, drop_at, get_or-append_right, get_or-replicate, length-append, length-map, length-take-le, take-append-le, take_all, take_at}
+pub use Rattle.std.proofs.lemmas.List.{append_assoc, drop_at, get_or-append_right, get_or-replicate, length-append, length-map, length-take-le, take-append-le, take_all, take_at}
 pub use Rattle.std.proofs.lemmas.List.Elements.{All-append, All-from_recursion, All-map, All-replicate, All-weaker}
 pub use Rattle.std.proofs.lemmas.List.Folds.{list_all_at}
 pub use Rattle.std.proofs.lemmas.List.Sums.{fold_more}
@@ -17,14 +17,14 @@ pub use Rattle.std.proofs.lemmas.Slice.Eq.{bytes_eq-Decides}
 pub use Rattle.std.proofs.lemmas.Str.Parse.{IsNumeralModel, digit_from_value, numerals_by_fold}
 pub use Rattle.std.specs.Bool.{then_some}
 pub use Rattle.std.specs.Borrow.{Bor}
-pub use Rattle.std.specs.Char.{digit_value, is_ascii_digit, is_digit}
+pub use Rattle.std.specs.Char.{is_ascii_digit}
 pub use Rattle.std.specs.FinMap.{entries, nat_cmp-IsAntisymmetric}
 pub use Rattle.std.specs.Io.KnownBytes.{Appends}
-pub use Rattle.std.specs.List.{AllByRecursion, concat, cons_option, find, flat_map, list_all, list_any, position_or_len, range_with_len, slice_split}
+pub use Rattle.std.specs.List.{AllByRecursion, concat, cons_option, find, flat_map, list_all, list_any, range_with_len, slice_split}
 unfoldable pub use Rattle.std.specs.List.{IsDistinct}
 pub use Rattle.std.specs.Option.{ForSome, option_map_or}
 pub use Rattle.std.specs.Ordering.{nat_cmp}
-pub use Rattle.std.specs.Prelude.{Contains, Err, IfOk, IfSome, IsErr, IsSome, IsTrue, MatchOption, Ok, Result, codes, decimal, filter_map, fold, if◌then◌else◌, is_ok, is_some, nat_le, option_and_then, option_map, pos, slice_get, sum_by, unwrap_or}
+pub use Rattle.std.specs.Prelude.{Contains, Err, IfOk, IfSome, IsErr, IsSome, IsTrue, MatchOption, Ok, Result, codes, decimal, filter_map, fold, if◌then◌else◌, is_ok, is_some, option_and_then, option_map, pos, slice_get, sum_by, unwrap_or}
 pub use Rattle.std.specs.Str.{bytes_eq}
 unfoldable pub use Rattle.std.specs.Str.{chars}
 pub use Rattle.std.specs.Str.Parse.{ExplainsUnsignedError, HasUnsignedDigitsIfOk, IsNumeral, ParsesUnsigned, digits_value, starts_with_minus, without_leading_plus}
@@ -88,7 +88,7 @@ pub use Rattle.ubi_config.proofs.GivenRecord.{section_gives_record}
 pub use Rattle.ubi_config.proofs.WrittenReads.{written_reads}
 pub use Rattle.ubi_config.specs.Config.{line_number, sections_of}
 unfoldable pub use Rattle.ubi_config.specs.Records.{record_in}
-pub use Rattle.ubi_config.specs.Words.{is_no_digit, most_bytes}
+pub use Rattle.ubi_config.specs.Words.{most_bytes}
 unfoldable pub use Rattle.ubi_config.specs.Words.{unit_named}
 pub use Rattle.ubi_config.specs.Written.{bytes_reserved, may_grow, volume_lines}
 unfoldable pub use Rattle.ubi_config.specs.Written.{left_out}
@@ -182,6 +182,7 @@ pub use Rattle.ubi_volume.specs.declared.errors.ReadError.{ReadError}
 pub use Rattle.ubi_words.specs.Words.{decimal_value, most_number, with_digit}
 pub use Rattle.ubi_writing.proofs.FolderConfigs.{sound_described}
 pub use Rattle.ubi_writing.specs.Build.{AreGathered, ArePartsOf, HaveImage, IsNoVolume, IsSized, Sized, built, crowded, faulty, gathered, image_path, image_paths, len_of, no_image, no_path, no_record, numbered_parts, section_part, ungathered, unmade, unread, unwritten}
+pub use Rattle.ubi_writing.specs.ByteNumbers.{bytes_within}
 pub use Rattle.ubi_writing.specs.Compose.{Composes, ComposesOf, fits, meaning_line, spec_line}
 pub use Rattle.ubi_writing.specs.Plan.{step_line, step_words}
 pub use Rattle.ubi_writing.specs.Unpack.{Listed, all_described, described, folder_config, listed}
@@ -193,7 +194,6 @@ pub use Rattle.ubi_writing.specs.declared.orders.Plan.{Plan}
 pub use Rattle.ubi_writing.specs.declared.orders.Rename.{Rename}
 pub use Rattle.ubi_writing.specs.declared.volume_key.VolumeKey.{VolumeKey}
 pub use Rattle.ubi_commands.specs.BuildLaws.{AreTold, BuildReads, ReadsItsFile, file_of}
-pub use Rattle.ubi_commands.specs.ByteNumbers.{at_most, byte_number, bytes_within, decimal_number, hexadecimal_value, unit_after, with_hexadecimal}
 pub use Rattle.ubi_commands.specs.CommandLine.{AsksAsked, AsksBlank, AsksChange, AsksDump, AsksExtract, AsksFormat, AsksKey, AsksNewImage, AsksNumbers, AsksPart, AsksPaths, AsksPlan, AsksRename, HasBytes, HasNumber, HasText, MayHaveBytes, MayHaveNumber, MayHaveText, gives_no_geometry, gives_word}
 pub use Rattle.ubi_commands.specs.Commands.{Asks, IsAllElse, IsAnswer, IsAnswerTo, IsRequest, Takes, answered, command_name, comparing_command, reading_command, wrong_words}
 unfoldable pub use Rattle.ubi_commands.specs.Commands.{tool}

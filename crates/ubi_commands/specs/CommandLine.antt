@@ -8,7 +8,7 @@ use Rattle.clap.specs.Walk.{Row, first_of, one_of}
 use Rattle.ubi_files.specs.BadBlocks.{is_block_list}
 use Rattle.ubi_config.specs.Words.{most_bytes}
 use Rattle.ubi_words.specs.Words.{most_number}
-use Rattle.ubi_commands.specs.ByteNumbers.{bytes_within}
+use Rattle.ubi_writing.specs.ByteNumbers.{bytes_within}
 use Rattle.ubi_reading.specs.Formats.{format_word}
 use Rattle.ubi_reading.specs.declared.format.Format.{Format}
 use Rattle.ubi_dumps.specs.declared.asked.Asked.{Asked}

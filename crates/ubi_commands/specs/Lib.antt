@@ -1,5 +1,4 @@
 pub mod BuildLaws
-pub mod ByteNumbers
 pub mod CommandLine
 pub mod Commands
 pub mod ComposedLaws

@@ -9,7 +9,7 @@ use Rattle.clap.specs.declared.builder.value_parser.ValueParser.TheVariants as p
 use Rattle.ubi_config.specs.Words.{most_bytes}
 use Rattle.ubi_files.specs.BadBlocks.{is_block_list}
 use Rattle.ubi_words.specs.Words.{most_number}
-use Rattle.ubi_commands.specs.ByteNumbers.{bytes_within}
+use Rattle.ubi_writing.specs.ByteNumbers.{bytes_within}
 use Rattle.ubi_commands.specs.CommandLine.{gives_word, gives_no_geometry}
 
 -- an argument that has to be given

@@ -5,17 +5,16 @@ ghost use Rattle.std.specs.Prelude.{◌≡◌, ◌↔◌, IsTrue, true};
 ghost use Rattle.ubi_config.specs.Words.{most_bytes};
 ghost use Rattle.ubi_files.specs.BadBlocks.{is_block_list};
 ghost use Rattle.ubi_words.specs.Words.{most_number};
-ghost use Rattle.ubi_commands.specs.ByteNumbers.{bytes_within};
+ghost use Rattle.ubi_writing.specs.ByteNumbers.{bytes_within};
 ghost use Rattle.ubi_commands.specs.CommandLine.{AsksAsked, AsksBlank, AsksChange, AsksDump, AsksExtract, AsksFormat, AsksKey, AsksNewImage, AsksNumbers, AsksPart, AsksPaths, AsksPlan, AsksRename, AsksSought, HasBytes, HasNumber, HasText, MayHaveBytes, MayHaveNumber, MayHaveText, gives_word, gives_no_geometry};
 ghost use Rattle.ubi_commands.specs.inner.CommandLine.{IsOneOf};
 ghost use Rattle.ubi_commands.specs.inner.CommandLine.{words_in};
 
-use crate::byte_numbers::bytes_within;
 use clap::ArgMatches;
 use ubi_dumps::{Asked, Paths, Sought};
 use ubi_files::{Dump, FilePart, Numbers, is_block_list};
 use ubi_reading::Format;
-use ubi_writing::{Change, Extract, NewImage, Plan, Rename, VolumeKey};
+use ubi_writing::{Change, Extract, NewImage, Plan, Rename, VolumeKey, bytes_within};
 
 /// The last place in a file that an option can give, which has 63 bits.
 const MOST_BYTES: u64 = 0x7FFF_FFFF_FFFF_FFFF;

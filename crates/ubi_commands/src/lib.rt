@@ -5,7 +5,6 @@
 //! with [`report`].
 #![tactic(auto)]
 
-mod byte_numbers;
 mod command_line;
 mod commands;
 mod given;

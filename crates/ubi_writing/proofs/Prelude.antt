@@ -1,35 +1,50 @@
 -- The names that the proofs of this crate speak of, and where they come from.
-pub use Rattle.std.proofs.Common.{Bool, List, Some, [], ap, append-nil, append_assoc, arith, cond, drop, false, get_or, inl, inr, length, map, not, refl, string_bytes, subst, suc, sym, take, true, true≢false, vec_items, zero, zero-add, ℕ, ◌&&◌, ◌++◌, ◌+◌, ◌/◌, ◌<◌, ◌^◌, ◌∙◌, ◌∷◌, ◌≡◌, ◌≢◌, ◌≤◌, ◌⊎◌}
+pub use Rattle.std.proofs.Common.{Bool, List, Some, [], ap, append-nil, append_assoc, ap₂, arith, cond, drop, false, get_or, inl, inr, length, map, not, refl, string_bytes, subst, suc, sym, take, true, true≢false, vec_items, zero, zero-add, ℕ, ◌&&◌, ◌*◌, ◌++◌, ◌+◌, ◌/◌, ◌<◌, ◌==◌, ◌^◌, ◌∙◌, ◌∷◌, ◌≡◌, ◌≢◌, ◌≤◌, ◌⊎◌}
 pub use Rattle.std.proofs.KnownBytes.{Keeps-refl}
+pub use Rattle.std.proofs.Math.Nat.{mul-le-mul_left}
+pub use Rattle.std.proofs.lemmas.Bool.Decides.{nat_tests}
 pub use Rattle.std.proofs.lemmas.Grind.{flat_map-append}
-pub use Rattle.std.proofs.lemmas.List.{map-append, take_all, take_more}
+pub use Rattle.std.proofs.lemmas.List.{at_drop_more, map-append, take_all, take_more}
 pub use Rattle.std.proofs.lemmas.List.Elements.{All-map, filter_map-append}
 pub use Rattle.std.proofs.lemmas.List.Folds.{list_all_more}
-pub use Rattle.std.proofs.lemmas.List.Sums.{sum_by-append}
-pub use Rattle.std.proofs.lemmas.Option.{get_or_from_slice_get, same_Some, slice_get_cases, slice_get_read, slice_get_within}
+pub use Rattle.std.proofs.lemmas.List.Sums.{fold_more, sum_by-append}
+pub use Rattle.std.proofs.lemmas.Option.{get_or_from_slice_get, same_Some, slice_get-get_or, slice_get_cases, slice_get_read, slice_get_within}
 pub use Rattle.std.proofs.lemmas.Result.{IfErr-at_err, IfErr-weaker, IfOk-at_ok, IfOk-weaker, err_from_is_err_and}
+pub use Rattle.std.specs.Bool.{then_some}
 pub use Rattle.std.specs.Borrow.{Bor}
+pub use Rattle.std.specs.Char.{digit_value, is_digit}
 pub use Rattle.std.specs.FinMap.{entries, get}
 pub use Rattle.std.specs.Io.KnownBytes.{Appends}
-pub use Rattle.std.specs.List.{AllByRecursion, concat, cons_option, flat_map, list_all}
+pub use Rattle.std.specs.List.{AllByRecursion, concat, cons_option, flat_map, list_all, position_or_len}
 pub use Rattle.std.specs.Option.{ForSome, option_map_or}
 unfoldable pub use Rattle.std.specs.Path.{path_with_file_name}
-pub use Rattle.std.specs.Prelude.{Contains, Err, IfErr, IfOk, IfSome, IsOk, IsSome, MatchOption, MatchResult, None, Ok, OnErr, OnOk, Option, Result, codes, fold, if◌then◌else◌, is_ok, is_some, nat_lt, option_map, slice_get, sum_by, unwrap_or}
+pub use Rattle.std.specs.Prelude.{Contains, Err, IfErr, IfOk, IfSome, IsOk, IsSome, MatchOption, MatchResult, None, Ok, OnErr, OnOk, Option, Result, codes, fold, if◌then◌else◌, is_ok, is_some, min, nat_le, nat_lt, option_and_then, option_map, slice_get, sum_by, unwrap_or}
 pub use Rattle.std.specs.Result.{result_map_both}
 pub use Rattle.std.specs.declared.alloc.AllocError.{AllocError}
 pub use Rattle.std.specs.declared.alloc.Global.{Global}
 pub use Rattle.std.specs.declared.vec.Vec.{Vec}
 pub use Rattle.ubi_change.proofs.CutSizes.{blocks-cut, length-cut}
-pub use Rattle.ubi_change.specs.Avoided.{Avoided, nothing}
+pub use Rattle.ubi_change.specs.Avoided.{AllBeside, Avoided, avoiding, nothing}
+pub use Rattle.ubi_change.specs.CommitPlanned.{SurvivesCommit}
 pub use Rattle.ubi_change.specs.Cuts.{changed, turn}
+pub use Rattle.ubi_change.specs.Edited.{edited_in}
+pub use Rattle.ubi_change.specs.EditsAsked.{all_asked}
 pub use Rattle.ubi_change.specs.Fitting.{AllWithin}
+pub use Rattle.ubi_change.specs.Laying.{all_layings}
 pub use Rattle.ubi_change.specs.Pages.{programmed}
 pub use Rattle.ubi_change.specs.Planned.{IsChangeError, PlanFactsOfSource}
-pub use Rattle.ubi_change.specs.RenamePlan.{renamed_pages}
+pub use Rattle.ubi_change.specs.RenamePlan.{renamed_pages, table_pages}
 pub use Rattle.ubi_change.specs.RenamePlanned.{IsPlannedRename, IsRenameError}
 pub use Rattle.ubi_change.specs.Renamed.{renamed}
 pub use Rattle.ubi_change.specs.Steps.{after_text, blocks_after, step_done}
+pub use Rattle.ubi_change.specs.UpdatePlan.{IsBeside, IsPlanOf, in_order, plan_groups}
+pub use Rattle.ubi_change.specs.UpdatePlanned.{ArePlannedSteps, AreUpdateSteps, IsPlannedUpdate, IsUpdateErrorIn, IsUpdateFor}
+pub use Rattle.ubi_change.specs.UpdateRefused.{asked_parts}
+pub use Rattle.ubi_change.specs.declared.edit.Edit.{Edit}
+pub use Rattle.ubi_change.specs.declared.errors.UpdateError.{UpdateError}
+pub use Rattle.ubi_change.specs.declared.laying.Laying.{Laying}
 pub use Rattle.ubi_change.specs.declared.step.Step.{Step}
+pub use Rattle.ubi_change.specs.declared.update.UpdatePlan.{UpdatePlan}
 pub use Rattle.ubi_compose.proofs.NormalForm.{count-composed, count-normal_bytes}
 pub use Rattle.ubi_compose.specs.Building.{CanBuild, IsBuildError, WhereNotBegun, image_built, known_after}
 pub use Rattle.ubi_compose.specs.Built.{HaveMeaning, Parts}
@@ -41,6 +56,8 @@ unfoldable pub use Rattle.ubi_compose.specs.Words.{shown_name}
 pub use Rattle.ubi_compose.specs.declared.errors.BuildError.{BuildError}
 pub use Rattle.ubi_config.specs.Config.{sections_of}
 unfoldable pub use Rattle.ubi_config.specs.Config.{first_config_fault}
+pub use Rattle.ubi_config.specs.Words.{is_no_digit, most_bytes}
+unfoldable pub use Rattle.ubi_config.specs.Words.{unit_named}
 pub use Rattle.ubi_config.specs.Written.{config_text}
 pub use Rattle.ubi_config.specs.declared.section.Section.{Section}
 pub use Rattle.ubi_config.specs.declared.volume.ConfigVolume.{ConfigVolume}
@@ -67,14 +84,14 @@ pub use Rattle.ubi_files.specs.declared.outcome.Outcome.{Outcome}
 pub use Rattle.ubi_files.specs.declared.outcome.ToolError.{ToolError}
 pub use Rattle.ubi_laid.proofs.Lists.{all_append}
 pub use Rattle.ubi_laid.specs.declared.part.Part.{Part}
-pub use Rattle.ubi_media.specs.Fields.{blank}
+pub use Rattle.ubi_media.specs.Fields.{blank, same_bytes}
 pub use Rattle.ubi_media.specs.Geometry.{IsGeometry, Sizes}
 unfoldable pub use Rattle.ubi_media.specs.Limits.{first_broken}
 pub use Rattle.ubi_media.specs.Record.{rec_fault}
 pub use Rattle.ubi_media.specs.declared.record.VolumeRecord.{VolumeRecord}
 pub use Rattle.ubi_scan.proofs.InMemory.{still}
 pub use Rattle.ubi_scan.proofs.NarrowedSource.{source_narrowed}
-pub use Rattle.ubi_scan.specs.Image.{Image, IsWholeImage, IsWholeSize, eraseblocks, image_of}
+pub use Rattle.ubi_scan.specs.Image.{Image, IsWholeImage, IsWholeSize, eraseblocks, image_of, of_blocks}
 pub use Rattle.ubi_scan.specs.Promised.{keeps_promise}
 pub use Rattle.ubi_scan.specs.Source.{Agreed, Narrows, Source, WhereHeld, blocks_in, blocks_of, holds, known_by, memory}
 pub use Rattle.ubi_scan.specs.declared.errors.StreamError.{StreamError}
@@ -89,11 +106,15 @@ pub use Rattle.ubi_volume.specs.Extract.{extent_in, extent_len, extent_of, read_
 pub use Rattle.ubi_volume.specs.Meant.{Meant, records_of}
 pub use Rattle.ubi_volume.specs.Places.{ArePlaces, ArePlacesOf, AreWithin, Placed}
 pub use Rattle.ubi_volume.specs.Reading.{read_volume, volume_len}
+pub use Rattle.ubi_volume.specs.Survey.{IsSurvey, Seen}
 pub use Rattle.ubi_volume.specs.Wrote.{All, First, IsWroteError, NotAll, Wanted, Wrote}
 pub use Rattle.ubi_volume.specs.declared.errors.ReadError.{ReadError}
 pub use Rattle.ubi_volume.specs.declared.places.Extent.{Extent}
 pub use Rattle.ubi_volume.specs.declared.places.PlaceContent.{PlaceContent}
+pub use Rattle.ubi_words.specs.Words.{most_number}
+pub use Rattle.ubi_writing.specs.Asks.{IsNoEdit, edit_for, edits_for, record_after, record_after_all, with_edit_for}
 pub use Rattle.ubi_writing.specs.Build.{AreBesideOut, AreGathered, ArePartsOf, Builds, BuildsParts, HaveImage, IsNoVolume, IsSized, IsUngathered, IsUnreadLine, Sized, built, faulty, gathered, image_path, image_paths, len_of, no_image, no_path, no_record, numbered_parts, section_part, ungathered}
+pub use Rattle.ubi_writing.specs.ByteNumbers.{at_most, byte_number, bytes_within, decimal_number, hexadecimal_value, unit_after, with_hexadecimal}
 pub use Rattle.ubi_writing.specs.Change.{Changes, ChangesFrom, CutMeans, HasPlan, IsChangeFault, not_blank_from, unplanned_from}
 pub use Rattle.ubi_writing.specs.Compose.{Composes, ComposesInto, ComposesOf, crowded, fits, unmade, unread}
 pub use Rattle.ubi_writing.specs.Extract.{Extracts, HasTextIn, HasVolumeText, IsExtractError, ReadsVolume, accepted, read, read_key, refused, refused_from, unread_from, wrote}
@@ -105,12 +126,15 @@ pub use Rattle.ubi_writing.specs.Plan.{CutAccepts, IsCarryFault, cut_bytes, cut_
 pub use Rattle.ubi_writing.specs.Rename.{CutIsNamed, HasRename, IsRenameFault, Renames, RenamesFrom, nameless_from}
 pub use Rattle.ubi_writing.specs.Unpack.{AreUnpacked, AreUnpackedUntil, IsNewFile, IsUnpacked, Listed, Unpacks, UnpacksOf, all_described, config_path, described, file_byte, file_path, folder_config, listed, no_config, no_folder, unpacked, unpacked_line, unpacked_lines, unpacked_status}
 unfoldable pub use Rattle.ubi_writing.specs.Unpack.{file_name}
+pub use Rattle.ubi_writing.specs.Update.{AreEditsOf, AreLinesOf, ArePlanned, CutIsEdited, IsNoEditOf, IsUpdateFault, UpdatesFrom, all_replaced, asked_words, no_edit_line, replaced_by, volume_line, written_lebs, written_lines}
 pub use Rattle.ubi_writing.specs.Writes.{HasWork, writes}
+pub use Rattle.ubi_writing.specs.declared.asks.Ask.{Ask}
 pub use Rattle.ubi_writing.specs.declared.build.Answers.{Answers}
 pub use Rattle.ubi_writing.specs.declared.orders.Plan.{Plan}
 pub use Rattle.ubi_writing.specs.declared.unpack.VolumeFile.{VolumeFile}
 pub use Rattle.ubi_writing.specs.declared.volume_key.VolumeKey.{VolumeKey}
 pub use Rattle.ubi_writing.specs.inner.Built.{AreAnswers, IsNotBegun, IsToldOf}
+pub use Rattle.ubi_writing.specs.inner.Editing.{AreNoEdits}
 pub use Rattle.ubi_writing.specs.inner.Extracting.{HasFirst, IsExtractFault}
 pub use Rattle.ubi_writing.specs.inner.Folder.{AreFilesOf, Ends, IsFileOf, config_in}
 pub use Rattle.ubi_writing.specs.inner.Gathering.{AreSoFar, AreUnread, IsFoundFile, IsSectionPart, as_list}

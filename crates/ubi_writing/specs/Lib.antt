@@ -1,4 +1,6 @@
+pub mod Asks
 pub mod Build
+pub mod ByteNumbers
 pub mod Change
 pub mod Compose
 pub mod Extract
@@ -9,5 +11,6 @@ pub mod Outputs
 pub mod Plan
 pub mod Rename
 pub mod Unpack
+pub mod Update
 pub mod Writes
 pub mod inner

@@ -1,5 +1,7 @@
 -- Definitions that only private functions' contracts and proofs cite.
+pub mod Asking
 pub mod Built
+pub mod Editing
 pub mod Extracting
 pub mod Folder
 pub mod Gathering

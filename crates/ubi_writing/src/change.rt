@@ -74,6 +74,7 @@ pub fn run_change_from<S: BlockSource, W: Write>(
             alloc,
             geometry,
             source,
+            Vec::new(alloc),
             steps.as_slice(),
             stop,
             writer,

@@ -2,7 +2,9 @@
 //! `build`. Below them each command is a function over a source of an image's bytes, or over bytes in memory.
 #![tactic(auto)]
 
+mod asks;
 mod build;
+mod byte_numbers;
 mod change;
 mod compose;
 mod extract;
@@ -16,10 +18,13 @@ mod planners;
 mod rename;
 mod spec_file;
 mod unpack;
+mod update;
 mod volume_key;
 mod writers;
 
+pub use asks::Ask;
 pub use build::build_file;
+pub use byte_numbers::bytes_within;
 pub use change::{NewBytes, run_change, run_change_from};
 pub use compose::{compose_file, run_compose};
 pub use extract::run_extract;
@@ -29,5 +34,6 @@ pub use orders::{Change, Extract, NewImage, Plan, Rename};
 pub use planners::{change_file, rename_file};
 pub use rename::{run_rename, run_rename_from};
 pub use unpack::unpack_file;
+pub use update::{AskedEdits, run_update_from};
 pub use volume_key::VolumeKey;
 pub use writers::{Writing, write_file};

@@ -43,15 +43,13 @@ fn put_steps(text: &mut Vec<u8>, steps: &[Step]) -> Result<(), AllocError>
     Ok(())
 }
 
-/// The lines of a plan: how many steps it has, and each of them.
-fn plan_lines(alloc: Global, steps: &[Step]) -> Result<Vec<u8>, AllocError>
-    ensures { IfOk result (λ text. text.items ≡ plan_lines steps.now) }
+/// Adds the lines of a plan: how many steps it has, and each of them.
+fn put_plan(text: &mut Vec<u8>, steps: &[Step]) -> Result<(), AllocError>
+    ensures { OnOk result (text.new.items ≡ text.old.items ++ plan_lines steps.now) }
 {
-    let mut text = Vec::new(alloc);
-    put_number(&mut text, "steps ", steps.len() as u64)?;
-    put_word(&mut text, "\n")?;
-    put_steps(&mut text, steps)?;
-    Ok(text)
+    put_number(text, "steps ", steps.len() as u64)?;
+    put_word(text, "\n")?;
+    put_steps(text, steps)
 }
 
 /// Adds the page that a step programs, if it programs one.
@@ -85,8 +83,8 @@ fn steps_done(steps: &[Step], stop: Option<u32>) -> usize
 }
 
 /// Writes the image of a source after the first `stop` steps of a plan (after all, if there are no more or `stop` is left
-/// out), and answers with the lines of all of them. The pages that these steps program are added to `pages`. At most one
-/// eraseblock of contents is held.
+/// out), and answers with the given lines and then those of all steps. The pages that these steps program are added to `pages`. At most
+/// one eraseblock of contents is held.
 ///
 /// Space for the answer and the pages is reserved before the first byte is written.
 ///
@@ -98,6 +96,7 @@ pub fn carry_out<S: BlockSource, W: Write>(
     alloc: Global,
     geometry: &Geometry,
     source: &mut S,
+    lines: Vec<u8>,
     steps: &[Step],
     stop: Option<u32>,
     writer: &mut W,
@@ -107,7 +106,7 @@ pub fn carry_out<S: BlockSource, W: Write>(
     requires within { AllWithin geometry.now (blocks_in geometry.now (S.known source.old)) steps.now }
     ensures known { S.known source.new ≡ after_run (S.known source.old) result }
     ensures narrows { Narrows (S.agrees source.old) (S.agrees source.new) }
-    ensures answer { IfOk result (λ o. Gives o (says (plan_lines steps.now) 0)) }
+    ensures answer { IfOk result (λ o. Gives o (says (lines.items ++ plan_lines steps.now) 0)) }
     ensures pages { OnOk result (pages.new.items ≡ pages.old.items ++ programmed (take (steps_done steps.now stop) steps.now)) }
     ensures written { IfOk result (λ _. Wrote (S.agrees source.new) (W.contents writer.old) (W.contents writer.new) (cut_text geometry.now steps.now (steps_done steps.now stop)) All 0 (S.known source.old).size) }
     ensures cut { IfOk result (λ _. AreCut geometry.now (S.agrees source.new) steps.now (steps_done steps.now stop)) }
@@ -115,7 +114,8 @@ pub fn carry_out<S: BlockSource, W: Write>(
     ensures err { IfErr result (IsCarryFault geometry.now (S.agrees source.new) steps.now (steps_done steps.now stop) (W.contents writer.old) (W.contents writer.new)) }
 {
     let count = steps_done(steps, stop);
-    let text = plan_lines(alloc, steps)?;
+    let mut text = lines;
+    put_plan(&mut text, steps)?;
     put_pages(pages, &steps[..count])?;
     let mut buffer = Vec::from_elem(alloc, 0u8, geometry.peb_size() as usize)?;
     match write_after(

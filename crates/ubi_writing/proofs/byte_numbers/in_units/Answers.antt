@@ -1,6 +1,6 @@
-use Rattle.ubi_commands.proofs.Prelude.{◌≡◌, ◌∙◌, ℕ, drop, subst, take, at_most, decimal_number, is_no_digit, unit_after, None, position_or_len}
-use Rattle.ubi_commands.proofs.UnitNumbers.{unit_some, units_above}
-use Rattle.ubi_commands.proofs.byte_numbers.in_units.Goals as goal
+use Rattle.ubi_writing.proofs.Prelude.{◌≡◌, ◌∙◌, ℕ, drop, subst, take, at_most, decimal_number, is_no_digit, unit_after, None, position_or_len}
+use Rattle.ubi_writing.proofs.UnitNumbers.{unit_some, units_above}
+use Rattle.ubi_writing.proofs.byte_numbers.in_units.Goals as goal
 
 pub returns-in_err-number : goal.returns-in_err-number
 returns-in_err-number c =

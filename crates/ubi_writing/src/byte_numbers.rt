@@ -1,7 +1,7 @@
 //! Numbers of bytes, as words of the command line: decimal digits, which a unit may follow, or hexadecimal ones after `0x`.
 
 ghost use Rattle.std.specs.Prelude.{◌≡◌, ◌*◌, ◌≤◌, IfSome, Some};
-ghost use Rattle.ubi_commands.specs.ByteNumbers.{at_most, bytes_in_units, bytes_within, decimal_number, hexadecimal_number, is_hexadecimal, unit_after};
+ghost use Rattle.ubi_writing.specs.ByteNumbers.{at_most, bytes_in_units, bytes_within, decimal_number, hexadecimal_number, is_hexadecimal, unit_after};
 
 use ubi_config::{digits_before, unit_named};
 use ubi_files::without_plus;

@@ -1,5 +1,5 @@
-use Rattle.ubi_commands.proofs.Prelude.{◌≡◌, ◌≤◌, drop, fold, list_all, hexadecimal_value, with_hexadecimal, is_digit}
-use Rattle.ubi_commands.proofs.byte_numbers.hexadecimal_within.Given as goal
+use Rattle.ubi_writing.proofs.Prelude.{◌≡◌, ◌≤◌, drop, fold, list_all, hexadecimal_value, with_hexadecimal, is_digit}
+use Rattle.ubi_writing.proofs.byte_numbers.hexadecimal_within.Given as goal
 
 abbrev pub invariant-loop-byte : goal.invariant-loop-byte
 invariant-loop-byte l = record {

@@ -1,6 +1,6 @@
-use Rattle.ubi_commands.proofs.Prelude.{◌≡◌, ◌<◌, ◌&&◌, arith, get_or, length, list_all, hexadecimal_value, digit_value, is_digit, nat_le}
-use Rattle.ubi_commands.proofs.Hexadecimals.{fold_beyond, none_beyond}
-use Rattle.ubi_commands.proofs.byte_numbers.hexadecimal_within.Goals as goal
+use Rattle.ubi_writing.proofs.Prelude.{◌≡◌, ◌<◌, ◌&&◌, arith, get_or, length, list_all, hexadecimal_value, digit_value, is_digit, nat_le}
+use Rattle.ubi_writing.proofs.Hexadecimals.{fold_beyond, none_beyond}
+use Rattle.ubi_writing.proofs.byte_numbers.hexadecimal_within.Goals as goal
 
 pub returns-then-more-from : goal.returns-then-more-from
 returns-then-more-from c =

@@ -1,6 +1,6 @@
 -- Numbers with units: a unit is some bytes, so a number of units is no less than the number.
-use Rattle.ubi_commands.proofs.Prelude.{◌≡◌, ℕ, ◌≤◌, ◌<◌, ◌*◌, ◌==◌, Bool, List, Some, true, false, arith, refl, IfSome, codes, if◌then◌else◌, length, option_and_then, option_map, then_some, at_most, unit_after, unit_named, None, mul-le-mul_left, nat_tests, nat_le, same_bytes, Option}
-use Rattle.ubi_commands.proofs.Hexadecimals.{none_beyond}
+use Rattle.ubi_writing.proofs.Prelude.{◌≡◌, ℕ, ◌≤◌, ◌<◌, ◌*◌, ◌==◌, Bool, List, Some, true, false, arith, refl, IfSome, codes, if◌then◌else◌, length, option_and_then, option_map, then_some, at_most, unit_after, unit_named, None, mul-le-mul_left, nat_tests, nat_le, same_bytes, Option}
+use Rattle.ubi_writing.proofs.Hexadecimals.{none_beyond}
 
 pub named_unit_some : (name : List ℕ) → IfSome (unit_named name) (λ unit. 1 ≤ unit)
 unfolding unit_named

@@ -1,5 +1,5 @@
 -- Hexadecimal digits: another one never makes the number less. And numbers that are larger than they may be.
-use Rattle.ubi_commands.proofs.Prelude.{◌≡◌, ℕ, ◌≤◌, ◌<◌, ◌+◌, ◌*◌, List, [], ◌∷◌, Bool, Some, true, false, arith, refl, drop, fold, length, get_or, then_some, at_most, with_hexadecimal, None, nat_tests, at_drop_more, digit_value}
+use Rattle.ubi_writing.proofs.Prelude.{◌≡◌, ℕ, ◌≤◌, ◌<◌, ◌+◌, ◌*◌, List, [], ◌∷◌, Bool, Some, true, false, arith, refl, drop, fold, length, get_or, then_some, at_most, with_hexadecimal, None, nat_tests, at_drop_more, digit_value}
 
 pub fold_grows : (n : ℕ) (digits : List ℕ) → n ≤ fold with_hexadecimal n digits
 fold_grows n [] = omega arith

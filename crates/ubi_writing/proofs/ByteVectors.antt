@@ -1,5 +1,5 @@
 -- Numbers of bytes, on literals.
-use Rattle.ubi_commands.proofs.Prelude.{◌≡◌, Some, refl, byte_number, bytes_within, most_bytes, unit_named, None, most_number}
+use Rattle.ubi_writing.proofs.Prelude.{◌≡◌, Some, refl, byte_number, bytes_within, most_bytes, unit_named, None, most_number}
 use Rattle.std.proofs.Common.{codes}
 
 -- ---- decimal digits
