@@ -1,7 +1,7 @@
 #!/bin/sh
 # Refuses each allocation in turn: when scanning, detecting a geometry, reading a table and renaming a volume in it,
-# attaching and reading, planning a rename and a change, reading a config and the composer's text, building an image,
-# and running the commands on bytes and by their words.
+# attaching and reading, planning a rename, a change and edits of whole volumes, reading a config and the composer's
+# text, building an image, and running the commands on bytes and by their words.
 #
 # usage: check/second/refuse.sh [CRATE TEST]
 #
@@ -55,6 +55,7 @@ refuse_each ubi_tests tests::detect::detects_or_runs_out_of_memory || wrong=1
 refuse_each ubi_tests tests::table::memory::reads_and_names_or_runs_out_of_memory || wrong=1
 refuse_each ubi_tests tests::volume::memory::reads_all_or_runs_out_of_memory || wrong=1
 refuse_each ubi_tests tests::change::memory::plans_all_or_runs_out_of_memory || wrong=1
+refuse_each ubi_tests tests::change::update::memory::plans_edits_or_runs_out_of_memory || wrong=1
 refuse_each ubi_tests tests::config::sections::gives_the_sections_or_runs_out_of_memory || wrong=1
 refuse_each ubi_tests tests::compose::memory::reads_all_or_runs_out_of_memory || wrong=1
 refuse_each ubi_tests tests::compose::memory::builds_all_or_runs_out_of_memory || wrong=1

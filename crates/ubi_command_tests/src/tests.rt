@@ -22,4 +22,5 @@ mod same;
 mod shown;
 mod streams;
 mod telling;
+mod updating;
 mod views;

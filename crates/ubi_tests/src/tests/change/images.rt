@@ -218,6 +218,19 @@ pub fn assert_done(rt: &impl Abort, geometry: &Geometry, image: &mut [u8], step:
     apply(geometry, image, step);
 }
 
+/// The steps that were written down.
+pub fn written_down(
+    alloc: Global,
+    geometry: &Geometry,
+    want: &[Want],
+) -> Result<Vec<Step>, AllocError> {
+    let mut expected = Vec::new(alloc);
+    for steps in want {
+        steps.put(alloc, geometry, &mut expected)?;
+    }
+    Ok(expected)
+}
+
 /// Asserts that steps are those that were written down.
 fn assert_steps(
     rt: &impl Abort,
@@ -226,10 +239,7 @@ fn assert_steps(
     steps: &[Step],
     want: &[Want],
 ) -> Result<(), Fail> {
-    let mut expected = Vec::new(alloc);
-    for steps in want {
-        steps.put(alloc, geometry, &mut expected)?;
-    }
+    let expected = written_down(alloc, geometry, want)?;
     assert!(*rt; steps == expected.as_slice());
     Ok(())
 }

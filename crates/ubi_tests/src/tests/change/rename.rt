@@ -4,6 +4,7 @@ use super::images::{
     EIGHT, INSIDE, LARGE, LARGE_SHARED, ODD, ONE_PAGE, SHARED, SMALL, Sizes, WORN, assert_done,
     attached,
 };
+use super::places::{Written, place_of};
 use std::alloc::{AllocError, Global};
 use std::process::Abort;
 use std::test::Fail;
@@ -29,16 +30,6 @@ pub fn planned(
     plan_rename(alloc, geometry, image, id, name)
 }
 
-/// How one copy of the table is written anew: on which eraseblock, whether that is prepared, its pages from the header's to
-/// the last of the table, and the eraseblock that is erased after it.
-#[derive(Clone, Copy)]
-struct Copied {
-    target: u32,
-    is_prepared: bool,
-    pages: (u32, u32),
-    given_up: Option<u32>,
-}
-
 /// A rename of a volume from a name to another: both copies, and how many steps come before the new name.
 #[derive(Clone, Copy)]
 struct Case {
@@ -47,32 +38,12 @@ struct Case {
     id: u32,
     from: &'static [u8],
     to: &'static [u8],
-    copies: [Copied; 2],
+    copies: [Written; 2],
     turn: usize,
 }
 
-/// The place of an erase among those of pages.
-const ERASE: u32 = u32::MAX;
-
-impl Copied {
-    /// Adds the eraseblock and the page of each step.
-    fn put_places(&self, places: &mut Vec<(u32, u32)>) -> Result<(), AllocError> {
-        if self.is_prepared {
-            places.extend_from_slice(&[(self.target, ERASE), (self.target, 0)])?;
-        }
-        let (first, last) = self.pages;
-        for page in first..last.saturating_add(1) {
-            places.push((self.target, page))?;
-        }
-        match self.given_up {
-            Some(old) => places.extend_from_slice(&[(old, ERASE), (old, 0)]),
-            None => Ok(()),
-        }
-    }
-}
-
 /// Copy 0 of a table of 344 bytes, on a clean eraseblock.
-const FIRST_COPY: Copied = Copied {
+const FIRST_COPY: Written = Written {
     target: 5,
     is_prepared: false,
     pages: (1, 7),
@@ -80,7 +51,7 @@ const FIRST_COPY: Copied = Copied {
 };
 
 /// Copy 1 of it.
-const SECOND_COPY: Copied = Copied {
+const SECOND_COPY: Written = Written {
     target: 6,
     given_up: Some(1),
     ..FIRST_COPY
@@ -138,11 +109,11 @@ static CASES: [Case; 14] = [
         sizes: SHARED,
         pebs: &[FIRST, SECOND, A, B, C, PADDED, FREE],
         copies: [
-            Copied {
+            Written {
                 pages: (0, 3),
                 ..FIRST_COPY
             },
-            Copied {
+            Written {
                 pages: (0, 3),
                 ..SECOND_COPY
             },
@@ -154,11 +125,11 @@ static CASES: [Case; 14] = [
     Case {
         sizes: ONE_PAGE,
         copies: [
-            Copied {
+            Written {
                 pages: (0, 1),
                 ..FIRST_COPY
             },
-            Copied {
+            Written {
                 pages: (0, 1),
                 ..SECOND_COPY
             },
@@ -170,11 +141,11 @@ static CASES: [Case; 14] = [
     Case {
         sizes: INSIDE,
         copies: [
-            Copied {
+            Written {
                 pages: (1, 3),
                 ..FIRST_COPY
             },
-            Copied {
+            Written {
                 pages: (1, 3),
                 ..SECOND_COPY
             },
@@ -186,11 +157,11 @@ static CASES: [Case; 14] = [
     Case {
         sizes: LARGE,
         copies: [
-            Copied {
+            Written {
                 pages: (1, 12),
                 ..FIRST_COPY
             },
-            Copied {
+            Written {
                 pages: (1, 12),
                 ..SECOND_COPY
             },
@@ -202,12 +173,12 @@ static CASES: [Case; 14] = [
         sizes: LARGE_SHARED,
         pebs: &[FIRST, SECOND, A, B, C, ERASED, FREE],
         copies: [
-            Copied {
+            Written {
                 target: 6,
                 pages: (0, 11),
                 ..FIRST_COPY
             },
-            Copied {
+            Written {
                 target: 5,
                 is_prepared: true,
                 pages: (0, 11),
@@ -221,7 +192,7 @@ static CASES: [Case; 14] = [
     Case {
         pebs: &[WORN_FIRST, SECOND, A, B, C, FREE, FREE],
         copies: [
-            Copied {
+            Written {
                 given_up: None,
                 ..FIRST_COPY
             },
@@ -233,11 +204,11 @@ static CASES: [Case; 14] = [
     Case {
         pebs: &[WORN_FIRST, WORN_SECOND, A, B, C, FREE, FREE],
         copies: [
-            Copied {
+            Written {
                 given_up: None,
                 ..FIRST_COPY
             },
-            Copied {
+            Written {
                 given_up: None,
                 ..SECOND_COPY
             },
@@ -248,11 +219,11 @@ static CASES: [Case; 14] = [
     Case {
         pebs: &[NEW_FIRST, CARRIER_SECOND, NEW_FREE, NEW_FREE],
         copies: [
-            Copied {
+            Written {
                 target: 2,
                 ..FIRST_COPY
             },
-            Copied {
+            Written {
                 target: 3,
                 given_up: None,
                 ..SECOND_COPY
@@ -263,12 +234,12 @@ static CASES: [Case; 14] = [
     Case {
         pebs: &[CARRIER_FIRST, NEW_SECOND, NEW_FREE, NEW_FREE],
         copies: [
-            Copied {
+            Written {
                 target: 2,
                 given_up: None,
                 ..FIRST_COPY
             },
-            Copied {
+            Written {
                 target: 3,
                 ..SECOND_COPY
             },
@@ -310,14 +281,6 @@ fn assert_means(
         }
     }
     Ok(())
-}
-
-/// The eraseblock of a step, and its page.
-fn place_of(step: &Step) -> (u32, u32) {
-    match step {
-        Step::Erase { pnum } => (*pnum, ERASE),
-        Step::Program { pnum, page, .. } => (*pnum, *page),
-    }
 }
 
 /// Asserts that an image means what it did, but that a volume has a name.
@@ -385,7 +348,7 @@ fn renames_at_the_turn(rt: HostRuntime) -> Result<(), Fail> {
 
 /// A record whose CRC was chosen: 20 zero bytes, this CRC and 40 bytes 0xFF have the CRC of 64 bytes 0xFF, whatever comes
 /// before. So the last of the six pages of a table with it in slot 1 can't be distinguished from a blank one.
-const WEAK: Slot = Slot {
+pub const WEAK: Slot = Slot {
     reserved: 1,
     name: &[0xE0, 0xE0, 0x2F, 0xB4],
     check: 0xC216_DDDC,
@@ -393,23 +356,23 @@ const WEAK: Slot = Slot {
 };
 
 /// The two copies of the table with it.
-const FIRST_WEAK: Peb = Peb(NAMED, Vid::Table(0, 0), Data::Table(&[ROOT, WEAK]));
+pub const FIRST_WEAK: Peb = Peb(NAMED, Vid::Table(0, 0), Data::Table(&[ROOT, WEAK]));
 
-const SECOND_WEAK: Peb = Peb(NAMED, Vid::Table(1, 0), Data::Table(&[ROOT, WEAK]));
+pub const SECOND_WEAK: Peb = Peb(NAMED, Vid::Table(1, 0), Data::Table(&[ROOT, WEAK]));
 
 /// Copies with a record whose CRC is wrong, and with one that comes twice.
-const SECOND_CORRUPT: Peb = Peb(
+pub const SECOND_CORRUPT: Peb = Peb(
     NAMED,
     Vid::Table(1, 0),
     Data::Table(&[Slot { check: 0, ..ROOT }]),
 );
 
-const SECOND_TWICE: Peb = Peb(NAMED, Vid::Table(1, 0), Data::Table(&[ROOT, ROOT]));
+pub const SECOND_TWICE: Peb = Peb(NAMED, Vid::Table(1, 0), Data::Table(&[ROOT, ROOT]));
 
-const FIRST_TWICE: Peb = Peb(NAMED, Vid::Table(0, 0), Data::Table(&[ROOT, ROOT]));
+pub const FIRST_TWICE: Peb = Peb(NAMED, Vid::Table(0, 0), Data::Table(&[ROOT, ROOT]));
 
 /// Free eraseblocks that can't be taken: one that can't count another erase, and the only one that names the image.
-const WORN_FREE: Peb = Peb(WORN, Vid::Blank, NO_DATA);
+pub const WORN_FREE: Peb = Peb(WORN, Vid::Blank, NO_DATA);
 
 const CARRIER_FREE: Peb = Peb(EIGHT, Vid::Blank, NO_DATA);
 
