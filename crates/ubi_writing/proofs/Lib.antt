@@ -6,12 +6,14 @@ pub mod Cut
 pub mod Edited
 pub mod EditsInOrder
 pub mod Extracted
+pub mod FilledContents
 pub mod FolderConfigs
 pub mod GatheredParts
 pub mod Hexadecimals
 pub mod Into
 pub mod NamedLines
 pub mod Normalised
+pub mod KeptReads
 pub mod Planned
 pub mod PlannedAll
 pub mod Prelude

@@ -1,5 +1,5 @@
 -- How a plan over a file, which may write its pages to a second one, ends.
-use Rattle.ubi_writing.proofs.Prelude.{◌≡◌, ◌≢◌, ◌∙◌, ◌⊎◌, inl, inr, ℕ, Bool, List, Some, ap, false, not, refl, subst, sym, true, true≢false, Bor, Appends, IfSome, codes, Sizes, Agreed, Source, Gives, says, Files, Holds, OthersStay, Receives, Stays, fresh, file_line, OfFile, WritesInto, WritesPlan, bad_limit, cannot_read, file, no_file, no_pages, places, planned, unfit, unfit_whole, unreadable, whole, written, Outcome, Dump, unwritten}
+use Rattle.ubi_writing.proofs.Prelude.{◌≡◌, ◌≢◌, ◌∙◌, ◌⊎◌, inl, inr, ℕ, Bool, List, Some, ap, false, not, refl, subst, sym, true, true≢false, Bor, Appends, IfSome, codes, Sizes, Agreed, Source, Gives, says, Files, Holds, OthersStay, Receives, Stays, fresh, file_line, OfFile, WritesInto, WritesPlan, bad_limit, cannot_read, file, no_file, no_pages, places, planned, unfit, unfit_whole, unreadable, whole, written, Outcome, Dump, unwritten, no_list, no_sizes, off_grid, on_grid, with_list, OnGrid, WithList, NamesNoBlocks}
 use Rattle.std.proofs.Common.{None}
 use Rattle.std.proofs.Common.{Option}
 
@@ -83,3 +83,11 @@ pub stays_unopened : (d e : Files) (path out : List ℕ) (may_be_one : Bool) →
     → (not may_be_one ≡ false → e ≡ d) → Stays d e path
 stays_unopened d e path out true one others shut = ap (λ (files : Files). files.holds path) (shut refl)
 stays_unopened d e path out false one others shut = others path (λ same. true≢false (sym (one same)))
+
+-- what is answered if no plan can name the eraseblocks of a dump, is answered whatever is asked
+pub unplanned_any : (d : Files) (dump : Dump) (path : List ℕ) (answers : Outcome → Type 0) (o : Outcome) → NamesNoBlocks d dump path o
+    → WithList d d dump.bad path (OnGrid d d dump path answers) o
+unplanned_any d dump path answers o (no_list bad device gives stay) = no_list bad device gives stay
+unplanned_any d dump path answers o (with_list (no_sizes unread)) = with_list (no_sizes unread)
+unplanned_any d dump path answers o (with_list (off_grid limits off gives stay)) = with_list (off_grid limits off gives stay)
+unplanned_any d dump path answers o (with_list (on_grid on none)) = absurd none

@@ -4,10 +4,10 @@ pub use Rattle.std.proofs.KnownBytes.{Keeps-refl}
 pub use Rattle.std.proofs.Math.Nat.{mul-le-mul_left}
 pub use Rattle.std.proofs.lemmas.Bool.Decides.{nat_tests}
 pub use Rattle.std.proofs.lemmas.Grind.{flat_map-append}
-pub use Rattle.std.proofs.lemmas.List.{at_drop_more, map-append, take_all, take_more}
-pub use Rattle.std.proofs.lemmas.List.Elements.{All-map, filter_map-append}
+pub use Rattle.std.proofs.lemmas.List.{at_drop_more, length-append, map-append, take_all, take_more}
+pub use Rattle.std.proofs.lemmas.List.Elements.{All-cons, All-contains_itself, All-head, All-map, All-nil, All-tail, filter_map-append}
 pub use Rattle.std.proofs.lemmas.List.Folds.{list_all_more}
-pub use Rattle.std.proofs.lemmas.List.Sums.{fold_more, sum_by-append}
+pub use Rattle.std.proofs.lemmas.List.Sums.{fold-append, fold_more, sum_by-append}
 pub use Rattle.std.proofs.lemmas.Option.{get_or_from_slice_get, same_Some, slice_get-get_or, slice_get_cases, slice_get_read, slice_get_within}
 pub use Rattle.std.proofs.lemmas.Result.{IfErr-at_err, IfErr-weaker, IfOk-at_ok, IfOk-weaker, err_from_is_err_and}
 pub use Rattle.std.specs.Bool.{then_some}
@@ -75,7 +75,7 @@ pub use Rattle.ubi_files.specs.Disk.{AllStay, Files, Holds, IsKept, IsLeft, IsTe
 pub use Rattle.ubi_files.specs.Late.{contents_of}
 pub use Rattle.ubi_files.specs.Lines.{file_line, refused_line}
 pub use Rattle.ubi_files.specs.Numbers.{sizes_of}
-pub use Rattle.ubi_files.specs.OverFile.{OfFile, bad_limit, cannot_read, file, image, no_file, places, unfit, unfit_whole, unreadable, whole}
+pub use Rattle.ubi_files.specs.OverFile.{IsUnread, OfFile, bad_limit, cannot_read, file, image, no_file, places, unfit, unfit_whole, unreadable, whole}
 pub use Rattle.ubi_files.specs.Row.{row_bytes}
 pub use Rattle.ubi_files.specs.Views.{pages_of}
 pub use Rattle.ubi_files.specs.declared.dump.Dump.{Dump}
@@ -112,31 +112,35 @@ pub use Rattle.ubi_volume.specs.declared.errors.ReadError.{ReadError}
 pub use Rattle.ubi_volume.specs.declared.places.Extent.{Extent}
 pub use Rattle.ubi_volume.specs.declared.places.PlaceContent.{PlaceContent}
 pub use Rattle.ubi_words.specs.Words.{most_number}
-pub use Rattle.ubi_writing.specs.Asks.{IsNoEdit, edit_for, edits_for, record_after, record_after_all, with_edit_for}
+pub use Rattle.ubi_writing.specs.Asks.{IsNoEdit, edit_for, edits_for, record_after, record_after_all, value_in, with_edit_for}
 pub use Rattle.ubi_writing.specs.Build.{AreBesideOut, AreGathered, ArePartsOf, Builds, BuildsParts, HaveImage, IsNoVolume, IsSized, IsUngathered, IsUnreadLine, Sized, built, faulty, gathered, image_path, image_paths, len_of, no_image, no_path, no_record, numbered_parts, section_part, ungathered}
 pub use Rattle.ubi_writing.specs.ByteNumbers.{at_most, byte_number, bytes_within, decimal_number, hexadecimal_value, unit_after, with_hexadecimal}
 pub use Rattle.ubi_writing.specs.Change.{Changes, ChangesFrom, CutMeans, HasPlan, IsChangeFault, not_blank_from, unplanned_from}
 pub use Rattle.ubi_writing.specs.Compose.{Composes, ComposesInto, ComposesOf, crowded, fits, unmade, unread}
+pub use Rattle.ubi_writing.specs.Contents.{Filled, IsFilled, IsUnfilled, all_asks, all_bytes, contents, named_asks, no_contents, with_contents}
 pub use Rattle.ubi_writing.specs.Extract.{Extracts, HasTextIn, HasVolumeText, IsExtractError, ReadsVolume, accepted, read, read_key, refused, refused_from, unread_from, wrote}
 pub use Rattle.ubi_writing.specs.Key.{number_in}
 pub use Rattle.ubi_writing.specs.Lines.{blocks_line, bytes_line}
 pub use Rattle.ubi_writing.specs.Normalise.{HasMeaning, IsNormaliseError, Normalises, wrote_nothing}
-pub use Rattle.ubi_writing.specs.Outputs.{OfText, WritesInto, WritesPlan, avoided, no_first_pages, no_last_image, no_list, no_pages, no_sizes, no_text, off_grid, on_grid, planned, text_limit, unwritten, with_list, written}
+pub use Rattle.ubi_writing.specs.Outputs.{OfText, OnGrid, WithList, WritesInto, WritesPlan, avoided, no_first_pages, no_last_image, no_list, no_pages, no_sizes, no_text, off_grid, on_grid, planned, text_limit, unwritten, with_list, written}
 pub use Rattle.ubi_writing.specs.Plan.{CutAccepts, IsCarryFault, cut_bytes, cut_text, plan_answer, plan_lines, step_line, steps_done}
 pub use Rattle.ubi_writing.specs.Rename.{CutIsNamed, HasRename, IsRenameFault, Renames, RenamesFrom, nameless_from}
 pub use Rattle.ubi_writing.specs.Unpack.{AreUnpacked, AreUnpackedUntil, IsNewFile, IsUnpacked, Listed, Unpacks, UnpacksOf, all_described, config_path, described, file_byte, file_path, folder_config, listed, no_config, no_folder, unpacked, unpacked_line, unpacked_lines, unpacked_status}
 unfoldable pub use Rattle.ubi_writing.specs.Unpack.{file_name}
-pub use Rattle.ubi_writing.specs.Update.{AreEditsOf, AreLinesOf, ArePlanned, CutIsEdited, IsNoEditOf, IsUpdateFault, UpdatesFrom, all_replaced, asked_words, no_edit_line, replaced_by, volume_line, written_lebs, written_lines}
+pub use Rattle.ubi_writing.specs.Update.{AreEditsOf, AreLinesOf, ArePlanned, CutIsEdited, HasUpdate, IsNoEditOf, IsUpdateFault, UpdatesFrom, all_replaced, asked_words, no_edit_line, replaced_by, volume_line, written_lebs, written_lines}
 pub use Rattle.ubi_writing.specs.Writes.{HasWork, writes}
 pub use Rattle.ubi_writing.specs.declared.asks.Ask.{Ask}
 pub use Rattle.ubi_writing.specs.declared.build.Answers.{Answers}
+pub use Rattle.ubi_writing.specs.declared.contents.Contents.{Contents}
 pub use Rattle.ubi_writing.specs.declared.orders.Plan.{Plan}
+pub use Rattle.ubi_writing.specs.declared.orders.Update.{Update}
 pub use Rattle.ubi_writing.specs.declared.unpack.VolumeFile.{VolumeFile}
 pub use Rattle.ubi_writing.specs.declared.volume_key.VolumeKey.{VolumeKey}
 pub use Rattle.ubi_writing.specs.inner.Built.{AreAnswers, IsNotBegun, IsToldOf}
 pub use Rattle.ubi_writing.specs.inner.Editing.{AreNoEdits}
 pub use Rattle.ubi_writing.specs.inner.Extracting.{HasFirst, IsExtractFault}
+pub use Rattle.ubi_writing.specs.inner.Filling.{IsFilledBy}
 pub use Rattle.ubi_writing.specs.inner.Folder.{AreFilesOf, Ends, IsFileOf, config_in}
 pub use Rattle.ubi_writing.specs.inner.Gathering.{AreSoFar, AreUnread, IsFoundFile, IsSectionPart, as_list}
-pub use Rattle.ubi_writing.specs.inner.Planning.{AreCut, HasFile, IsCutAfter, done, refused_file}
+pub use Rattle.ubi_writing.specs.inner.Planning.{AreCut, HasFile, IsCutAfter, NamesNoBlocks, TheseStay, done, refused_file}
 pub use Rattle.ubi_writing.specs.inner.Replaced.{FinishesAtOnce, Replaces, both_written, not_replaced, output_unwritten, pages_unwritten, replaced, undone}

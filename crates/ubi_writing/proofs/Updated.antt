@@ -1,5 +1,5 @@
 -- What an update of a source answers: what its file means.
-use Rattle.ubi_writing.proofs.Prelude.{◌≡◌, ℕ, ◌++◌, inl, inr, Global, Keeps-refl, List, Vec, sym, take, subst, IfErr, IfOk, OnOk, Option, Result, Ok, Err, Sizes, image_of, Agreed, Narrows, Source, WhereHeld, All, Wrote, Avoided, programmed, Step, turn, Gives, says, AreCut, IsCarryFault, cut_text, plan_lines, steps_done, Outcome, ToolError, avoiding, SurvivesCommit, edited_in, all_asked, table_pages, ArePlannedSteps, AreUpdateSteps, IsUpdateErrorIn, UpdateError, AreNoEdits, Edit, of_blocks, records_of, AreEditsOf, AreLinesOf, ArePlanned, CutIsEdited, IsUpdateFault, UpdatesFrom, Ask}
+use Rattle.ubi_writing.proofs.Prelude.{not_both, ◌≡◌, ℕ, ◌++◌, inl, inr, Global, Keeps-refl, List, Vec, sym, take, subst, IfErr, IfOk, OnOk, Option, Result, Ok, Err, Sizes, image_of, Agreed, Narrows, Source, WhereHeld, All, Wrote, Avoided, programmed, Step, turn, Gives, says, AreCut, IsCarryFault, cut_text, plan_lines, steps_done, Outcome, ToolError, avoiding, SurvivesCommit, edited_in, all_asked, table_pages, ArePlannedSteps, AreUpdateSteps, IsUpdateErrorIn, UpdateError, AreNoEdits, Edit, of_blocks, records_of, AreEditsOf, AreLinesOf, ArePlanned, CutIsEdited, IsUpdateFault, UpdatesFrom, Ask, HasUpdate}
 use Rattle.ubi_writing.specs.inner.Editing.{IsToldOf}
 use Rattle.ubi_writing.specs.declared.update.NoEdits.TheVariants as no_edits
 use Rattle.ubi_writing.specs.Update as update
@@ -61,3 +61,14 @@ module _ (av : Avoided) (asks : List Ask) (contents : List ℕ) (stop : Option �
       → (r : Result Outcome ToolError) → IfOk r (IsToldOf asks e) → IfOk r (UpdatesFrom av asks contents stop s k agrees pages old old)
   unplanned_told k agrees pages old es e are cause (Ok o) (line, is, gives) = update.unplanned_from es e line are cause is gives (Keeps-refl _)
   unplanned_told k agrees pages old es e are cause (Err x) h = tt
+
+  -- work that was done had a plan
+  pub edits_done : (k : Source) (agrees : Agreed) (pages : List ℕ) (old now : Option (List ℕ)) (answer : Result Outcome ToolError)
+      → IfOk answer (UpdatesFrom av asks contents stop s k agrees pages old now)
+      → IfOk answer (λ o. o.status ≡ 0 → HasUpdate av asks contents s k agrees)
+  edits_done k agrees pages old now (Ok o) (update.planned_from es steps lines plan told said are wrote cut) = λ zero. (es, steps, plan)
+  edits_done k agrees pages old now (Ok o) (update.refused_from c cause said kept) = λ zero. absurd (not_both o zero said.status)
+  edits_done k agrees pages old now (Ok o) (update.unasked_from line none said kept) = λ zero. absurd (not_both o zero said.status)
+  edits_done k agrees pages old now (Ok o) (update.unplanned_from es e line are cause is said kept) =
+      λ zero. absurd (not_both o zero said.status)
+  edits_done k agrees pages old now (Err e) h = tt

@@ -1,4 +1,4 @@
--- What `update` is asked of the volumes of an image, and the edits that stand for it.
+-- What is asked of the volumes of an image by their names, and the edits that stand for it.
 use Rattle.std.specs.Prelude.{◌≡◌, ℕ, ◌==◌, ◌&&◌, Bool, if◌then◌else◌, ◌++◌, List, [], ◌∷◌, None, Option, Some, fold, min, option_and_then, option_map, slice_get, take}
 use Rattle.std.specs.FinMap.{get}
 use Rattle.std.specs.Int.{div_ceil}
@@ -35,7 +35,7 @@ abbrev pub name_of : Ask → List ℕ
 name_of (ask.Rename word) = name_in word.now
 name_of (ask.Resize word) = name_in word.now
 name_of (ask.Remove word) = word.now
-name_of (ask.Write word start len) = name_in word.now
+name_of (ask.Contents word start len) = name_in word.now
 
 -- the number of the volume that a word names
 abbrev pub named_by : Records → List ℕ → Option ℕ
@@ -61,7 +61,7 @@ abbrev pub edit_of : Sizes → List Edit → ℕ → VolumeRecord → Ask → Op
 edit_of s before id r (ask.Rename word) = option_map (edit.Rename id) (shown_name (value_in word.now))
 edit_of s before id r (ask.Resize word) = option_map (λ n. edit.Resize id (lebs_for s r n)) (bytes_within most_bytes (value_in word.now))
 edit_of s before id r (ask.Remove word) = Some (edit.Remove id)
-edit_of s before id r (ask.Write word start len) =
+edit_of s before id r (ask.Contents word start len) =
     Some (edit.Replace id (record { entry = record_after_all id r before; start = start; len = len }))
 
 -- the edit that is asked for, by the edits before it; there is none if the name is that of no volume, or the value

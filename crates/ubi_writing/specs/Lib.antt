@@ -3,6 +3,7 @@ pub mod Build
 pub mod ByteNumbers
 pub mod Change
 pub mod Compose
+pub mod Contents
 pub mod Extract
 pub mod Key
 pub mod Lines

@@ -133,8 +133,12 @@ pub record ArePlanned (av : Avoided) (asks : List Ask) (contents : List ℕ) (s 
   pub asked : WhereHeld agrees (λ bytes. AreEditsOf (image_of s bytes) asks es)
   pub plan : ArePlannedSteps s k agrees av contents es steps
 
+-- something is planned for what is asked
+abbrev pub HasUpdate : Avoided → List Ask → List ℕ → Sizes → Source → Agreed → Type 0
+HasUpdate av asks contents s k agrees = (es : List Edit) × (steps : List Step) × ArePlanned av asks contents s k agrees es steps
+
 module _ (av : Avoided) (asks : List Ask) (contents : List ℕ) (stop : Option ℕ) (s : Sizes) (k : Source) (agrees : Agreed) where
-  -- what the command answers for a source: the lines of the volumes that are written, and of a plan that avoids some eraseblocks, with
+  -- what is answered for a source: the lines of the volumes that are written, and of a plan that avoids some eraseblocks, with
   -- the pages that the steps done program; and the writer received what the file holds, whatever the source may hold. Or the line of an
   -- image that is refused, of what stands for no edit, or of why nothing is planned, and the writer received nothing
   pub data UpdatesFrom (pages : List ℕ) (old now : Option (List ℕ)) : Outcome → Type 0 where

@@ -6,6 +6,7 @@ use Rattle.ubi_writing.specs.Change.{ChangesFrom, HasPlan}
 use Rattle.ubi_writing.specs.Extract.{ExtractsOf, HasTextIn}
 use Rattle.ubi_writing.specs.Normalise.{HasMeaning, NormalisesOf}
 use Rattle.ubi_writing.specs.Rename.{HasRename, RenamesFrom}
+use Rattle.ubi_writing.specs.Update.{HasUpdate, UpdatesFrom}
 use Rattle.ubi_files.specs.declared.outcome.Outcome.{Outcome}
 use Rattle.ubi_writing.specs.declared.writers.Writing.{Writing}
 use Rattle.ubi_writing.specs.declared.writers.Writing.TheVariants as writing
@@ -16,6 +17,8 @@ writes writing.Normalise s k agrees pages = NormalisesOf s k agrees
 writes (writing.Extract key) s k agrees pages = ExtractsOf key s k agrees
 writes (writing.Change new kept stop) s k agrees pages = ChangesFrom kept.now new.id new.lnum new.bytes.now stop s k agrees pages
 writes (writing.Rename id word kept stop) s k agrees pages = RenamesFrom kept.now id word.now stop s k agrees pages
+writes (writing.Update asked kept stop) s k agrees pages =
+    UpdatesFrom kept.now asked.asks.now asked.contents.now stop s k agrees pages
 
 -- whether a command may give its image other bytes: it has a use for that
 abbrev pub may_replace : Writing → Bool
@@ -28,3 +31,4 @@ HasWork writing.Normalise s k agrees = HasMeaning s agrees
 HasWork (writing.Extract key) s k agrees = HasTextIn key s agrees
 HasWork (writing.Change new kept stop) s k agrees = HasPlan kept.now new.id new.lnum new.bytes.now s k agrees
 HasWork (writing.Rename id word kept stop) s k agrees = HasRename kept.now id word.now s k agrees
+HasWork (writing.Update asked kept stop) s k agrees = HasUpdate kept.now asked.asks.now asked.contents.now s k agrees

@@ -3,6 +3,7 @@ pub mod Asking
 pub mod Built
 pub mod Editing
 pub mod Extracting
+pub mod Filling
 pub mod Folder
 pub mod Gathering
 pub mod Planning

@@ -1,4 +1,4 @@
-//! What `update` is asked of the volumes of an image, and the edits that stand for it.
+//! What is asked of the volumes of an image by their names, and the edits that stand for it.
 
 ghost use Rattle.std.specs.Prelude.{◌≡◌, ◌++◌, ◌∷◌, [], IfErr, IfOk, None, OnOk, Some};
 ghost use Rattle.ubi_media.specs.Record.{rec_fault};
@@ -29,7 +29,7 @@ pub enum Ask<'a> {
     Remove(&'a str),
     /// It gets other contents: the place in the source of contents at which they begin, and how many bytes they are. The value is the
     /// path of their file.
-    Write(&'a str, u64, u64),
+    Contents(&'a str, u64, u64),
 }
 
 impl<'a> Ask<'a> {
@@ -38,7 +38,7 @@ impl<'a> Ask<'a> {
         ensures { result.now ≡ name_of self.now }
     {
         match self {
-            Ask::Rename(word) | Ask::Resize(word) | Ask::Write(word, _, _) => parts_of(word).0,
+            Ask::Rename(word) | Ask::Resize(word) | Ask::Contents(word, _, _) => parts_of(word).0,
             Ask::Remove(word) => word,
         }
     }
@@ -129,7 +129,7 @@ fn edit_of(
             None => Ok(None),
         },
         Ask::Remove(_) => Ok(Some(Edit::Remove(id))),
-        Ask::Write(_, start, len) => {
+        Ask::Contents(_, start, len) => {
             let volume = NewVolume {
                 entry: record_after_all(*entry, id, before),
                 start: *start,

@@ -1,5 +1,5 @@
-//! The commands that write, over files: `extract`, `normalise`, `change` and `rename` of an image ([`Writing`]), `unpack`, `compose` and
-//! `build`. Below them each command is a function over a source of an image's bytes, or over bytes in memory.
+//! The commands that write, over files: `extract`, `normalise`, `change`, `rename` and `update` of an image ([`Writing`]), `unpack`,
+//! `compose` and `build`. Below them each command is a function over a source of an image's bytes, or over bytes in memory.
 #![tactic(auto)]
 
 mod asks;
@@ -7,6 +7,7 @@ mod build;
 mod byte_numbers;
 mod change;
 mod compose;
+mod contents;
 mod extract;
 mod folder_config;
 mod gathered;
@@ -30,8 +31,8 @@ pub use compose::{compose_file, run_compose};
 pub use extract::run_extract;
 pub use lines::blocks_line;
 pub use normalise::run_normalise;
-pub use orders::{Change, Extract, NewImage, Plan, Rename};
-pub use planners::{change_file, rename_file};
+pub use orders::{Change, Extract, NewImage, Plan, Rename, Update};
+pub use planners::{change_file, rename_file, update_file};
 pub use rename::{run_rename, run_rename_from};
 pub use unpack::unpack_file;
 pub use update::{AskedEdits, run_update_from};

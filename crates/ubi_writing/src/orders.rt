@@ -61,3 +61,19 @@ pub struct Rename<'a> {
     /// The new name, in the form in which names are printed.
     pub name: &'a str,
 }
+
+/// Edits of whole volumes, in one commit. Each is a word that begins with the name that the volume has in the image, in the form in which
+/// names are printed. They are done in this order: names, sizes, removals, contents.
+#[derive(Clone, Copy)]
+pub struct Update<'a> {
+    /// The files and the steps.
+    pub plan: Plan<'a>,
+    /// Volumes that get other names: words `NAME=NEW`, where NEW is in the same form.
+    pub names: &'a [&'a str],
+    /// Volumes that get other sizes: words `NAME=SIZE`, where SIZE is the number of bytes that the volume has to hold.
+    pub sizes: &'a [&'a str],
+    /// The names of volumes that are removed.
+    pub removals: &'a [&'a str],
+    /// Volumes that get other contents: words `NAME=FILE`, where FILE is the path of the file that holds them.
+    pub contents: &'a [&'a str],
+}

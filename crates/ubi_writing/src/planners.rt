@@ -1,7 +1,7 @@
 //! The commands that plan steps, over files: the image after the steps, and the pages that they program.
 
 ghost use Rattle.std.specs.Option.{ForSome};
-ghost use Rattle.std.specs.Prelude.{◌≡◌, ◌≢◌, ◌⊎◌, ◌%◌, IfOk, IfSome, IsFalse, IsTrue, None, OnErr, Some, codes, true};
+ghost use Rattle.std.specs.Prelude.{◌≡◌, ◌≢◌, ◌⊎◌, ◌%◌, All, IfErr, IfOk, IfSome, IsFalse, IsTrue, None, OnErr, Some, codes, true};
 ghost use Rattle.ubi_writing.specs.Change.{ChangesFrom, HasPlan};
 ghost use Rattle.ubi_files.specs.Disk.{AllStay, Files, OthersStay, OthersStayBeside, Receives, Stays};
 ghost use Rattle.ubi_files.specs.Answer.{Gives, says};
@@ -15,10 +15,17 @@ ghost use Rattle.ubi_dumps.specs.Ended.{Works};
 ghost use Rattle.ubi_writing.specs.inner.Replaced.{FinishesAtOnce};
 ghost use Rattle.ubi_writing.specs.Writes.{HasWork, writes};
 ghost use Rattle.ubi_files.specs.Lines.{file_line};
+ghost use Rattle.ubi_files.specs.Told.{Tells};
+ghost use Rattle.ubi_writing.specs.Asks.{value_in};
+ghost use Rattle.ubi_writing.specs.Contents.{OfContents, all_asks, all_bytes};
+ghost use Rattle.ubi_writing.specs.Update.{HasUpdate, UpdatesFrom};
+ghost use Rattle.ubi_writing.specs.inner.Planning.{NamesNoBlocks, TheseStay};
 ghost use Rattle.ubi_scan.specs.Source.{Narrows};
 
 use crate::change::NewBytes;
-use crate::orders::{Change, Plan, Rename};
+use crate::contents::load_contents;
+use crate::orders::{Change, Plan, Rename, Update};
+use crate::update::AskedEdits;
 use crate::writers::{Way, Writing, replaced, write_opened};
 use std::alloc::{AllocError, Global};
 use std::marker::Brand;
@@ -26,7 +33,7 @@ use ubi_change::Avoided;
 use ubi_dumps::{Opening, Output, Paths, opening_of, unwritten_line, write_bytes};
 use ubi_files::{
     DONE, Disk, Dump, DumpSource, FAILED, Frame, HeldFile, OpenImage, Outcome, Seen, Target,
-    ToolError, frame_of, load, nothing, open_beside, put_number, put_word, unread_line,
+    ToolError, Unread, frame_of, load, nothing, open_beside, put_number, put_word, unread_line,
 };
 use ubi_media::Geometry;
 use ubi_scan::{BlockSource, MemorySource, PlacedFile};
@@ -50,18 +57,28 @@ fn lacks_list<D: Disk + Eprint>(disk: &D, dump: &Dump<'_>, image: &str) -> bool
     lacks
 }
 
+/// The first of the files that a plan has read, beside the image, that may be the one at a path.
+fn read_at<'a, D: Disk>(disk: &D, reads: &[&'a str], path: &str) -> Option<&'a str>
+    ensures { result ≡ None → All (λ f. f.now ≢ path.now) reads.now }
+{
+    for read in reads {
+        if disk.may_be_one(read, path) {
+            return Some(read);
+        }
+    }
+    None
+}
+
 /// Whether the pages may be written to a path: it may not be a file that a plan has read or written.
-fn may_write_pages<D: Disk>(disk: &D, plan: &Plan<'_>, from: Option<&str>, pages: &str) -> bool
+fn may_write_pages<D: Disk>(disk: &D, plan: &Plan<'_>, reads: &[&str], pages: &str) -> bool
     ensures out { result ≡ true → pages.now ≢ plan.now.paths.out.now }
     ensures image { result ≡ true → pages.now ≢ plan.now.paths.image.now }
-    ensures from { result ≡ true → ForSome from.entry (λ f. pages.now ≢ f.now) }
+    ensures reads { result ≡ true → All (λ f. f.now ≢ pages.now) reads.now }
 {
     let Paths { image, out } = plan.paths;
-    let is_from = match from {
-        Some(from) => disk.may_be_one(from, pages),
-        None => false,
-    };
-    !is_from && !disk.may_be_one(image, pages) && !disk.may_be_one(out, pages)
+    read_at(disk, reads, pages).is_none()
+        && !disk.may_be_one(image, pages)
+        && !disk.may_be_one(out, pages)
 }
 
 /// How the output of a plan is opened, which may be the image; not at all if it could be another file that was read for the plan.
@@ -69,19 +86,19 @@ fn opening_for<D: Disk + Eprint>(
     disk: &D,
     dump: &Dump<'_>,
     plan: &Plan<'_>,
-    from: Option<&str>,
+    reads: &[&str],
 ) -> Opening
     ensures late { result ≡ Opening.Late → plan.now.paths.image.now ≢ plan.now.paths.out.now }
     ensures all { result ≡ Opening.AtOnce → ReadsAll (D.files disk.now) dump.now plan.now.paths.image.now }
-    ensures from { result ≢ Opening.Never → ForSome from.entry (λ f. f.now ≢ plan.now.paths.out.now) }
+    ensures reads { result ≢ Opening.Never → All (λ f. f.now ≢ plan.now.paths.out.now) reads.now }
 {
     let out = plan.paths.out;
-    match from {
-        Some(from) if disk.may_be_one(from, out) => {
-            let _ = disk.eprintln(format_args!("{out}: it may be {from}, which is read"));
+    match read_at(disk, reads, out) {
+        Some(read) => {
+            let _ = disk.eprintln(format_args!("{out}: it may be {read}, which is read"));
             Opening::Never
         }
-        _ => opening_of(disk, dump, &plan.paths, true),
+        None => opening_of(disk, dump, &plan.paths, true),
     }
 }
 
@@ -90,7 +107,7 @@ fn opening_for<D: Disk + Eprint>(
 fn put_pages<D: Disk + Eprint>(
     disk: &mut D,
     plan: &Plan<'_>,
-    from: Option<&str>,
+    reads: &[&str],
     pages: &[u8],
     output: Output<'_>,
 ) -> bool
@@ -99,10 +116,10 @@ fn put_pages<D: Disk + Eprint>(
     ensures others { OthersStay (D.files disk.old) (D.files disk.new) output.entry.path.now }
     ensures out { Stays (D.files disk.old) (D.files disk.new) plan.now.paths.out.now }
     ensures image { Stays (D.files disk.old) (D.files disk.new) plan.now.paths.image.now }
-    ensures from { ForSome from.entry (λ f. Stays (D.files disk.old) (D.files disk.new) f.now) }
+    ensures reads { TheseStay (D.files disk.old) (D.files disk.new) reads.now }
 {
     let path = output.path;
-    if !may_write_pages(disk, plan, from, path) {
+    if !may_write_pages(disk, plan, reads, path) {
         let _ = disk.eprintln(format_args!("{path}: it may be a file that is read or written"));
         return false;
     }
@@ -115,7 +132,7 @@ fn write_pages<D: Disk + Eprint>(
     disk: &mut D,
     outcome: Outcome,
     plan: &Plan<'_>,
-    from: Option<&str>,
+    reads: &[&str],
     pages: &[u8],
     output: Output<'_>,
     unwritten: Outcome,
@@ -124,9 +141,9 @@ fn write_pages<D: Disk + Eprint>(
     ensures others { OthersStay (D.files disk.old) (D.files disk.new) output.entry.path.now }
     ensures out { Stays (D.files disk.old) (D.files disk.new) plan.now.paths.out.now }
     ensures image { Stays (D.files disk.old) (D.files disk.new) plan.now.paths.image.now }
-    ensures from { ForSome from.entry (λ f. Stays (D.files disk.old) (D.files disk.new) f.now) }
+    ensures reads { TheseStay (D.files disk.old) (D.files disk.new) reads.now }
 {
-    if put_pages(disk, plan, from, pages, output) {
+    if put_pages(disk, plan, reads, pages, output) {
         outcome
     } else {
         unwritten
@@ -134,22 +151,22 @@ fn write_pages<D: Disk + Eprint>(
 }
 
 /// Does the work of a plan over an image that was opened: writes the image after its steps, if that may be opened, and then the pages, if
-/// there is a path for them. `from` is the file that was read for it, if one was.
+/// there is a path for them. `reads` has the paths of the other files that were read for it.
 fn plan_late<D: Disk + Eprint>(
     disk: &mut D,
     alloc: Global,
     opened: OpenImage<DumpSource<'_, D::Placed>>,
     plan: &Plan<'_>,
-    from: Option<&str>,
+    reads: &[&str],
     may_open: bool,
     command: &Writing<'_>,
 ) -> Result<Outcome, AllocError>
     requires image { may_open ≡ true → plan.now.paths.image.now ≢ plan.now.paths.out.now }
-    requires from { may_open ≡ true → ForSome from (λ f. f.now ≢ plan.now.paths.out.now) }
+    requires reads { may_open ≡ true → All (λ f. f.now ≢ plan.now.paths.out.now) reads.now }
     ensures answer { (d : Files) (dump : Dump) → IsOpened (λ s. IsUnreadOf (seen dump d) plan.now.paths.image.now (⟦<Seen<'static, D::Placed> as PlacedFile>⟧.bytes s.file) s.failures) d plan.now.paths.image.now dump opened.entry → IfOk result (OfFile d dump plan.now.paths.image.now (λ s k agrees. WritesPlan plan.now.paths.out.now plan.now.pages (D.files disk.old) (D.files disk.new) (writes command.now s k agrees) (HasWork command.now s k agrees))) }
     ensures stays { PlanStays (D.files disk.old) (D.files disk.new) plan.now }
     ensures image { Stays (D.files disk.old) (D.files disk.new) plan.now.paths.image.now }
-    ensures from { ForSome from.entry (λ f. Stays (D.files disk.old) (D.files disk.new) f.now) }
+    ensures reads { TheseStay (D.files disk.old) (D.files disk.new) reads.now }
     ensures memory { OnErr result (AllStay (D.files disk.old) (D.files disk.new)) }
 {
     let way = Way {
@@ -169,7 +186,7 @@ fn plan_late<D: Disk + Eprint>(
     }
     let output = Output { path };
     let pages = pages.as_slice();
-    Ok(write_pages(disk, outcome, plan, from, pages, output, unwritten))
+    Ok(write_pages(disk, outcome, plan, reads, pages, output, unwritten))
 }
 
 /// What is answered if a file of a plan fails. It is made before a file is written, so that nothing is if memory runs out.
@@ -206,7 +223,7 @@ fn finish_at_once<D: Disk + Eprint>(
     alloc: Global,
     outcome: Outcome,
     plan: &Plan<'_>,
-    from: Option<&str>,
+    reads: &[&str],
     pages: &[u8],
     bytes: &[u8],
     faults: PlanFaults,
@@ -214,12 +231,12 @@ fn finish_at_once<D: Disk + Eprint>(
     requires done { outcome.status ≡ 0 }
     requires unwritten { Gives faults.unwritten (says (file_line (codes "cannot write ") plan.now.paths.out.now) 1) }
     requires unpaged { ForSome plan.now.pages (λ path. Gives faults.unpaged (says (file_line (codes "cannot write ") path.now) 1)) }
-    requires from { ForSome from (λ f. f.now ≢ plan.now.paths.out.now) }
+    requires reads { All (λ f. f.now ≢ plan.now.paths.out.now) reads.now }
     ensures answer { FinishesAtOnce (D.files disk.old) (D.files disk.new) plan.now pages.now bytes.now outcome result }
     ensures others { OthersStayBeside (D.files disk.old) (D.files disk.new) plan.now.paths.out.now plan.now.pages }
     ensures kept { KeepsImage (D.files disk.old) (D.files disk.new) plan.now.paths.image.now result }
     ensures image { plan.now.paths.image.now ≢ plan.now.paths.out.now → Stays (D.files disk.old) (D.files disk.new) plan.now.paths.image.now }
-    ensures from { ForSome from.entry (λ f. Stays (D.files disk.old) (D.files disk.new) f.now) }
+    ensures reads { TheseStay (D.files disk.old) (D.files disk.new) reads.now }
 {
     let PlanFaults {
         unpaged,
@@ -230,7 +247,7 @@ fn finish_at_once<D: Disk + Eprint>(
     match plan.pages {
         None => replaced(disk, alloc, outcome, bytes, out, unwritten),
         Some(path) => {
-            if !put_pages(disk, plan, from, pages, Output { path }) {
+            if !put_pages(disk, plan, reads, pages, Output { path }) {
                 return unpaged;
             }
             replaced(disk, alloc, outcome, bytes, out, unwritten)
@@ -246,7 +263,7 @@ fn plan_at_once<D: Disk + Eprint, S: BlockSource, K: Target>(
     geometry: &Geometry,
     source: &mut S,
     plan: &Plan<'_>,
-    from: Option<&str>,
+    reads: &[&str],
     command: &Writing<'_>,
     faults: PlanFaults,
 ) -> Result<Outcome, AllocError>
@@ -254,12 +271,12 @@ fn plan_at_once<D: Disk + Eprint, S: BlockSource, K: Target>(
     requires unread { Gives faults.unread (says (file_line (codes "cannot read ") plan.now.paths.image.now) 1) }
     requires unwritten { Gives faults.unwritten (says (file_line (codes "cannot write ") plan.now.paths.out.now) 1) }
     requires unpaged { ForSome plan.now.pages (λ path. Gives faults.unpaged (says (file_line (codes "cannot write ") path.now) 1)) }
-    requires from { ForSome from (λ f. f.now ≢ plan.now.paths.out.now) }
+    requires reads { All (λ f. f.now ≢ plan.now.paths.out.now) reads.now }
     ensures narrows { Narrows (S.agrees source.old) (S.agrees source.new) }
     ensures answer { IfOk result (Works (S.known source.old) (S.known source.new) plan.now.paths.image.now (WritesPlan plan.now.paths.out.now plan.now.pages (D.files disk.old) (D.files disk.new) (writes command.now geometry.now (S.known source.old) (S.agrees source.new)) (HasWork command.now geometry.now (S.known source.old) (S.agrees source.new)))) }
     ensures stays { PlanStays (D.files disk.old) (D.files disk.new) plan.now }
     ensures kept { IfOk result (KeepsImage (D.files disk.old) (D.files disk.new) plan.now.paths.image.now) }
-    ensures from { ForSome from.entry (λ f. Stays (D.files disk.old) (D.files disk.new) f.now) }
+    ensures reads { TheseStay (D.files disk.old) (D.files disk.new) reads.now }
     ensures memory { OnErr result (AllStay (D.files disk.old) (D.files disk.new)) }
 {
     let mut held: HeldFile<K> = HeldFile::new(alloc);
@@ -275,7 +292,7 @@ fn plan_at_once<D: Disk + Eprint, S: BlockSource, K: Target>(
                 alloc,
                 outcome,
                 plan,
-                from,
+                reads,
                 pages,
                 held.bytes(),
                 faults,
@@ -294,19 +311,19 @@ fn plan_into<D: Disk + Eprint, S: BlockSource>(
     geometry: &Geometry,
     source: &mut S,
     plan: &Plan<'_>,
-    from: Option<&str>,
+    reads: &[&str],
     command: &Writing<'_>,
 ) -> Result<Outcome, AllocError>
-    requires { ForSome from (λ f. f.now ≢ plan.now.paths.out.now) }
+    requires { All (λ f. f.now ≢ plan.now.paths.out.now) reads.now }
     ensures narrows { Narrows (S.agrees source.old) (S.agrees source.new) }
     ensures answer { IfOk result (Works (S.known source.old) (S.known source.new) plan.now.paths.image.now (WritesPlan plan.now.paths.out.now plan.now.pages (D.files disk.old) (D.files disk.new) (writes command.now geometry.now (S.known source.old) (S.agrees source.new)) (HasWork command.now geometry.now (S.known source.old) (S.agrees source.new)))) }
     ensures stays { PlanStays (D.files disk.old) (D.files disk.new) plan.now }
     ensures kept { IfOk result (KeepsImage (D.files disk.old) (D.files disk.new) plan.now.paths.image.now) }
-    ensures from { ForSome from.entry (λ f. Stays (D.files disk.old) (D.files disk.new) f.now) }
+    ensures reads { TheseStay (D.files disk.old) (D.files disk.new) reads.now }
     ensures memory { OnErr result (AllStay (D.files disk.old) (D.files disk.new)) }
 {
     let faults = plan_faults(alloc, plan)?;
-    plan_at_once::<D, S, Brand>(disk, alloc, geometry, source, plan, from, command, faults)
+    plan_at_once::<D, S, Brand>(disk, alloc, geometry, source, plan, reads, command, faults)
 }
 
 /// Does the work of a plan over an image that was opened, whose output gets all of its bytes at once, after the pages.
@@ -315,14 +332,14 @@ fn plan_over<D: Disk + Eprint>(
     alloc: Global,
     opened: OpenImage<DumpSource<'_, D::Placed>>,
     plan: &Plan<'_>,
-    from: Option<&str>,
+    reads: &[&str],
     command: &Writing<'_>,
 ) -> Result<Outcome, AllocError>
-    requires { ForSome from (λ f. f.now ≢ plan.now.paths.out.now) }
+    requires { All (λ f. f.now ≢ plan.now.paths.out.now) reads.now }
     ensures answer { (d : Files) (dump : Dump) → IsOpened (λ s. IsUnreadOf (seen dump d) plan.now.paths.image.now (⟦<Seen<'static, D::Placed> as PlacedFile>⟧.bytes s.file) s.failures) d plan.now.paths.image.now dump opened.entry → IfOk result (OfFile d dump plan.now.paths.image.now (λ s k agrees. WritesPlan plan.now.paths.out.now plan.now.pages (D.files disk.old) (D.files disk.new) (writes command.now s k agrees) (HasWork command.now s k agrees))) }
     ensures stays { PlanStays (D.files disk.old) (D.files disk.new) plan.now }
     ensures kept { IfOk result (KeepsImage (D.files disk.old) (D.files disk.new) plan.now.paths.image.now) }
-    ensures from { ForSome from.entry (λ f. Stays (D.files disk.old) (D.files disk.new) f.now) }
+    ensures reads { TheseStay (D.files disk.old) (D.files disk.new) reads.now }
     ensures memory { OnErr result (AllStay (D.files disk.old) (D.files disk.new)) }
 {
     let image = plan.paths.image;
@@ -330,14 +347,14 @@ fn plan_over<D: Disk + Eprint>(
         OpenImage::AtPlaces(mut file) => {
             let geometry = file.geometry;
             let source = &mut file.source;
-            let work = plan_into(disk, alloc, &geometry, source, plan, from, command);
+            let work = plan_into(disk, alloc, &geometry, source, plan, reads, command);
             command.remark(disk, alloc, &geometry, source, image, &work);
             work
         }
         OpenImage::Whole(file) => {
             let geometry = file.geometry;
             let mut source = MemorySource::new(file.bytes.as_slice());
-            let work = plan_into(disk, alloc, &geometry, &mut source, plan, from, command);
+            let work = plan_into(disk, alloc, &geometry, &mut source, plan, reads, command);
             command.remark(disk, alloc, &geometry, &mut source, image, &work);
             work
         }
@@ -345,28 +362,28 @@ fn plan_over<D: Disk + Eprint>(
 }
 
 /// Does the work of a plan over the image of a dump that was opened: writes the image after its steps, and the pages, if there is a path
-/// for them. If the output may be the image, it gets all of its bytes at once, after the pages. `from` is the file that was read for the
-/// plan, if one was.
+/// for them. If the output may be the image, it gets all of its bytes at once, after the pages. `reads` has the paths of the other files
+/// that were read for the plan.
 fn write_plan<D: Disk + Eprint>(
     disk: &mut D,
     alloc: Global,
     asked: &Dump<'_>,
     opened: OpenImage<DumpSource<'_, D::Placed>>,
     plan: &Plan<'_>,
-    from: Option<&str>,
+    reads: &[&str],
     command: &Writing<'_>,
 ) -> Result<Outcome, AllocError>
     ensures answer { (d : Files) (dump : Dump) → IsOpened (λ s. IsUnreadOf (seen dump d) plan.now.paths.image.now (⟦<Seen<'static, D::Placed> as PlacedFile>⟧.bytes s.file) s.failures) d plan.now.paths.image.now dump opened.entry → IfOk result (OfFile d dump plan.now.paths.image.now (λ s k agrees. WritesPlan plan.now.paths.out.now plan.now.pages (D.files disk.old) (D.files disk.new) (writes command.now s k agrees) (HasWork command.now s k agrees))) }
     ensures stays { PlanStays (D.files disk.old) (D.files disk.new) plan.now }
     ensures image { IfOk result (KeepsImage (D.files disk.old) (D.files disk.new) plan.now.paths.image.now) }
     ensures part { KeepsPart (D.files disk.old) (D.files disk.new) asked.now plan.now.paths.image.now }
-    ensures from { ForSome from.entry (λ f. Stays (D.files disk.old) (D.files disk.new) f.now) }
+    ensures reads { TheseStay (D.files disk.old) (D.files disk.new) reads.now }
     ensures memory { OnErr result (AllStay (D.files disk.old) (D.files disk.new)) }
 {
-    match opening_for(disk, asked, plan, from) {
-        Opening::AtOnce => plan_over(disk, alloc, opened, plan, from, command),
-        Opening::Late => plan_late(disk, alloc, opened, plan, from, true, command),
-        Opening::Never => plan_late(disk, alloc, opened, plan, from, false, command),
+    match opening_for(disk, asked, plan, reads) {
+        Opening::AtOnce => plan_over(disk, alloc, opened, plan, reads, command),
+        Opening::Late => plan_late(disk, alloc, opened, plan, reads, true, command),
+        Opening::Never => plan_late(disk, alloc, opened, plan, reads, false, command),
     }
 }
 
@@ -394,6 +411,32 @@ fn off_grid(alloc: Global, frame: &Frame<'_>) -> Result<Option<Outcome>, AllocEr
     Ok(Some(Outcome::saying(start_line(alloc, raw, rest)?, FAILED)))
 }
 
+/// What is known of a dump before it is opened, if a plan can name its eraseblocks.
+///
+/// # Errors
+///
+/// What is answered if none can: nothing, for a device whose bad eraseblocks aren't listed; or the line of a limit that the numbers break,
+/// or of a part that doesn't begin with an eraseblock. Or that memory ran out.
+fn plan_frame<'a, D: Disk + Eprint>(
+    disk: &D,
+    alloc: Global,
+    dump: &Dump<'a>,
+    image: &str,
+) -> Result<Frame<'a>, Unread>
+    ensures dump { IfOk result (λ frame. frame.dump ≡ dump.now) }
+    ensures grid { IfOk result (λ _. IsTrue (begins_with_block dump.now)) }
+    ensures unplanned { IfErr result (Tells (NamesNoBlocks (D.files disk.now) dump.now image.now)) }
+{
+    if lacks_list(disk, dump, image) {
+        return Err(Unread::Told(nothing(alloc)));
+    }
+    let frame = frame_of(alloc, dump)?;
+    match off_grid(alloc, &frame)? {
+        Some(outcome) => Err(Unread::Told(outcome)),
+        None => Ok(frame),
+    }
+}
+
 /// Changes one file into another, with the bytes of a third, which is read before anything is written.
 pub fn change_file<D: Disk + Eprint>(
     disk: &mut D,
@@ -409,16 +452,10 @@ pub fn change_file<D: Disk + Eprint>(
     ensures memory { OnErr result (AllStay (D.files disk.old) (D.files disk.new)) }
 {
     let Paths { image, out } = asked.plan.paths;
-    if lacks_list(disk, dump, image) {
-        return Ok(nothing(alloc));
-    }
-    let frame = match frame_of(alloc, dump) {
+    let frame = match plan_frame(disk, alloc, dump, image) {
         Ok(frame) => frame,
-        Err(unread) => return unread.answer(),
+        Err(unplanned) => return unplanned.answer(),
     };
-    if let Some(outcome) = off_grid(alloc, &frame)? {
-        return Ok(outcome);
-    }
     let opened = match open_beside(disk, alloc, &frame, image, out) {
         Ok(opened) => opened,
         Err(unread) => return unread.answer(),
@@ -434,8 +471,8 @@ pub fn change_file<D: Disk + Eprint>(
         bytes: file.bytes.as_slice(),
     };
     let command = Writing::Change(new, &avoided, asked.plan.stop);
-    let from = Some(asked.from);
-    write_plan(disk, alloc, dump, opened, &asked.plan, from, &command)
+    let reads = [asked.from];
+    write_plan(disk, alloc, dump, opened, &asked.plan, &reads, &command)
 }
 
 /// Renames a volume of one file, and writes the result to another.
@@ -452,16 +489,10 @@ pub fn rename_file<D: Disk + Eprint>(
     ensures memory { OnErr result (AllStay (D.files disk.old) (D.files disk.new)) }
 {
     let Paths { image, out } = asked.plan.paths;
-    if lacks_list(disk, dump, image) {
-        return Ok(nothing(alloc));
-    }
-    let frame = match frame_of(alloc, dump) {
+    let frame = match plan_frame(disk, alloc, dump, image) {
         Ok(frame) => frame,
-        Err(unread) => return unread.answer(),
+        Err(unplanned) => return unplanned.answer(),
     };
-    if let Some(outcome) = off_grid(alloc, &frame)? {
-        return Ok(outcome);
-    }
     let opened = match open_beside(disk, alloc, &frame, image, out) {
         Ok(opened) => opened,
         Err(unread) => return unread.answer(),
@@ -469,5 +500,43 @@ pub fn rename_file<D: Disk + Eprint>(
     let avoided = Avoided::new(frame.marks.as_slice(), asked.plan.keeps_blank);
     let word = asked.name.as_bytes();
     let command = Writing::Rename(asked.id, word, &avoided, asked.plan.stop);
-    write_plan(disk, alloc, dump, opened, &asked.plan, None, &command)
+    write_plan(disk, alloc, dump, opened, &asked.plan, &[], &command)
+}
+
+/// Edits whole volumes of one file in one commit, and writes the result to another. What is to be their contents is read from further files
+/// before anything is written.
+pub fn update_file<D: Disk + Eprint>(
+    disk: &mut D,
+    alloc: Global,
+    dump: &Dump<'_>,
+    asked: &Update<'_>,
+) -> Result<Outcome, AllocError>
+    ensures answer { IfOk result (WithList (D.files disk.old) (D.files disk.new) dump.now.bad asked.now.plan.paths.image.now (OnGrid (D.files disk.old) (D.files disk.new) dump.now asked.now.plan.paths.image.now (OfFile (D.files disk.old) dump.now asked.now.plan.paths.image.now (λ s k agrees. OfContents (D.files disk.old) dump.now.numbers asked.now.contents.now (λ fs. WritesPlan asked.now.plan.paths.out.now asked.now.plan.pages (D.files disk.old) (D.files disk.new) (UpdatesFrom (avoided dump.now asked.now.plan) (all_asks asked.now fs) (all_bytes fs) asked.now.plan.stop s k agrees) (HasUpdate (avoided dump.now asked.now.plan) (all_asks asked.now fs) (all_bytes fs) s k agrees)))))) }
+    ensures stays { PlanStays (D.files disk.old) (D.files disk.new) asked.now.plan }
+    ensures image { IfOk result (KeepsImage (D.files disk.old) (D.files disk.new) asked.now.plan.paths.image.now) }
+    ensures part { KeepsPart (D.files disk.old) (D.files disk.new) dump.now asked.now.plan.paths.image.now }
+    ensures contents { All (λ word. Stays (D.files disk.old) (D.files disk.new) (value_in word.now)) asked.now.contents.now }
+    ensures memory { OnErr result (AllStay (D.files disk.old) (D.files disk.new)) }
+{
+    let Paths { image, out } = asked.plan.paths;
+    let frame = match plan_frame(disk, alloc, dump, image) {
+        Ok(frame) => frame,
+        Err(unplanned) => return unplanned.answer(),
+    };
+    let opened = match open_beside(disk, alloc, &frame, image, out) {
+        Ok(opened) => opened,
+        Err(unread) => return unread.answer(),
+    };
+    let contents = match load_contents(disk, alloc, dump.numbers, asked) {
+        Ok(contents) => contents,
+        Err(unread) => return unread.answer(),
+    };
+    let avoided = Avoided::new(frame.marks.as_slice(), asked.plan.keeps_blank);
+    let edits = AskedEdits {
+        asks: contents.asks.as_slice(),
+        contents: contents.bytes.as_slice(),
+    };
+    let command = Writing::Update(edits, &avoided, asked.plan.stop);
+    let reads = contents.paths.as_slice();
+    write_plan(disk, alloc, dump, opened, &asked.plan, reads, &command)
 }

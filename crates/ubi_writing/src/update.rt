@@ -1,4 +1,4 @@
-//! The command `update`: the plan of edits of whole volumes, and the image after its first steps.
+//! Edits of whole volumes that are asked for by name: their plan, and the image after its first steps.
 
 ghost use Rattle.std.specs.Prelude.{◌≡◌, ◌<◌, ◌++◌, [], IfErr, IfOk, IfSome, OnOk, Some, codes, length, slice_get};
 ghost use Rattle.ubi_scan.specs.Image.{image_of};
@@ -174,7 +174,7 @@ fn unfit_text(ask: &Ask<'_>) -> &'static str
 {
     match ask {
         Ask::Resize(_) => "U9 BadSize",
-        Ask::Rename(_) | Ask::Remove(_) | Ask::Write(..) => "N1 BadName",
+        Ask::Rename(_) | Ask::Remove(_) | Ask::Contents(..) => "N1 BadName",
     }
 }
 

@@ -25,6 +25,7 @@ use crate::change::{NewBytes, run_change_from};
 use crate::extract::run_extract_from;
 use crate::normalise::run_normalise;
 use crate::rename::run_rename_from;
+use crate::update::{AskedEdits, run_update_from};
 use crate::volume_key::VolumeKey;
 use std::alloc::{AllocError, Global};
 use std::io::Write;
@@ -52,6 +53,8 @@ pub enum Writing<'a> {
     Change(NewBytes<'a>, &'a Avoided<'a>, Option<u32>),
     /// `rename`: the image after the first steps of a rename of the volume with this number; the word shows its new name.
     Rename(u32, &'a [u8], &'a Avoided<'a>, Option<u32>),
+    /// `update`: the image after the first steps of these edits.
+    Update(AskedEdits<'a>, &'a Avoided<'a>, Option<u32>),
 }
 
 impl Writing<'_> {
@@ -61,7 +64,8 @@ impl Writing<'_> {
     {
         match self {
             Writing::Extract(_) => false,
-            Writing::Normalise | Writing::Change(..) | Writing::Rename(..) => true,
+            Writing::Normalise | Writing::Change(..) | Writing::Rename(..) | Writing::Update(..) =>
+                true,
         }
     }
 
@@ -95,6 +99,11 @@ impl Writing<'_> {
             Writing::Rename(id, word, avoided, stop) => run_rename_from(
                 alloc, geometry, source, avoided, *id, word, *stop, writer, pages,
             ),
+            Writing::Update(asked, avoided, stop) => {
+                run_update_from(
+                    alloc, geometry, source, avoided, asked, *stop, writer, pages,
+                )
+            }
         }
     }
 
@@ -115,7 +124,7 @@ impl Writing<'_> {
             Writing::Normalise | Writing::Extract(_) => {
                 remark_passed_over(rt, alloc, geometry, source, path);
             }
-            Writing::Change(..) | Writing::Rename(..) => {
+            Writing::Change(..) | Writing::Rename(..) | Writing::Update(..) => {
                 remark_anchor(rt, alloc, geometry, source, path);
             }
         }

@@ -1,12 +1,16 @@
 -- What a plan that is cut leaves, and a file that is written with it.
-use Rattle.std.specs.Prelude.{◌≡◌, ◌≢◌, ℕ, List, Some, length}
+use Rattle.std.specs.Borrow.{Bor}
+use Rattle.std.specs.Prelude.{◌≡◌, ◌≢◌, ℕ, All, List, Some, length}
 use Rattle.ubi_media.specs.Geometry.{Sizes}
 use Rattle.ubi_change.specs.Steps.{blocks_after}
 use Rattle.ubi_change.specs.declared.step.Step.{Step}
 use Rattle.ubi_scan.specs.Image.{Image, eraseblocks, image_of, of_blocks}
 use Rattle.ubi_scan.specs.Source.{Agreed, WhereHeld}
 use Rattle.ubi_files.specs.Answer.{Gives}
+use Rattle.ubi_files.specs.Disk.{Files, Stays}
+use Rattle.ubi_files.specs.declared.dump.Dump.{Dump}
 use Rattle.ubi_files.specs.declared.outcome.Outcome.{Outcome}
+use Rattle.ubi_writing.specs.Outputs.{OnGrid, WithList}
 use Rattle.ubi_writing.specs.Plan.{cut_bytes}
 
 -- an outcome, with these bytes as its file if the work was done
@@ -22,3 +26,11 @@ pub record IsCutAfter (image : Image) (steps : List Step) (k : ℕ) : Type 0 whe
 -- so are the bytes after the first k steps, whatever a source may hold
 abbrev pub AreCut : Sizes → Agreed → List Step → ℕ → Type 0
 AreCut s agrees steps k = WhereHeld agrees (λ bytes. IsCutAfter (image_of s bytes) steps k)
+
+-- what is answered if no plan can name the eraseblocks of a dump, whatever is asked, and no file is changed
+abbrev pub NamesNoBlocks : Files → Dump → List ℕ → Outcome → Type 0
+NamesNoBlocks d dump path = WithList d d dump.bad path (OnGrid d d dump path (λ o. ⊥))
+
+-- the files at these paths hold what they held
+abbrev pub TheseStay : Files → Files → List (Bor (List ℕ)) → Type 0
+TheseStay d e paths = All (λ path. Stays d e path.now) paths

@@ -1,6 +1,7 @@
 use Rattle.ubi_writing.proofs.Edited.{named_done, plan_done}
 use Rattle.ubi_writing.proofs.Extracted.{text_done, text_failed}
 use Rattle.ubi_writing.proofs.Normalised.{meant_done, meant_failed}
+use Rattle.ubi_writing.proofs.Updated.{edits_done}
 use Rattle.ubi_writing.proofs.writers.Writing.answer.Goals as goal
 
 pub returns-in-Normalise-clause-done : goal.returns-in-Normalise-clause-done
@@ -32,3 +33,10 @@ returns-in-Change-clause-answer g c = rw c.in-Change.is c.run_change_from.ensure
 
 pub returns-in-Rename-clause-answer : goal.returns-in-Rename-clause-answer
 returns-in-Rename-clause-answer g c = rw c.in-Rename.is c.run_rename_from.ensures.ok
+
+pub returns-in-Update-clause-done : goal.returns-in-Update-clause-done
+returns-in-Update-clause-done g c = rw c.in-Update.is
+    (edits_done _ _ _ _ _ (g.S.BlockSource.known c.args.source.now) _ _ _ _ c.run_update_from.result c.run_update_from.ensures.ok)
+
+pub returns-in-Update-clause-answer : goal.returns-in-Update-clause-answer
+returns-in-Update-clause-answer g c = rw c.in-Update.is c.run_update_from.ensures.ok
