@@ -3,7 +3,7 @@ _ubi_tool() {
     local word=${COMP_WORDS[COMP_CWORD]} words=
     COMPREPLY=()
     if [ "$COMP_CWORD" -eq 1 ]; then
-        mapfile -t COMPREPLY < <(compgen -W 'geometry list check show map extract unpack compose build normalise same diff change rename --help --version' -- "$word")
+        mapfile -t COMPREPLY < <(compgen -W 'geometry list check show map extract unpack compose build normalise same diff change rename update --help --version' -- "$word")
         return
     fi
     case ${COMP_WORDS[1]} in
@@ -21,6 +21,7 @@ _ubi_tool() {
         diff) words='--start --length --oob --bad --format --peb --page --vid --data --pebs --help' ;;
         change) words='--start --length --oob --bad --out --id --lnum --from --stop --blank --pages --peb --page --vid --data --pebs --help' ;;
         rename) words='--start --length --oob --bad --out --id --name --stop --blank --pages --peb --page --vid --data --pebs --help' ;;
+        update) words='--start --length --oob --bad --out --help' ;;
     esac
     case $word in
         -*) mapfile -t COMPREPLY < <(compgen -W "$words" -- "$word") ;;

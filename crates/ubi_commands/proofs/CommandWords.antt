@@ -1,6 +1,6 @@
 -- What the words of a command give.
-use Rattle.ubi_commands.proofs.Prelude.{◌≡◌, ◌∙◌, ◌<◌, ◌^◌, List, Some, ap, refl, subst, sym, ℕ, same_Some, Bor, Err, Ok, Result, is_some, ParsesUnsigned, digits_value, without_leading_plus, ReadsOne, first_value, one_text, one_of, rows_of, Found, first_value-rows, one_text-rows, HasNumber, HasText, IsOneOf, MayHaveNumber, gives_word, None, Option}
-use Rattle.std.proofs.Common.{option_map}
+use Rattle.ubi_commands.proofs.Prelude.{◌≡◌, ◌∙◌, ◌<◌, ◌^◌, List, Some, ap, refl, subst, sym, ℕ, same_Some, Bor, Err, Ok, Result, is_some, ParsesUnsigned, digits_value, without_leading_plus, ReadsOne, first_value, one_text, one_of, rows_of, Found, first_value-rows, one_text-rows, HasNumber, HasText, IsOneOf, MayHaveNumber, gives_word, None, Option, map, [], raw_values-rows, matched_of, raw_values, HasTexts}
+use Rattle.std.proofs.Common.{option_map, unwrap_or}
 
 -- a text that the matches give is one of the words
 pub text_given : (f : Found) (name : List ℕ) (text : Option (Bor (List ℕ)))
@@ -9,6 +9,14 @@ text_given f name None same = λ t has.
     let bad : None ≡ Some t.now = same ∙ first_value-rows f name ∙ has in
     cc
 text_given f name (Some s) same = sym (first_value-rows f name) ∙ sym same
+
+-- the texts that they give are those of the words
+pub texts_given : (f : Found) (name : List ℕ) (texts : Option (Bor (List (Bor (List ℕ))))) (none : Bor (List (Bor (List ℕ)))) → none.now ≡ []
+    → option_map (λ s. map (λ v. v.now) s.now) texts ≡ option_map raw_values (matched_of f name)
+    → HasTexts (rows_of f) name (unwrap_or texts none).now
+texts_given f name None none empty same =
+    ap (map (λ v. v.now)) empty ∙ ap (λ (o : Option (List (List ℕ))). unwrap_or o []) (same ∙ raw_values-rows f name)
+texts_given f name (Some s) none empty same = ap (λ (o : Option (List (List ℕ))). unwrap_or o []) (same ∙ raw_values-rows f name)
 
 -- whether they give one is whether the words do
 pub is_given : (f : Found) (name : List ℕ) (text : Option (Bor (List ℕ))) → option_map (λ s. s.now) text ≡ first_value f name

@@ -192,6 +192,7 @@ request_means named r asked = record {
         listed_asked (comparing_command how).name d at asks.0 name words is
     lists (request.Change d change) at asks name words is holds = listed (codes "change") d at asks.0 name words is
     lists (request.Rename d rename) at asks name words is holds = listed (codes "rename") d at asks.0 name words is
+    lists (request.Update d update) at asks name words is holds = listed (codes "update") d at asks.0 name words is
     lists _ at asks name words is holds = other reads_dump _ refl at name words is holds
 
     sizes : (q : Request) → named ≡ Some (command_name q, asked.0) → Asks asked.0 q → (name : Text) (words : List Row)
@@ -210,6 +211,7 @@ request_means named r asked = record {
         → named ≡ Some (name, words) → plans name ≡ true → ForSome (first_of (codes "blank") words) (λ word. word ≡ codes "keep")
     keeps (request.Change d change) at asks name words is holds = kept (codes "change") change.plan at asks.1.0 name words is
     keeps (request.Rename d rename) at asks name words is holds = kept (codes "rename") rename.plan at asks.1.0 name words is
+    keeps (request.Update d update) at asks name words is holds = kept (codes "update") update.plan at asks.1.0 name words is
     keeps (request.Tell d image (reading.Show block)) at asks name words is holds = other plans (codes "show") refl at name words is holds
     keeps (request.Compare (comparison.Same format) d left right) at asks name words is holds = other plans _ refl at name words is holds
     keeps _ at asks name words is holds = other plans _ refl at name words is holds
@@ -256,6 +258,8 @@ request_means named r asked = record {
         moved gives_sizes (codes "change") at (numbers_pass asked.0 d.numbers asks.0.0) name words is
     measured (request.Rename d rename) at asks name words is holds =
         moved gives_sizes (codes "rename") at (numbers_pass asked.0 d.numbers asks.0.0) name words is
+    measured (request.Update d update) at asks name words is holds =
+        moved gives_sizes (codes "update") at (numbers_pass asked.0 d.numbers asks.0.0) name words is
     measured (request.Geometry part image f) at asks name words is holds = other takes_geometry (codes "geometry") refl at name words is holds
 
     placed : (q : Request) → named ≡ Some (command_name q, asked.0) → Asks asked.0 q → (name : Text) (words : List Row)
@@ -273,6 +277,7 @@ request_means named r asked = record {
         moved gives_part (comparing_command how).name at (asked_part_passes asked.0 d asks.0) name words is
     placed (request.Change d change) at asks name words is holds = moved gives_part (codes "change") at (part_passes asked.0 d.part asks.0.1) name words is
     placed (request.Rename d rename) at asks name words is holds = moved gives_part (codes "rename") at (part_passes asked.0 d.part asks.0.1) name words is
+    placed (request.Update d update) at asks name words is holds = moved gives_part (codes "update") at (part_passes asked.0 d.part asks.0.1) name words is
     placed (request.Compose n new) at asks name words is holds = other takes_part (codes "compose") refl at name words is holds
     placed (request.Build n new) at asks name words is holds = other takes_part (codes "build") refl at name words is holds
 
@@ -295,6 +300,8 @@ request_means named r asked = record {
         moved has_oob (codes "change") at (maybe_bytes_pass most_number asked.0 (codes "oob") asks.0.2.0 asks.0.2.1) name words is
     spared (request.Rename d rename) at asks name words is holds =
         moved has_oob (codes "rename") at (maybe_bytes_pass most_number asked.0 (codes "oob") asks.0.2.0 asks.0.2.1) name words is
+    spared (request.Update d update) at asks name words is holds =
+        moved has_oob (codes "update") at (maybe_bytes_pass most_number asked.0 (codes "oob") asks.0.2.0 asks.0.2.1) name words is
     spared _ at asks name words is holds = other reads_dump _ refl at name words is holds
 
 -- words that name just one volume name it by a number or by a text

@@ -1,5 +1,5 @@
 -- The request that words are, once the command line takes them.
-use Rattle.ubi_commands.proofs.Prelude.{◌≡◌, ◌∙◌, ◌&&◌, ◌||◌, ◌<◌, ◌==◌, ◌^◌, ◌∷◌, [], ap, ap₂, Bool, List, Some, arith, cond, drop, false, not, refl, subst, sym, true, true≢false, ℕ, Bor, option_and_then, option_map, pos, slice_get, unwrap_or, find, list_any, option_map_or, bytes_eq, IsNumeral, digits_value, starts_with_minus, without_leading_plus, eqb-true, ne_eqb, ints, same_Some, bytes_eq-Decides, digit_from_value, explicit_source, parser_of_value, without_minus, is_given, accepts, IsSignedIn, read_as, reading_of, Row, Rule, Text, first_of, is_empty, one_of, row_text, Reading, ValueParser, Accepts-accepts, accepts-Accepts, both, HasNumber, HasText, MayHaveNumber, None, Option}
+use Rattle.ubi_commands.proofs.Prelude.{◌≡◌, ◌∙◌, ◌&&◌, ◌||◌, ◌<◌, ◌==◌, ◌^◌, ◌∷◌, [], ap, ap₂, Bool, List, Some, arith, cond, drop, false, not, refl, subst, sym, true, true≢false, ℕ, Bor, option_and_then, option_map, pos, slice_get, unwrap_or, find, list_any, option_map_or, bytes_eq, IsNumeral, digits_value, starts_with_minus, without_leading_plus, eqb-true, ne_eqb, ints, same_Some, bytes_eq-Decides, digit_from_value, explicit_source, parser_of_value, without_minus, is_given, accepts, IsSignedIn, read_as, reading_of, Row, Rule, Text, first_of, is_empty, one_of, row_text, Reading, ValueParser, Accepts-accepts, accepts-Accepts, both, HasNumber, HasText, MayHaveNumber, None, Option, map, HasTexts, all_of}
 use Rattle.clap.specs.Values.{Accepts}
 use Rattle.clap.specs.declared.builder.value_parser.ValueParser.TheVariants as parser
 use Rattle.ubi_commands.proofs.Uses.{EachRow, IsGiven, either, is_number, is_word, takes_one}
@@ -110,6 +110,17 @@ pub text_asked : (c : List Rule) (rows : List Row) (id : Text) → EachRow rows
     → list_any (λ a. a.required && not (is_given a.id rows)) c ≡ false → needs c id ≡ true
     → (text : Bor Text) × HasText rows id text
 text_asked c rows id each e wants = text_in_row rows id (row_of_needed c rows id each wants e)
+
+-- the texts behind new references to them
+behind : (ts : List Text) → map (λ (t : Bor Text). t.now) (map (λ (t : Text). record { ref_ptr = (0, 0); now = t }) ts) ≡ ts
+behind [] = refl
+behind (t ∷ ts) = ap (λ (xs : List Text). t ∷ xs) (behind ts)
+
+-- the texts of an argument that may be given more than once, or left out
+pub texts_in : (rows : List Row) (id : Text) → (texts : Bor (List (Bor Text))) × HasTexts rows id texts.now
+texts_in rows id =
+    let ts = unwrap_or (all_of id rows) [] in
+    (record { ref_ptr = (0, 0); now = map (λ (t : Text). record { ref_ptr = (0, 0); now = t }) ts }, behind ts)
 
 -- the parser of a number
 abbrev word : ValueParser

@@ -1,6 +1,6 @@
 -- Words that lack what a command needs are no request of it. Each list of cases names one of the commands that read an
 -- image, and one of those that compare two, so the last case is tried for each of the others.
-use Rattle.ubi_commands.proofs.Prelude.{◌≡◌, ◌∙◌, ◌∷◌, [], Bool, List, ap, false, refl, sym, true, true≢false, ℕ, list_any, bytes_eq, bytes_eq-Decides, Row, Text, AsksAsked, AsksChange, AsksDump, AsksExtract, AsksNewImage, AsksNumbers, AsksPart, AsksPaths, AsksRename, HasNumber, finds, plans, IsAskedBy, Asked, Change, Dump, Extract, NewImage, Paths, Rename, Request, FilePart, Numbers, AsksFormat, comparison_format, formats, Format}
+use Rattle.ubi_commands.proofs.Prelude.{◌≡◌, ◌∙◌, ◌∷◌, [], Bool, List, ap, false, refl, sym, true, true≢false, ℕ, list_any, bytes_eq, bytes_eq-Decides, Row, Text, AsksAsked, AsksChange, AsksDump, AsksExtract, AsksNewImage, AsksNumbers, AsksPart, AsksPaths, AsksRename, HasNumber, finds, plans, IsAskedBy, Asked, Change, Dump, Extract, NewImage, Paths, Rename, Request, FilePart, Numbers, AsksFormat, comparison_format, formats, Format, AsksUpdate, Update}
 use Rattle.std.proofs.Common.{codes}
 use Rattle.ubi_reading.specs.declared.comparison.Comparison.TheVariants as comparison
 use Rattle.ubi_reading.specs.declared.readers.Reading.TheVariants as reading
@@ -31,6 +31,7 @@ pub no_dump : (name : Text) → plans name ≡ true → (rows : List Row) → ((
     → IsAskedBy name rows r → ⊥
 no_dump name planned rows none (request.Change d change) asked = none d asked.1.0
 no_dump name planned rows none (request.Rename d rename) asked = none d asked.1.0
+no_dump name planned rows none (request.Update d update) asked = none d asked.1.0
 no_dump name planned rows none (request.Tell d image (reading.List format)) asked = other_test plans _ _ refl planned asked.0
 no_dump name planned rows none (request.Compare (comparison.Same format) d left right) asked = other_test plans _ _ refl planned asked.0
 no_dump name planned rows none _ asked = other_test plans _ _ refl planned asked.0
@@ -118,3 +119,10 @@ no_rename rows none (request.Rename n rename) asked = none rename asked.1.1
 no_rename rows none (request.Tell d image (reading.List format)) asked = apart _ _ refl asked.0
 no_rename rows none (request.Compare (comparison.Same format) d left right) asked = apart _ _ refl asked.0
 no_rename rows none _ asked = apart _ _ refl asked.0
+
+pub no_update : (rows : List Row) → ((u : Update) → AsksUpdate rows u → ⊥) → (r : Request)
+    → IsAskedBy (codes "update") rows r → ⊥
+no_update rows none (request.Update n update) asked = none update asked.1.1
+no_update rows none (request.Tell d image (reading.List format)) asked = apart _ _ refl asked.0
+no_update rows none (request.Compare (comparison.Same format) d left right) asked = apart _ _ refl asked.0
+no_update rows none _ asked = apart _ _ refl asked.0

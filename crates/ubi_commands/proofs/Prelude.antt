@@ -34,19 +34,19 @@ pub use Rattle.byteorder.specs.Numbers.{big_number-reads_back}
 pub use Rattle.clap.proofs.CutLemmas.{Lacks, after_first-at, before_first-at, slice_split-at}
 unfoldable pub use Rattle.clap.proofs.OnLiterals.{clap_on_literals}
 pub use Rattle.clap.proofs.ValueTestLemmas.{Accepts-accepts, accepts-Accepts}
-pub use Rattle.clap.proofs.WalkLemmas.{both, first_value-rows, one_text-rows}
+pub use Rattle.clap.proofs.WalkLemmas.{both, first_value-rows, one_text-rows, raw_values-rows}
 pub use Rattle.clap.specs.Built.{AddsArg, AddsSubcommand, subcommand_names}
 pub use Rattle.clap.specs.Facts.{explicit_source, parser_of_value, unwrap_or_range}
 pub use Rattle.clap.specs.Faults.{action_fault, built_fault, bundle_fault, bundle_step_fault, check_fault, entered_fault, fault_of, flag_word_fault, is_simple_and_free, level_fault, long_fault, option_fault, other_fault, positional_fault, react_fault, set_fault, settle_fault, short_fault, step_fault, turn_fault, use_fault, values_fault, word_fault}
 unfoldable pub use Rattle.clap.specs.Faults.{defaults_fault, flags_fault, walk_fault}
 pub use Rattle.clap.specs.Kinds.{HasKind, IsAmong, Kinds, check_kinds, or_else, range_kinds}
 pub use Rattle.clap.specs.Lexer.{long_of, short_of, without_minus}
-pub use Rattle.clap.specs.Matches.{ReadsOne, first_value, found_of, one_text}
+pub use Rattle.clap.specs.Matches.{ReadsOne, first_value, found_of, matched_of, one_text, raw_values}
 pub use Rattle.clap.specs.Simple.{App, HasMatchesOf, Shape, app_of, app_of_fields, argument_words, entered, is_simple, label_of, names_of, new_app, on_top, rows_at, shape_of, subcommand_of, subcommand_rows_of, with_rule, with_subcommand}
 pub use Rattle.clap.specs.Takes.{is_given, value_passes}
 pub use Rattle.clap.specs.ValueTests.{accepts}
 pub use Rattle.clap.specs.Values.{IsSignedIn, is_request, kind_of, read_as, reading_of}
-pub use Rattle.clap.specs.Walk.{Held, Names, Row, Rule, Step, Text, Waiting, Walk, action_of, after_flag, after_step, answers_to, arg_by_id, arg_by_index, arg_by_long, arg_by_short, at_row, attached_value, bundle, bundle_step, default_rows, done, finished, first_of, flag_met, has_row, idle, is_empty, is_pending, long_met, long_or_other, more_values, most_values, next, nothing_held, one_of, option, option_met, option_word, plain, plain_word, positional, pushed, reacted, reading_by, refused, row_text, rows_after, rows_of, rule_of, settled, settled_rows, short_met, short_or_plain, stop_after, subcommand, subcommand_met, subcommand_or_other, takes_several, takes_values, to_positional, trailing, used, used_by_id, value, values_or_missing, waits, walk, walk_from, walked_from, with_default, with_values, without, word_met}
+pub use Rattle.clap.specs.Walk.{Held, Names, Row, Rule, Step, Text, Waiting, Walk, action_of, after_flag, after_step, all_of, answers_to, arg_by_id, arg_by_index, arg_by_long, arg_by_short, at_row, attached_value, bundle, bundle_step, default_rows, done, finished, first_of, flag_met, has_row, idle, is_empty, is_pending, long_met, long_or_other, more_values, most_values, next, nothing_held, one_of, option, option_met, option_word, plain, plain_word, positional, pushed, reacted, reading_by, refused, row_text, rows_after, rows_of, rule_of, settled, settled_rows, short_met, short_or_plain, stop_after, stronger, subcommand, subcommand_met, subcommand_or_other, takes_several, takes_values, to_positional, trailing, used, used_as, used_by_id, value, values_or_missing, waits, walk, walk_from, walked_from, with_default, with_values, without, word_met}
 unfoldable pub use Rattle.clap.specs.Walk.{bundle_met, walked}
 pub use Rattle.clap.specs.declared.builder.action.ArgAction.{ArgAction}
 pub use Rattle.clap.specs.declared.builder.arg.Arg.{Arg}
@@ -192,9 +192,10 @@ pub use Rattle.ubi_writing.specs.declared.orders.Extract.{Extract}
 pub use Rattle.ubi_writing.specs.declared.orders.NewImage.{NewImage}
 pub use Rattle.ubi_writing.specs.declared.orders.Plan.{Plan}
 pub use Rattle.ubi_writing.specs.declared.orders.Rename.{Rename}
+pub use Rattle.ubi_writing.specs.declared.orders.Update.{Update}
 pub use Rattle.ubi_writing.specs.declared.volume_key.VolumeKey.{VolumeKey}
 pub use Rattle.ubi_commands.specs.BuildLaws.{AreTold, BuildReads, ReadsItsFile, file_of}
-pub use Rattle.ubi_commands.specs.CommandLine.{AsksAsked, AsksBlank, AsksChange, AsksDump, AsksExtract, AsksFormat, AsksKey, AsksNewImage, AsksNumbers, AsksPart, AsksPaths, AsksPlan, AsksRename, HasBytes, HasNumber, HasText, MayHaveBytes, MayHaveNumber, MayHaveText, gives_no_geometry, gives_word}
+pub use Rattle.ubi_commands.specs.CommandLine.{AsksAsked, AsksBlank, AsksChange, AsksDump, AsksExtract, AsksFormat, AsksKey, AsksNewImage, AsksNumbers, AsksPart, AsksPaths, AsksPlan, AsksRename, AsksUpdate, HasBytes, HasNumber, HasText, HasTexts, MayHaveBytes, MayHaveNumber, MayHaveText, gives_no_geometry, gives_word}
 pub use Rattle.ubi_commands.specs.Commands.{Asks, IsAllElse, IsAnswer, IsAnswerTo, IsRequest, Takes, answered, command_name, comparing_command, reading_command, wrong_words}
 unfoldable pub use Rattle.ubi_commands.specs.Commands.{tool}
 pub use Rattle.ubi_commands.specs.ComposedLaws.{ComposedIsFound, IsDetectable, group_composed, own_detected}

@@ -72,3 +72,4 @@ untyped_is_typed d e (request.Build numbers new) sought o = tt
 untyped_is_typed d e (request.Compare how dump left right) sought o = tt
 untyped_is_typed d e (request.Change dump change) sought o = tt
 untyped_is_typed d e (request.Rename dump rename) sought o = tt
+untyped_is_typed d e (request.Update dump update) sought o = tt

@@ -1,5 +1,5 @@
 -- Words that the command line takes are a request.
-use Rattle.ubi_commands.proofs.Prelude.{◌≡◌, ◌∙◌, ◌&&◌, ◌||◌, ◌∷◌, [], Bool, List, Some, ap, cond, false, not, refl, sym, subst, true, true≢false, ℕ, Bor, then_some, ForSome, is_some, option_map, unwrap_or, find, list_all, list_any, bytes_eq, same_Some, bytes_eq-Decides, fault_of, level_fault, Shape, argument_words, label_of, subcommand_of, Row, Text, answers_to, first_of, nothing_held, rows_after, both, is_block_list, Asks, AsksAsked, AsksBlank, AsksDump, AsksNewImage, AsksNumbers, AsksPart, AsksPaths, AsksPlan, IsRequest, HasNumber, HasText, MayHaveNumber, MayHaveText, command_name, gives_word, gives_bytes, gives_no_geometry, most_bytes, takes_geometry, takes_part, Mean, Takes, finds, plans, reads_dump, tool, Asked, Change, Dump, Extract, NewImage, Paths, Plan, Rename, Request, Sought, Numbers, FilePart, inl, inr, ◌⊎◌, AsksFormat, format_word, formats, Format, None, most_number, Option}
+use Rattle.ubi_commands.proofs.Prelude.{◌≡◌, ◌∙◌, ◌&&◌, ◌||◌, ◌∷◌, [], Bool, List, Some, ap, cond, false, not, refl, sym, subst, true, true≢false, ℕ, Bor, then_some, ForSome, is_some, option_map, unwrap_or, find, list_all, list_any, bytes_eq, same_Some, bytes_eq-Decides, fault_of, level_fault, Shape, argument_words, label_of, subcommand_of, Row, Text, answers_to, first_of, nothing_held, rows_after, both, is_block_list, Asks, AsksAsked, AsksBlank, AsksDump, AsksNewImage, AsksNumbers, AsksPart, AsksPaths, AsksPlan, IsRequest, HasNumber, HasText, MayHaveNumber, MayHaveText, command_name, gives_word, gives_bytes, gives_no_geometry, most_bytes, takes_geometry, takes_part, Mean, Takes, finds, plans, reads_dump, tool, Asked, Change, Dump, Extract, NewImage, Paths, Plan, Rename, Request, Sought, Numbers, FilePart, inl, inr, ◌⊎◌, AsksFormat, format_word, formats, Format, None, most_number, Option, Update}
 use Rattle.std.proofs.Common.{codes}
 use Rattle.ubi_reading.specs.declared.format.Format.TheVariants as told
 use Rattle.clap.specs.Simple.{built}
@@ -9,7 +9,7 @@ use Rattle.ubi_commands.specs.declared.requests.Request.TheVariants as request
 use Rattle.ubi_reading.specs.declared.comparison.Comparison.TheVariants as comparison
 use Rattle.ubi_commands.proofs.GivenKey.{key_asked}
 use Rattle.ubi_commands.proofs.GivenBytes.{bytes_in, bytes_of_text}
-use Rattle.ubi_commands.proofs.GivenWords.{needs, number_asked, number_in, text_asked}
+use Rattle.ubi_commands.proofs.GivenWords.{needs, number_asked, number_in, text_asked, texts_in}
 use Rattle.ubi_commands.proofs.Uses.{is_number, takes_one}
 use Rattle.ubi_commands.proofs.Levels.{AreGiven, IsMet, leaf_given, met}
 
@@ -312,6 +312,24 @@ module _ (s : Shape) (rows : List Row) (given : AreGiven s rows) where
       } in
       (request.Rename n.0 rename, refl, (n.1, (p.1, v.1, new.1)))
 
+  update_asked : Mean (Some (codes "update", rows)) → Needs s (codes "peb") → Needs s (codes "page") → Needs s (codes "IMAGE")
+      → Needs s (codes "out") → IsAsked (codes "update") rows
+  update_asked mean peb page image out =
+      let n = dump (codes "update") refl mean peb page in
+      let p = plan (codes "update") refl mean image out in
+      let names = texts_in rows (codes "rename") in
+      let sizes = texts_in rows (codes "resize") in
+      let removals = texts_in rows (codes "remove") in
+      let contents = texts_in rows (codes "write") in
+      let update : Update = record {
+        plan = p.0;
+        names = names.0;
+        sizes = sizes.0;
+        removals = removals.0;
+        contents = contents.0;
+      } in
+      (request.Update n.0 update, refl, (n.1, (p.1, names.1, sizes.1, removals.1, contents.1)))
+
 -- ---- whichever command was met
 
 or_false : (b : Bool) → (b || false) ≡ true → b ≡ true
@@ -371,7 +389,8 @@ each_asks =
     (also (asks_it _ refl refl refl (λ rows given mean. diff_asked _ rows given mean refl refl))
     (also (asks_it _ refl refl refl (λ rows given mean. change_asked _ rows given mean refl refl refl refl refl refl refl))
     (also (asks_it _ refl refl refl (λ rows given mean. rename_asked _ rows given mean refl refl refl refl refl refl))
-    (also (help_asks _ refl refl) none))))))))))))))
+    (also (asks_it _ refl refl refl (λ rows given mean. update_asked _ rows given mean refl refl refl refl))
+    (also (help_asks _ refl refl) none)))))))))))))))
 
 tool_met : (words : List Text) → fault_of tool words ≡ [] → IsMet (built tool) (argument_words tool words)
 unfolding tool

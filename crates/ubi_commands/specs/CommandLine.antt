@@ -2,9 +2,9 @@
 use Rattle.std.specs.Borrow.{Bor}
 use Rattle.std.specs.Bool.{then_some}
 use Rattle.std.specs.Option.{ForSome}
-use Rattle.std.specs.Prelude.{IsTrue, ◌≡◌, ◌↔◌, ◌<◌, ◌^◌, ◌&&◌, List, None, Option, Some, Bool, codes, is_some, not, option_and_then, option_map, true, unwrap_or, ℕ}
+use Rattle.std.specs.Prelude.{IsTrue, ◌≡◌, ◌↔◌, ◌<◌, ◌^◌, ◌&&◌, List, [], None, Option, Some, Bool, codes, is_some, map, not, option_and_then, option_map, true, unwrap_or, ℕ}
 use Rattle.std.specs.Str.Parse.{IsNumeral, digits_value, without_leading_plus}
-use Rattle.clap.specs.Walk.{Row, first_of, one_of}
+use Rattle.clap.specs.Walk.{Row, all_of, first_of, one_of}
 use Rattle.ubi_files.specs.BadBlocks.{is_block_list}
 use Rattle.ubi_config.specs.Words.{most_bytes}
 use Rattle.ubi_words.specs.Words.{most_number}
@@ -20,6 +20,7 @@ use Rattle.ubi_writing.specs.declared.orders.NewImage.{NewImage}
 use Rattle.ubi_dumps.specs.declared.asked.Paths.{Paths}
 use Rattle.ubi_writing.specs.declared.orders.Plan.{Plan}
 use Rattle.ubi_writing.specs.declared.orders.Rename.{Rename}
+use Rattle.ubi_writing.specs.declared.orders.Update.{Update}
 use Rattle.ubi_dumps.specs.declared.asked.Sought.{Sought}
 use Rattle.ubi_files.specs.declared.numbers.Numbers.{Numbers}
 use Rattle.ubi_files.specs.declared.view.FilePart.{FilePart}
@@ -33,6 +34,10 @@ HasText words name text = first_of name words ≡ Some text.now
 -- this is the text that the words give under the name, if they give one
 abbrev pub MayHaveText : List Row → List ℕ → Option (Bor (List ℕ)) → Type 0
 MayHaveText words name text = option_map (λ t. t.now) text ≡ first_of name words
+
+-- these are the texts that the words give under the name, in order
+abbrev pub HasTexts : List Row → List ℕ → List (Bor (List ℕ)) → Type 0
+HasTexts words name texts = map (λ t. t.now) texts ≡ unwrap_or (all_of name words) []
 
 -- the words give this number of 32 bits in decimal, where a plus may stand first
 abbrev pub HasNumber : List Row → List ℕ → ℕ → Type 0
@@ -153,3 +158,11 @@ abbrev pub AsksRename : List Row → Rename → Type 0
 AsksRename words rename = AsksPlan words rename.plan
     × HasNumber words (codes "id") rename.id
     × HasText words (codes "name") rename.name
+
+-- the words give these edits
+abbrev pub AsksUpdate : List Row → Update → Type 0
+AsksUpdate words update = AsksPlan words update.plan
+    × HasTexts words (codes "rename") update.names.now
+    × HasTexts words (codes "resize") update.sizes.now
+    × HasTexts words (codes "remove") update.removals.now
+    × HasTexts words (codes "write") update.contents.now

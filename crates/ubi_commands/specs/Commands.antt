@@ -1,14 +1,16 @@
 -- The commands: a row for each, with what it takes, what its words ask for, what it can answer, and which files it leaves alone.
-use Rattle.std.specs.Prelude.{◌≡◌, ◌∷◌, ◌++◌, [], List, Option, Some, codes, false, true, ℕ}
+use Rattle.std.specs.Prelude.{◌≡◌, ◌∷◌, ◌++◌, [], All, List, Option, Some, codes, false, true, ℕ}
 use Rattle.clap.specs.Faults.{fault_of}
 use Rattle.clap.specs.Simple.{App, Shape, new_rule, new_shape, subcommand_of}
 use Rattle.clap.specs.Walk.{Row, Text}
 use Rattle.ubi_files.specs.Answer.{Gives, says}
 use Rattle.ubi_writing.specs.Build.{Builds}
 use Rattle.ubi_writing.specs.Change.{ChangesFrom, HasPlan}
-use Rattle.ubi_commands.specs.CommandLine.{AsksAsked, AsksChange, AsksDump, AsksExtract, AsksFormat, AsksNewImage, AsksNumbers, AsksPart, AsksPaths, AsksRename, HasNumber, HasText, MayHaveText}
+use Rattle.ubi_commands.specs.CommandLine.{AsksAsked, AsksChange, AsksDump, AsksExtract, AsksFormat, AsksNewImage, AsksNumbers, AsksPart, AsksPaths, AsksRename, AsksUpdate, HasNumber, HasText, MayHaveText}
 use Rattle.ubi_reading.specs.Comparisons.{ComparesOf, comparison_format}
+use Rattle.ubi_writing.specs.Asks.{value_in}
 use Rattle.ubi_writing.specs.Compose.{ComposesInto}
+use Rattle.ubi_writing.specs.Contents.{OfContents, all_asks, all_bytes}
 use Rattle.ubi_files.specs.Disk.{AllStay, Files, OthersStay, OutsideStay, Stays}
 use Rattle.ubi_files.specs.Dump.{greatest_dump}
 use Rattle.ubi_writing.specs.Extract.{ExtractsOf, HasTextIn}
@@ -21,8 +23,9 @@ use Rattle.ubi_files.specs.OverFile.{OfFile, OfImage}
 use Rattle.ubi_reading.specs.InFormat.{OfAskedIn, OfBothIn, OfFileIn}
 use Rattle.ubi_reading.specs.Reads.{format_of, reads}
 use Rattle.ubi_writing.specs.Rename.{HasRename, RenamesFrom}
-use Rattle.ubi_commands.specs.Tool.{Mean, answer_format, command as takes, image_part, needed, number, on_image, option, output, plan_options, volume}
+use Rattle.ubi_commands.specs.Tool.{Mean, answer_format, command as takes, edit_options, image_part, needed, number, on_image, option, output, plan_options, volume}
 use Rattle.ubi_writing.specs.Unpack.{UnpacksOf}
+use Rattle.ubi_writing.specs.Update.{HasUpdate, UpdatesFrom}
 use Rattle.ubi_files.specs.declared.outcome.Outcome.{Outcome}
 use Rattle.ubi_reading.specs.declared.comparison.Comparison.{Comparison}
 use Rattle.ubi_reading.specs.declared.comparison.Comparison.TheVariants as comparison
@@ -93,10 +96,14 @@ change =
 abbrev pub rename : Shape
 rename = on_image true (codes "rename") (output ∷ volume ∷ needed (option (codes "name")) ∷ plan_options)
 
+-- `update`, over an image, with the file to write, and what is asked of its volumes
+abbrev pub update : Shape
+update = on_image true (codes "update") (output ∷ edit_options ++ plan_options)
+
 -- all commands, in the order of the help
 abbrev pub commands : List Shape
 commands =
-    geometry ∷ list ∷ check ∷ show ∷ map ∷ extract ∷ unpack ∷ compose ∷ build ∷ normalise ∷ same ∷ diff ∷ change ∷ rename ∷ []
+    geometry ∷ list ∷ check ∷ show ∷ map ∷ extract ∷ unpack ∷ compose ∷ build ∷ normalise ∷ same ∷ diff ∷ change ∷ rename ∷ update ∷ []
 
 -- the program: it has a version, and a command has to be named
 unfoldable pub tool : App
@@ -223,6 +230,20 @@ said_of (request.Rename dump rename_it) =
           (RenamesFrom kept rename_it.id rename_it.name.now plan.stop s k agrees)
           (HasRename kept rename_it.id rename_it.name.now s k agrees)))) o × KeepsImage d e image o;
       leaves = λ d e. PlanStays d e plan × KeepsPart d e dump image;
+    }
+said_of (request.Update dump update_it) =
+    let plan = update_it.plan in
+    let image = plan.paths.image.now in
+    let out = plan.paths.out.now in
+    let kept = avoided dump plan in record {
+      command = update;
+      asks = λ words. AsksDump words dump × AsksUpdate words update_it;
+      answers = λ d e o. WithList d e dump.bad image (OnGrid d e dump image (OfFile d dump image
+          (λ s k agrees. OfContents d dump.numbers update_it.contents.now
+          (λ fs. WritesPlan out plan.pages d e
+          (UpdatesFrom kept (all_asks update_it fs) (all_bytes fs) plan.stop s k agrees)
+          (HasUpdate kept (all_asks update_it fs) (all_bytes fs) s k agrees))))) o × KeepsImage d e image o;
+      leaves = λ d e. PlanStays d e plan × All (λ word. Stays d e (value_in word.now)) update_it.contents.now × KeepsPart d e dump image;
     }
 
 -- the name of the command that makes a request

@@ -5,6 +5,7 @@ use Rattle.std.specs.Option.{ForSome, option_map_or}
 use Rattle.std.specs.Str.{bytes_eq}
 use Rattle.clap.specs.Simple.{Shape, new_rule, new_shape}
 use Rattle.clap.specs.Walk.{Row, Rule, Text, first_of}
+use Rattle.clap.specs.declared.builder.action.ArgAction.TheVariants.{Append}
 use Rattle.clap.specs.declared.builder.value_parser.ValueParser.TheVariants as parser
 use Rattle.ubi_config.specs.Words.{most_bytes}
 use Rattle.ubi_files.specs.BadBlocks.{is_block_list}
@@ -19,6 +20,10 @@ needed r = record r { required = true }
 -- an option that takes a text
 abbrev pub option : Text → Rule
 option name = record (new_rule name) { long = Some name; value_names = 1 }
+
+-- an option that takes a text, and may be given more than once
+abbrev pub texts : Text → Rule
+texts name = record (option name) { action = Some Append }
 
 -- an option that takes a number of 32 bits
 abbrev pub number : Text → Rule
@@ -70,6 +75,10 @@ on_image need name rules = command need name (image_part ++ option (codes "oob")
 abbrev pub plan_options : List Rule
 plan_options = number (codes "stop") ∷ option (codes "blank") ∷ option (codes "pages") ∷ []
 
+-- the options of edits of whole volumes: their contents, names and sizes, and which are removed
+abbrev pub edit_options : List Rule
+edit_options = texts (codes "write") ∷ texts (codes "rename") ∷ texts (codes "resize") ∷ texts (codes "remove") ∷ []
+
 -- the words of `extract` name the volume exactly once
 abbrev pub HasOneVolume : Option (Text × List Row) → Type 0
 HasOneVolume named = (words : List Row) → named ≡ Some (codes "extract", words)
@@ -86,7 +95,7 @@ HasBlockList named = (name : Text) (words : List Row) → named ≡ Some (name, 
 
 -- the commands that plan
 abbrev pub plans : Text → Bool
-plans name = list_any (bytes_eq name) (codes "change" ∷ codes "rename" ∷ [])
+plans name = list_any (bytes_eq name) (codes "change" ∷ codes "rename" ∷ codes "update" ∷ [])
 
 -- the commands that find the geometry of a dump if the words give none
 abbrev pub finds : Text → Bool

@@ -9,8 +9,8 @@ ghost use Rattle.ubi_commands.specs.Commands.{tool as whole};
 ghost use Rattle.ubi_commands.specs.inner.CommandLine.{bare_tool, command_row, rule, telling_tool, with_commands, with_rows};
 
 use self::Need::{Needed, Optional};
-use self::Takes::{Bytes, Count, Number, Size, Text, Word, WordFor};
-use clap::{Arg, Command, value_parser};
+use self::Takes::{Bytes, Count, Number, Size, Text, Texts, Word, WordFor};
+use clap::{Arg, ArgAction, Command, value_parser};
 use std::alloc::{AllocError, Global};
 
 /// What `--version` shows.
@@ -74,7 +74,7 @@ static TELLING: [CommandRow; 5] = [
 ];
 
 /// The other commands, which follow them.
-static WORKING: [CommandRow; 9] = [
+static WORKING: [CommandRow; 10] = [
     CommandRow {
         name: "extract",
         about: "Writes the contents of a volume to a file",
@@ -132,6 +132,11 @@ static WORKING: [CommandRow; 9] = [
             PLAN,
         ],
     },
+    CommandRow {
+        name: "update",
+        about: "Plans new contents, names and sizes of whole volumes in one commit that survives a power cut, and writes the resulting image",
+        arguments: &[GIVEN, IMAGE_PART, IMAGE_PAGES, &[OUT], EDITS, PLAN],
+    },
 ];
 
 /// The numbers of a geometry that has to be given.
@@ -148,6 +153,9 @@ const IMAGE_PAGES: &[Argument] = &[OOB, BAD];
 
 /// The file of a new image, and what isn't said in its description.
 const NEW_IMAGE: &[Argument] = &[OUT, SPARES, SEQ];
+
+/// What is asked of the volumes of an image, each as often as wanted.
+const EDITS: &[Argument] = &[WRITE, RENAME, RESIZE, REMOVE];
 
 /// What a plan does with its steps.
 const PLAN: &[Argument] = &[STOP, BLANK, PAGES];
@@ -308,6 +316,29 @@ const FROM: Argument = Argument(
     "File with the new bytes, which are whole pages",
 );
 
+const WRITE: Argument = Argument(
+    Optional,
+    "write",
+    Texts("NAME=FILE"),
+    "New contents of the volume NAME, which the file holds",
+);
+
+const RENAME: Argument = Argument(
+    Optional,
+    "rename",
+    Texts("OLD=NEW"),
+    "New name of the volume OLD, in the form in which `list` prints names",
+);
+
+const RESIZE: Argument = Argument(
+    Optional,
+    "resize",
+    Texts("NAME=SIZE"),
+    "Number of bytes that the volume NAME has to hold",
+);
+
+const REMOVE: Argument = Argument(Optional, "remove", Texts("NAME"), "Volume to remove");
+
 const STOP: Argument = Argument(
     Optional,
     "stop",
@@ -350,6 +381,8 @@ enum Takes {
     WordFor(&'static str),
     /// An option, and a text.
     Text(&'static str),
+    /// An option that may be given more than once, and a text each time.
+    Texts(&'static str),
     /// An option, and a number of 32 bits.
     Number(&'static str),
     /// An option, and a number of bytes, which is a text here.
@@ -444,6 +477,7 @@ fn arg_of<'a>(alloc: Global, row: &'static Argument) -> Arg<'a>
         Word => arg,
         WordFor(called) => arg.value_name(called),
         Text(called) => arg.long(name).value_name(called),
+        Texts(called) => arg.long(name).value_name(called).action(ArgAction::Append),
         Number(called) => arg
             .long(name)
             .value_name(called)

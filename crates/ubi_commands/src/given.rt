@@ -6,7 +6,7 @@ ghost use Rattle.ubi_config.specs.Words.{most_bytes};
 ghost use Rattle.ubi_files.specs.BadBlocks.{is_block_list};
 ghost use Rattle.ubi_words.specs.Words.{most_number};
 ghost use Rattle.ubi_writing.specs.ByteNumbers.{bytes_within};
-ghost use Rattle.ubi_commands.specs.CommandLine.{AsksAsked, AsksBlank, AsksChange, AsksDump, AsksExtract, AsksFormat, AsksKey, AsksNewImage, AsksNumbers, AsksPart, AsksPaths, AsksPlan, AsksRename, AsksSought, HasBytes, HasNumber, HasText, MayHaveBytes, MayHaveNumber, MayHaveText, gives_word, gives_no_geometry};
+ghost use Rattle.ubi_commands.specs.CommandLine.{AsksAsked, AsksBlank, AsksChange, AsksDump, AsksExtract, AsksFormat, AsksKey, AsksNewImage, AsksNumbers, AsksPart, AsksPaths, AsksPlan, AsksRename, AsksSought, AsksUpdate, HasBytes, HasNumber, HasText, HasTexts, MayHaveBytes, MayHaveNumber, MayHaveText, gives_word, gives_no_geometry};
 ghost use Rattle.ubi_commands.specs.inner.CommandLine.{IsOneOf};
 ghost use Rattle.ubi_commands.specs.inner.CommandLine.{words_in};
 
@@ -14,7 +14,7 @@ use clap::ArgMatches;
 use ubi_dumps::{Asked, Paths, Sought};
 use ubi_files::{Dump, FilePart, Numbers, is_block_list};
 use ubi_reading::Format;
-use ubi_writing::{Change, Extract, NewImage, Plan, Rename, VolumeKey, bytes_within};
+use ubi_writing::{Change, Extract, NewImage, Plan, Rename, Update, VolumeKey, bytes_within};
 
 /// The last place in a file that an option can give, which has 63 bits.
 const MOST_BYTES: u64 = 0x7FFF_FFFF_FFFF_FFFF;
@@ -86,6 +86,18 @@ pub fn volume_rename<'a>(matches: &'a ArgMatches<'_>) -> Option<Rename<'a>>
         plan: plan_of(matches)?,
         id: number_of(matches, "id")?,
         name: text_of(matches, "name")?,
+    })
+}
+
+pub fn volume_edits<'a>(matches: &'a ArgMatches<'_>) -> Option<Update<'a>>
+    ensures { IsOneOf (AsksUpdate (words_in matches.now)) result }
+{
+    Some(Update {
+        plan: plan_of(matches)?,
+        names: texts_of(matches, "rename"),
+        sizes: texts_of(matches, "resize"),
+        removals: texts_of(matches, "remove"),
+        contents: texts_of(matches, "write"),
     })
 }
 
@@ -241,6 +253,13 @@ pub fn may_text_of<'a>(matches: &'a ArgMatches<'_>, name: &str) -> Option<&'a st
     ensures { MayHaveText (words_in matches.now) name.now result }
 {
     matches.get_str(name)
+}
+
+/// The texts that an option gives, in order: one each time that it is given.
+fn texts_of<'a>(matches: &'a ArgMatches<'_>, name: &str) -> &'a [&'a str]
+    ensures { HasTexts (words_in matches.now) name.now result.now }
+{
+    matches.get_strs(name).unwrap_or(&[])
 }
 
 /// The number that an option gives.

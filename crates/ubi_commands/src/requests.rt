@@ -10,7 +10,7 @@ ghost use Rattle.ubi_commands.specs.inner.CommandLine.{IsAskedBy, words_in};
 use crate::given::{
     are_bytes, are_listed, asked_of, blank_of, dump_of, format_of, gives, gives_no_geometry,
     leb_change, may_text_of, new_image, number_of, numbers_of, part_of, paths_of, text_of,
-    volume_extract, volume_rename,
+    volume_edits, volume_extract, volume_rename,
 };
 use clap::ArgMatches;
 use std::alloc::{AllocError, Global};
@@ -18,8 +18,8 @@ use ubi_dumps::{Asked, KnownDump, Paths};
 use ubi_files::{Disk, Dump, FilePart, Numbers, Outcome};
 use ubi_reading::{Comparison, Format, Reading, compare_files, map_file, read_dump, read_file};
 use ubi_writing::{
-    Change, Extract, NewImage, Rename, Writing, build_file, change_file, compose_file, rename_file,
-    unpack_file, write_file,
+    Change, Extract, NewImage, Rename, Update, Writing, build_file, change_file, compose_file,
+    rename_file, unpack_file, update_file, write_file,
 };
 
 const NO_VOLUME: &str = "error: either '--id <N>' or '--name <NAME>' has to be given
@@ -124,6 +124,11 @@ pub enum Request<'a> {
         dump: Dump<'a>,
         rename: Rename<'a>,
     },
+    /// Edits of whole volumes of one file, written to another.
+    Update {
+        dump: Dump<'a>,
+        update: Update<'a>,
+    },
 }
 
 /// What is asked for, if the words name a command and have all that it needs. Words that the command line takes
@@ -168,6 +173,7 @@ fn request_under<'a>(name: &str, matches: &'a ArgMatches<'_>) -> Option<Request<
         "diff" => diff_of(matches),
         "change" => change_of(matches),
         "rename" => rename_of(matches),
+        "update" => update_of(matches),
         _ => None,
     }
 }
@@ -307,6 +313,15 @@ fn rename_of<'a>(matches: &'a ArgMatches<'_>) -> Option<Request<'a>>
     })
 }
 
+fn update_of<'a>(matches: &'a ArgMatches<'_>) -> Option<Request<'a>>
+    ensures { IsOneOf (IsAskedBy (codes "update") (words_in matches.now)) result }
+{
+    Some(Request::Update {
+        dump: dump_of(matches)?,
+        update: volume_edits(matches)?,
+    })
+}
+
 /// Runs a request.
 pub fn run_request<D: Disk + Eprint>(
     disk: &mut D,
@@ -351,5 +366,6 @@ pub fn run_request<D: Disk + Eprint>(
         } => compare_files(disk, alloc, how, &dump, left, right),
         Request::Change { dump, change } => change_file(disk, alloc, &dump, &change),
         Request::Rename { dump, rename } => rename_file(disk, alloc, &dump, &rename),
+        Request::Update { dump, update } => update_file(disk, alloc, &dump, &update),
     }
 }

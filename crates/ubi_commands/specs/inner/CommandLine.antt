@@ -5,6 +5,7 @@ use Rattle.std.specs.Prelude.{map as mapped}
 use Rattle.clap.specs.Simple.{App, new_app, new_rule, on_top, with_rule, with_subcommand}
 use Rattle.clap.specs.Matches.{found_of}
 use Rattle.clap.specs.Walk.{Row, Rule, Text, rows_of}
+use Rattle.clap.specs.declared.builder.action.ArgAction.TheVariants.{Append}
 use Rattle.clap.specs.declared.builder.value_parser.ValueParser.TheVariants as parser
 use Rattle.clap.specs.declared.parser.matches.ArgMatches.{ArgMatches}
 use Rattle.ubi_commands.specs.Commands.{Asks, command_name}
@@ -27,6 +28,7 @@ abbrev pub with_taken : Text → Takes → Rule → Rule
 with_taken name takes.Word r = r
 with_taken name (takes.WordFor called) r = record r { value_names = 1 }
 with_taken name (takes.Text called) r = record r { long = Some name; value_names = 1 }
+with_taken name (takes.Texts called) r = record r { long = Some name; value_names = 1; action = Some Append }
 with_taken name (takes.Number called) r =
     record r { long = Some name; value_names = 1; parser = Some (parser.Signed (pos 0) (pos 4294967295)) }
 with_taken name takes.Bytes r = record r { long = Some name; value_names = 1 }

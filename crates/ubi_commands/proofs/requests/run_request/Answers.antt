@@ -36,3 +36,11 @@ returns-in-Change-clause-others g c =
 
 pub returns-in-Rename-clause-others : goal.returns-in-Rename-clause-others
 returns-in-Rename-clause-others g c = rw c.in-Rename.is (c.rename_file.ensures.stays, c.rename_file.ensures.part)
+
+pub returns-in-Update-clause-answer : goal.returns-in-Update-clause-answer
+returns-in-Update-clause-answer g c =
+    rw c.in-Update.is (both c.update_file.result _ _ c.update_file.ensures.answer c.update_file.ensures.image)
+
+pub returns-in-Update-clause-others : goal.returns-in-Update-clause-others
+returns-in-Update-clause-others g c =
+    rw c.in-Update.is (c.update_file.ensures.stays, c.update_file.ensures.contents, c.update_file.ensures.part)
