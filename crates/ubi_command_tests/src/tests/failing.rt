@@ -3,7 +3,7 @@
 use super::answers::assert_over;
 use super::contents::{Contents, EMPTY};
 use super::fake::Broken;
-use super::shown::{BLANK_SHOWN, CHANGED, RENAMED, ROOT_CONFIG, SMALL};
+use super::shown::{BLANK_SHOWN, CHANGED, RENAMED, ROOT_CONFIG, SMALL, UPDATED};
 use std::alloc::Global;
 use std::io::ErrorKind;
 use std::process::Abort;
@@ -198,7 +198,7 @@ static OBJECTS: [Failing; 5] = [
 ];
 
 /// Commands that write a file. What fails isn't tried again.
-static WRITERS: [Failing; 12] = [
+static WRITERS: [Failing; 13] = [
     Failing {
         image: Contents::Blank,
         line: "normalise a.img --out b.img",
@@ -336,6 +336,26 @@ static WRITERS: [Failing; 12] = [
             (Broken::Write(700), UNWRITTEN, 700),
         ],
         output: Contents::Pebs(&[FIRST, SECOND, A, B, C, FREE, FREE, ORPHAN], &[]),
+    },
+    // The contents are read before the image is, and after it was opened. Two files without places may be one pipe here, which gives its
+    // bytes once.
+    Failing {
+        image: Contents::Pebs(&[FIRST, SECOND, A, B, C, FREE, FREE, FREE, ORPHAN], &[]),
+        line: "update a.img --write root=new.bin --out b.img --stop 0",
+        ways: &[
+            (Broken::Nothing, (UPDATED, 0), 4608),
+            (Broken::Short(100), (UPDATED, 0), 4608),
+            (Broken::Places, UNREAD_NEW, 0),
+            (Broken::OpenRead, UNREAD, 0),
+            (Broken::Read(ErrorKind::Other, 64), UNREAD_NEW, 0),
+            (Broken::Read(ErrorKind::Other, 65), UNREAD, 0),
+            (Broken::Read(ErrorKind::Other, 4223), UNREAD, 0),
+            (Broken::Read(ErrorKind::Other, 4224), UNREAD, 4096),
+            (Broken::Cut, UNREAD, 0),
+            (Broken::OpenWrite, UNWRITTEN, 0),
+            (Broken::Write(700), UNWRITTEN, 700),
+        ],
+        output: Contents::Pebs(&[FIRST, SECOND, A, B, C, FREE, FREE, FREE, ORPHAN], &[]),
     },
     // A read after 32 eraseblocks and one byte would fail.
     Failing {

@@ -9,11 +9,12 @@ use super::fake::{Broken, FakeFiles, Left};
 use super::opened::opens_right;
 use super::shown::{
     CHANGED, RENAMED, ROOT_CHECKED, ROOT_COUNTS, ROOT_LISTED, ROOT_SHOWN, ROOT_VOLUMES, SMALL,
-    SMALL_OBJECT,
+    SMALL_OBJECT, UPDATED,
 };
 use std::alloc::{AllocError, Global};
 use std::process::Abort;
 use std::test::Fail;
+use ubi_change::Avoided;
 use ubi_files::{Outcome, SidesError, ToolError};
 use ubi_media::Geometry;
 use ubi_probe::pebs::{
@@ -22,19 +23,23 @@ use ubi_probe::pebs::{
 use ubi_probe::texts::bytes_of;
 use ubi_reading::{Comparison, Format, run_check, run_geometry, run_list, run_show};
 use ubi_scan::MemorySource;
-use ubi_writing::{VolumeKey, run_change, run_compose, run_extract, run_normalise, run_rename};
+use ubi_writing::{
+    Ask, AskedEdits, VolumeKey, run_change, run_compose, run_extract, run_normalise, run_rename,
+    run_update_from,
+};
 
 /// A text of a dynamic and a static volume, with an eraseblock each.
 const SPEC: &[u8] = b"volume 0 dynamic 20 1 00 root\nleb 0 1 6162\n\
     volume 1 static 2 1 00 boot\nbytes 1 61\nbytes 1 62\n";
 
-/// The normal image of `root`, and two clean free eraseblocks after it.
+/// The normal image of `root`, and three clean free eraseblocks after it.
 const SPARES: &[Peb] = &[
     ROOT_FIRST,
     ROOT_SECOND,
     NORMAL_A,
     NORMAL_B,
     NORMAL_C,
+    UNNAMED_FREE,
     UNNAMED_FREE,
     UNNAMED_FREE,
 ];
@@ -103,6 +108,38 @@ fn is_normalised(rt: &impl Abort, alloc: Global, geometry: &Geometry, image: &[u
     let mut source = MemorySource::new(image);
     let answer = run_normalise(alloc, geometry, &mut source, &mut written.as_mut_slice());
     is_written(rt, answer, "blocks 5\n", &written, image)
+}
+
+/// Whether `root` was replaced by a volume of no byte, which takes no eraseblock. If not, memory ran out, and nothing was written.
+fn is_updated(rt: &impl Abort, alloc: Global, geometry: &Geometry, image: &[u8]) -> bool {
+    let (mut written, mut pages) = ([0; 3584], Vec::new(alloc));
+    let asked = AskedEdits {
+        asks: &[Ask::Contents("root=none.img", 0, 0)],
+        contents: &[],
+    };
+    let answer = run_update_from(
+        alloc,
+        geometry,
+        &mut MemorySource::new(image),
+        &Avoided::new(&[], false),
+        &asked,
+        None,
+        &mut written.as_mut_slice(),
+        &mut pages,
+    );
+    match answer {
+        Ok(outcome) => {
+            let text = outcome.text.as_slice();
+            assert!(rt; text.starts_with(b"volume 1 replaces 0 lebs=0 name=root\n"));
+            assert!(rt; text.ends_with(RENAMED.as_bytes()));
+            true
+        }
+        Err(error) => {
+            assert_eq!(rt; error, ToolError::Memory);
+            assert!(rt; !written.iter().any(|byte| *byte != 0));
+            false
+        }
+    }
 }
 
 /// A byte of logical eraseblock 2 of the image.
@@ -179,6 +216,7 @@ fn tells_all(rt: &impl Abort, alloc: Global, geometry: &Geometry) -> Result<bool
         is_told(rt, run_compose(alloc, geometry, SPEC, 1, 0), "blocks 5\n"),
         is_told(rt, changed, CHANGED),
         is_told(rt, renamed, RENAMED),
+        is_updated(rt, alloc, geometry, spares.as_slice()),
     ];
     Ok(!told.contains(&false))
 }
@@ -192,7 +230,7 @@ fn tells_all_or_runs_out_of_memory(rt: HostRuntime) -> Result<(), Fail> {
 }
 
 /// The words of a command, how many bytes of the image they are over, what is answered, and how many bytes are written.
-static WORDS: [(&str, usize, &str, usize); 17] = [
+static WORDS: [(&str, usize, &str, usize); 19] = [
     ("geometry a", 2560, SMALL, 0),
     ("geometry a --format json", 2560, SMALL_OBJECT, 0),
     (
@@ -257,6 +295,18 @@ static WORDS: [(&str, usize, &str, usize); 17] = [
     ),
     (
         "rename a --id 0 --name data --out b --peb 512 --page 64",
+        3584,
+        RENAMED,
+        3584,
+    ),
+    (
+        "update a --write root=new.bin --out b --peb 512 --page 64",
+        4096,
+        UPDATED,
+        4096,
+    ),
+    (
+        "update a --rename root=data --resize root=1152 --out b --peb 512 --page 64",
         3584,
         RENAMED,
         3584,

@@ -43,6 +43,19 @@ pub const RENAMED: &str = "steps 18\n\
     program block=6 page=7\nerase block=1\n\
     program block=1 page=0\n";
 
+/// The plan that gives a volume of an image with three spare eraseblocks one page of contents.
+pub const UPDATED: &str = "volume 1 replaces 0 lebs=1 name=root\n\
+    steps 20\n\
+    program block=5 page=1\nprogram block=5 page=2\n\
+    program block=6 page=1\nprogram block=6 page=2\nprogram block=6 page=3\n\
+    program block=6 page=4\nprogram block=6 page=5\nprogram block=6 page=6\n\
+    program block=6 page=7\nerase block=0\n\
+    program block=0 page=0\n\
+    program block=7 page=1\nprogram block=7 page=2\nprogram block=7 page=3\n\
+    program block=7 page=4\nprogram block=7 page=5\nprogram block=7 page=6\n\
+    program block=7 page=7\nerase block=1\n\
+    program block=1 page=0\n";
+
 /// What `geometry`, `check` and `list` print for `root` as JSON.
 pub const SMALL_OBJECT: &str =
     "{\"geometries\":[{\"data\":128,\"length\":2560,\"oob\":0,\"page\":64,\"peb\":512,\"start\":0,\"vid\":64},\

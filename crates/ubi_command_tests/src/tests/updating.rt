@@ -4,16 +4,16 @@ use std::alloc::Global;
 use std::process::Abort;
 use std::test::Fail;
 use ubi_change::Avoided;
-use ubi_files::Outcome;
+use ubi_files::{Outcome, ToolError};
 use ubi_media::Geometry;
 use ubi_probe::pebs::{
     A, B, BOOT_0, BOOT_1, C, ERASED, FIRST, FIRST_BOOT, FIRST_DATA, FREE, Peb, SECOND, SECOND_BOOT,
     SECOND_DATA, image_of, small,
 };
 use ubi_probe::texts::bytes_of;
-use ubi_probe::{Failure, ProbeWriter};
+use ubi_probe::{Failure, ProbeSource, ProbeWriter};
 use ubi_reading::{Format, Reading};
-use ubi_scan::MemorySource;
+use ubi_scan::{BlockSource, MemorySource};
 use ubi_writing::{Ask, AskedEdits, VolumeKey, run_extract, run_update_from};
 
 /// Bytes that each stand a number of times.
@@ -41,27 +41,40 @@ const LISTED: [bool; 10] = [
     false, false, false, false, false, false, false, false, false, true,
 ];
 
-/// What an update of an image answers, with the eraseblock 9 listed.
-fn updated_of(
+/// What an update of a source answers, and the pages, with the eraseblock 9 listed.
+fn answer_over<S: BlockSource>(
     alloc: Global,
     geometry: &Geometry,
-    image: &[u8],
+    source: &mut S,
     (asks, contents): (&[Ask<'_>], &[u8]),
     stop: Option<u32>,
-) -> Result<Updated, Fail> {
-    let mut source = MemorySource::new(image);
-    let mut writer = ProbeWriter::new(alloc, image.len(), 4000, Failure::Nothing)?;
+    writer: &mut ProbeWriter,
+) -> Result<(Outcome, Vec<u8>), ToolError> {
     let mut pages = Vec::new(alloc);
     let answer = run_update_from(
         alloc,
         geometry,
-        &mut source,
+        source,
         &Avoided::new(&LISTED, false),
         &AskedEdits { asks, contents },
         stop,
-        &mut writer,
+        writer,
         &mut pages,
     )?;
+    Ok((answer, pages))
+}
+
+/// What an update of an image answers.
+fn updated_of(
+    alloc: Global,
+    geometry: &Geometry,
+    image: &[u8],
+    asked: (&[Ask<'_>], &[u8]),
+    stop: Option<u32>,
+) -> Result<Updated, Fail> {
+    let mut source = MemorySource::new(image);
+    let mut writer = ProbeWriter::new(alloc, image.len(), 4000, Failure::Nothing)?;
+    let (answer, pages) = answer_over(alloc, geometry, &mut source, asked, stop, &mut writer)?;
     Ok(Updated {
         answer,
         writer,
@@ -110,7 +123,7 @@ const STATIC: &[Peb] = &[
 ];
 
 /// What is asked for nothing that is there, or for what can't be.
-static REFUSED: [Case; 16] = [
+static REFUSED: [Case; 18] = [
     Case {
         pebs: TWO,
         contents: &[],
@@ -173,7 +186,10 @@ static REFUSED: [Case; 16] = [
     Case {
         pebs: TWO,
         contents: &[(b"a", 385)],
-        asks: &[Ask::Resize("root=1GiB"), Ask::Write("data=new.img", 0, 385)],
+        asks: &[
+            Ask::Resize("root=1GiB"),
+            Ask::Contents("data=new.img", 0, 385),
+        ],
         text: "refused U3 TooLarge name=data\n",
         status: 1,
     },
@@ -196,7 +212,10 @@ static REFUSED: [Case; 16] = [
     Case {
         pebs: TWO,
         contents: &[(b"a", 7)],
-        asks: &[Ask::Rename("data=other"), Ask::Write("root=new.img", 5, 3)],
+        asks: &[
+            Ask::Rename("data=other"),
+            Ask::Contents("root=new.img", 5, 3),
+        ],
         text: "refused the contents end too early edit=1\n",
         status: 1,
     },
@@ -207,11 +226,27 @@ static REFUSED: [Case; 16] = [
         text: "refused N2 SameName slot=0 slot=1\n",
         status: 1,
     },
+    // 2^32 logical eraseblocks, which are more than a record can say.
+    Case {
+        pebs: TWO,
+        contents: &[],
+        asks: &[Ask::Resize("data=1536GiB")],
+        text: "refused U2 Record Negative name=data\n",
+        status: 1,
+    },
+    // 2^31 - 1, which are the most; and 20 of `root`, and four.
+    Case {
+        pebs: TWO,
+        contents: &[],
+        asks: &[Ask::Resize("data=824633720448")],
+        text: "refused U7 NoSpace needs=2147483671 has=9\n",
+        status: 1,
+    },
     // Both numbers of a table of two.
     Case {
         pebs: TWO,
         contents: &[(b"a", 7)],
-        asks: &[Ask::Write("root=new.img", 0, 7)],
+        asks: &[Ask::Contents("root=new.img", 0, 7)],
         text: "refused U6 NoSlot needs=1 has=0\n",
         status: 1,
     },
@@ -219,7 +254,7 @@ static REFUSED: [Case; 16] = [
     Case {
         pebs: ONE,
         contents: &[(b"a", 1153)],
-        asks: &[Ask::Write("root=new.img", 0, 1153)],
+        asks: &[Ask::Contents("root=new.img", 0, 1153)],
         text: "refused K9 NoFree needs=6 has=4\n",
         status: 1,
     },
@@ -264,7 +299,7 @@ static PLANS: [Plan; 4] = [
         case: Case {
             pebs: ONE,
             contents: &[(b"-", 3), (b"a", 384), (b"b", 16)],
-            asks: &[Ask::Write("root=new.img", 3, 400)],
+            asks: &[Ask::Contents("root=new.img", 3, 400)],
             text: "volume 1 replaces 0 lebs=2 name=root\nsteps 27\n",
             status: 0,
         },
@@ -297,7 +332,7 @@ static PLANS: [Plan; 4] = [
             asks: &[
                 Ask::Rename("boot=ker\\x20nel"),
                 Ask::Resize("boot=1153"),
-                Ask::Write("boot=boot.bin", 0, 385),
+                Ask::Contents("boot=boot.bin", 0, 385),
             ],
             text: "volume 1 replaces 0 lebs=2 name=ker\\x20nel\nsteps 27\n",
             status: 0,
@@ -412,7 +447,7 @@ fn updates_a_volume_of_a_chip(rt: HostRuntime) -> Result<(), Fail> {
     let geometry = Geometry::new(131_072, 2048, 2048, 4096, 32)?;
     let image = image_of(alloc, &geometry, ONE)?;
     let contents = bytes_of(alloc, &[(b"a", 126_976), (b"b", 1)])?;
-    let asks = [Ask::Write("root=root.img", 0, 126_977)];
+    let asks = [Ask::Contents("root=root.img", 0, 126_977)];
     for (stop, list, size) in [
         (76, OLD_LIST, 155_648),
         (77, NEW_LIST, 157_696),
@@ -430,6 +465,73 @@ fn updates_a_volume_of_a_chip(rt: HostRuntime) -> Result<(), Fail> {
             are_written(pages, contents.as_slice()),
             "after {stop} steps"
         );
+    }
+    Ok(())
+}
+
+/// What an update of an image answers, unless the read with this number fails, counted from 1.
+fn updated_unless(
+    alloc: Global,
+    geometry: &Geometry,
+    image: &[u8],
+    asked: (&[Ask<'_>], &[u8]),
+    fail_at: u64,
+) -> Result<Option<Updated>, Fail> {
+    let mut source = ProbeSource::new(alloc, geometry, image, fail_at)?;
+    let mut writer = ProbeWriter::new(alloc, image.len(), 4000, Failure::Nothing)?;
+    match answer_over(alloc, geometry, &mut source, asked, None, &mut writer) {
+        Ok((answer, pages)) => Ok(Some(Updated {
+            answer,
+            pages,
+            writer,
+        })),
+        Err(ToolError::Read) => Ok(None),
+        Err(error) => Err(Fail::from(error)),
+    }
+}
+
+/// Each read that fails is told, and the answer is the same where none does.
+#[test]
+fn tells_reads_that_fail(rt: HostRuntime) -> Result<(), Fail> {
+    let alloc = rt.alloc();
+    let (geometry, case) = (small()?, &PLANS[0].case);
+    let image = image_of(alloc, &geometry, case.pebs)?;
+    let contents = bytes_of(alloc, case.contents)?;
+    let (image, asked) = (image.as_slice(), (case.asks, contents.as_slice()));
+    let whole = updated_of(alloc, &geometry, image, asked, None)?;
+    let mut failed = 0u32;
+    for fail_at in 1..200 {
+        match updated_unless(alloc, &geometry, image, asked, fail_at)? {
+            Some(updated) => {
+                assert!(rt; updated.answer.text.as_slice() == whole.answer.text.as_slice());
+                assert!(rt; updated.writer.taken() == whole.writer.taken());
+            }
+            None => failed = failed.saturating_add(1),
+        }
+    }
+    assert!(rt; failed > 40 && failed < 199, "{failed} reads");
+    Ok(())
+}
+
+/// A write that fails is told, and the first of the bytes are written.
+#[test]
+fn tells_writes_that_fail(rt: HostRuntime) -> Result<(), Fail> {
+    let alloc = rt.alloc();
+    let (geometry, case) = (small()?, &PLANS[0].case);
+    let image = image_of(alloc, &geometry, case.pebs)?;
+    let contents = bytes_of(alloc, case.contents)?;
+    let (image, asked) = (image.as_slice(), (case.asks, contents.as_slice()));
+    let whole = updated_of(alloc, &geometry, image, asked, None)?;
+    for room in [0, 511, 512, 3000, 5119] {
+        let mut source = MemorySource::new(image);
+        let mut writer = ProbeWriter::new(alloc, room, 4000, Failure::Nothing)?;
+        let answer = answer_over(alloc, &geometry, &mut source, asked, None, &mut writer);
+        assert!(rt;
+            matches!(answer, Err(ToolError::Write)),
+            "with room for {room}"
+        );
+        assert_eq!(rt; writer.taken().len(), room);
+        assert!(rt; whole.writer.taken().starts_with(writer.taken()));
     }
     Ok(())
 }
