@@ -31,7 +31,8 @@ CASES = ROOT / 'cases'
 OWN = ('runs', 'files')
 RUN = re.compile(r'(|file|pipe)\$(?: (.*))?')
 # The commands that read an image or a text, which a pipe may give; and those that read two.
-PIPED = ('geometry', 'list', 'check', 'show', 'map', 'extract', 'unpack', 'compose', 'normalise', 'change', 'rename')
+PIPED = ('geometry', 'list', 'check', 'show', 'map', 'extract', 'unpack', 'compose', 'normalise', 'change', 'rename',
+         'update')
 PAIRS = ('same', 'diff')
 STDIN = '/dev/stdin'
 
