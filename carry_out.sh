@@ -1,10 +1,10 @@
 #!/bin/sh
 # carry_out.sh [-c] [-d DUMP] [-s N] [-e N] DEVICE PLAN PAGES PEB PAGE
 #
-# Carries out a plan of `ubi_tool change` or `ubi_tool rename` on a NAND chip, one step after the other. Each is read
+# Carries out a plan of `ubi_tool change`, `rename` or `update` on a NAND chip, one step after the other. Each is read
 # back.
 #   DEVICE   the MTD character device, as /dev/mtd0; UBI must not have it attached
-#   PLAN     a file with the lines that `change` or `rename` printed
+#   PLAN     a file with the lines that the command printed
 #   PAGES    the file that it wrote with --pages: the bytes of the pages that the plan programs, in the plan's order
 #   PEB      the bytes of an eraseblock, and
 #   PAGE     those of a page: --peb and --page of the plan
@@ -179,17 +179,26 @@ look_at_users() {
   done < "$root/proc/mounts"
 }
 
+# Makes $tmp/plan, the lines of the plan without those of the volumes that `update` writes, which stand before the steps;
+# and sets `volumes` to how many these are.
+copy_plan() {
+  file "$plan"
+  cat < "$plan" > "$tmp/said" || refuse "$plan can't be read"
+  [ -s "$tmp/said" ] || refuse "$plan is empty"
+  [ -z "$(tail -c 1 "$tmp/said")" ] || refuse "the last line of $plan has no end: it was cut short"
+  volumes=$(awk '!/^volume / { exit } { n++ } END { print n + 0 }' "$tmp/said")
+  tail -n +$((volumes + 1)) "$tmp/said" > "$tmp/plan" || refuse "$tmp can't be written"
+  [ -s "$tmp/plan" ] || refuse "$plan has no steps"
+  [ "$(tr -d 'a-z0-9= \n' < "$tmp/plan" | wc -c)" -eq 0 ] || refuse "$plan has bytes that no plan has, as line ends of DOS"
+}
+
 # Makes $tmp/steps from the plan. Each line is a step: its number, its word, the eraseblock, the page, which of PAGES it
 # programs, counted from 0, and what the page holds before it, going by the steps from the first on: `chip`, what it
 # holds now; `blank`, since one of them erases it; or which of PAGES one of them has programmed.
 read_plan() {
-  file "$plan"
-  cat < "$plan" > "$tmp/plan" || refuse "$plan can't be read"
-  [ "$(tr -d 'a-z0-9= \n' < "$tmp/plan" | wc -c)" -eq 0 ] || refuse "$plan has bytes that no plan has, as line ends of DOS"
-  [ -s "$tmp/plan" ] || refuse "$plan is empty"
-  [ -z "$(tail -c 1 "$tmp/plan")" ] || refuse "the last line of $plan has no end: it was cut short"
-  awk -v blocks="$blocks" -v pages=$((peb / page)) -v first="$first" '
-    function fault(text) { print "line " NR " of the plan: " text; bad = 1; exit 1 }
+  copy_plan
+  awk -v blocks="$blocks" -v pages=$((peb / page)) -v first="$first" -v volumes="$volumes" '
+    function fault(text) { print "line " (NR + volumes) " of the plan: " text; bad = 1; exit 1 }
     NR == 1 {
       if ($0 !~ /^steps (0|[1-9][0-9]*)$/) fault("not `steps N`")
       steps = $2

@@ -84,6 +84,8 @@ HARMLESS = ('fail', 'skip', 'loud', 'status')
 # The plans that end after each step and whose writes go wrong: those of the first in each way, those of the others in
 # one.
 STEPPED = ('peb 8192 used mapped', 'peb 512 clean rename', 'spare change')
+# Lines of the volumes that `update` writes, which stand before its steps.
+VOLUMES = 'volume 5 replaces 1 lebs=40 name=~/(steps)&\\x20;\'"*\nvolume 6 new lebs=0 name=a\n'
 
 
 # Images, and plans for them.
@@ -612,6 +614,13 @@ class Cases:
         yield 'the last line cut short', of('was cut short', change=plan_text(text[:-1]))
         yield 'no steps', of('the plan has no steps', change=plan_text('steps 0\n'))
         yield 'no first line', of('line 1 of the plan: not `steps N`', change=plan_text('\n'.join(lines[1:]) + '\n'))
+        yield 'lines of volumes alone', of('has no steps', change=plan_text(VOLUMES))
+        yield 'a line of a volume behind the steps', of(f'line {plan.count + 2} of the plan: no step',
+            change=plan_text(text + 'volume 6 new lebs=0 name=a\n'))
+        yield 'a wrong step behind lines of volumes', of('line 4 of the plan: no step',
+            change=plan_text(VOLUMES + text.replace(lines[1], 'erase block=x')))
+        yield 'line ends of DOS behind lines of volumes', of('line ends of DOS',
+            change=plan_text(VOLUMES + text.replace('\n', '\r\n')))
         yield 'a number of steps with a zero', of('line 1 of the plan: not `steps N`',
             change=plan_text('steps 0' + text[6:]))
         for word in ('00', '01', '', 'x', '1x', '0x1', '1 ', '1e0', '1 page=1'):
@@ -760,6 +769,16 @@ class Cases:
         line = (f"eraseblock {p} of {chip.device} holds the anchor of a fastmap, and the plan doesn't erase it before "
                 f'all else: erase it (flash_erase -N {chip.device} {p * peb} 1), take a new dump, and plan again')
         chip.expect_refused(line, *options)
+
+    def try_lines_of_volumes(self):
+        """The lines of the volumes that `update` writes stand before the steps, and say nothing to the script."""
+        for name in STEPPED:
+            chip = self.chip(name)
+            plan = chip.plan
+            chip.put('plan', (VOLUMES + plan.text).encode())
+            ran = chip.run('-d', 'dump')
+            chip.expect(ran, 0, plan.after[-1], [line for _, line in plan.all_writes()])
+            expect(f'{plan.count} steps' in ran.out, f'it prints {ran.out!r}')
 
     def try_anchors_that_stay(self):
         for which, p, options in ((0, 5, ()), (1, 6, ('-d', 'dump')), (2, 7, ()), (2, 0, ())):
