@@ -12,14 +12,15 @@ or after `ubiformat`; or after the kernel has attached and detached it, so that 
 has written to a UBIFS. The volumes may reserve all that UBI leaves to them, and one may have grown by itself.
 
 For each dump `update` plans one to four edits: a UBIFS or another volume gets other contents, two volumes exchange
-their names, one is removed and another takes its name, volumes get other names and sizes. `update --stop K` then writes
-the image after K steps, for many K: for none, all, those around the commit point and where the copies of the table
-differ, and others between. The machine writes each of these to the chip; pages that are 0xFF throughout stay
-unprogrammed. The kernel attaches the chip, and the machine tells what the kernel has: the name of each volume, its
-kind, its size, and the hash of its contents, and the hash of the files of each UBIFS that is meant, which it mounts.
-All of it has to be the old before the commit point, and the new from it on. This script works out both from what it has
-put into the volumes and from the edits, not from the plan. Of a UBIFS to which the kernel has written the old is what
-the kernel has read before the dump. The commit point is the step before the first copy of the old table is erased.
+their names, one is removed and another takes its name, volumes get other names and sizes. Some plans take each
+eraseblock that may be taken. `update --stop K` then writes the image after K steps, for many K: for none, all, those
+around the commit point and where the copies of the table differ, and others between. The machine writes each of these
+to the chip; pages that are 0xFF throughout stay unprogrammed. The kernel attaches the chip, and the machine tells what
+the kernel has: the name of each volume, its kind, its size, and the hash of its contents, and the hash of the files of
+each UBIFS that is meant, which it mounts. All of it has to be the old before the commit point, and the new from it on.
+This script works out both from what it has put into the volumes and from the edits, not from the plan. Of a UBIFS to
+which the kernel has written the old is what the kernel has read before the dump. The commit point is the step before
+the first copy of the old table is erased.
 
 Two cuts of each plan are planned again with the same words, one as it is, and one as the kernel leaves it after it has
 attached the chip. The first plans (--whole) are carried out as a whole in the machine, by carry_out.sh with mtd-utils,
@@ -372,6 +373,13 @@ class Volume:
         """How many LEBs the bytes need."""
         return -(-len(self.data) // self.usable(leb))
 
+    def written(self, leb):
+        """How many LEBs an update writes: of a dynamic volume those that aren't blank."""
+        if self.kind == "static":
+            return self.lebs(leb)
+        usable = self.usable(leb)
+        return sum(bool(self.data[at : at + usable].strip(b"\xFF")) for at in range(0, len(self.data), usable))
+
     def told(self, leb):
         """What the machine tells of the volume."""
         size = len(self.data) if self.kind == "static" else self.reserved * self.usable(leb)
@@ -457,14 +465,18 @@ class Contents:
             parts.append(random_bytes(self.rng, part) if self.rng.random() < 0.7 else b"\xFF" * part)
         return b"".join(parts)[:size]
 
-    def new(self, volume, reserved):
-        """Other contents for a volume with this size: the volume that it is then. A static one may be empty."""
+    def sparse(self, volume, lebs):
+        """Bytes for so many LEBs of a volume, of which only the first byte of each isn't blank."""
+        return bytes([self.rng.randrange(255)]).ljust(volume.usable(self.leb), b"\xFF") * lebs
+
+    def new(self, volume):
+        """Other contents for a volume: the volume that it is then. A static one may be empty."""
         if volume.files is not None:
             data, files = self.file_system()
-            return dataclasses.replace(volume, reserved=reserved, data=data, files=files)
-        most = min(reserved, 3) * volume.usable(self.leb)
+            return dataclasses.replace(volume, data=data, files=files)
+        most = min(volume.reserved, 3) * volume.usable(self.leb)
         data = b"" if volume.kind == "static" and self.rng.random() < 0.1 else self.some_bytes(most)
-        return dataclasses.replace(volume, reserved=reserved, data=data)
+        return dataclasses.replace(volume, data=data)
 
 
 class Device:
@@ -472,6 +484,7 @@ class Device:
 
     def __init__(self, rng, number, folder, is_whole):
         self.rng, self.vid, self.way = rng, (SUB, PAGE)[number % 2], WAYS[number % 3]
+        self.is_tight = number % 5 == 0
         self.data = self.vid + SUB + PAGE - 1 & -PAGE
         self.leb = PEB - self.data
         self.contents = Contents(rng, self.leb, folder)
@@ -479,18 +492,21 @@ class Device:
         kinds = [self.file_system] * rng.choice((1, 1, 2)) + [self.static] * rng.randrange(1, 3)
         kinds += [self.dynamic] * rng.randrange(0 if len(kinds) > 2 else 1, 3)
         self.volumes = {name: kind(name) for kind, name in zip(kinds, names)}
-        self.grows = None
+        self.grows, self.used = None, []
         self.choose_blocks(is_whole)
 
     def choose_blocks(self, is_whole):
-        """Chooses how many eraseblocks the partition has and which are bad. Maybe a volume reserves the rest."""
-        rng, bad = self.rng, 2 if is_whole else self.rng.choice((0, 0, 1, 2))
+        """Chooses how many eraseblocks the partition has and which are bad. Maybe a volume reserves the rest; of a
+        tight chip it also has many LEBs."""
+        rng, bad, last = self.rng, 2 if is_whole else self.rng.choice((0, 0, 1, 2)), list(self.volumes)[-1]
+        if self.is_tight:
+            data = self.contents.sparse(self.volumes[last], MOST_LEBS)
+            self.volumes[last] = dataclasses.replace(self.volumes[last], reserved=MOST_LEBS, data=data)
         least = max(64, self.reserved() + self.mapped() // 2 + OWN + bad + 8)
         self.count = rng.randrange(least, max(least, 100) + 1)
         self.bad = sorted(rng.sample(range(self.count), bad))
         self.good = self.count - bad
-        last = list(self.volumes)[-1]
-        if self.volumes[last].files is None and rng.random() < 0.5:
+        if self.is_tight or self.volumes[last].files is None and rng.random() < 0.5:
             self.grows = last if self.way == "attached" else None
             kept = MAY_GO_BAD - bad if self.grows else 0
             more = self.good - OWN - kept - self.reserved()
@@ -563,8 +579,10 @@ class Edits:
         self.free = device.good - device.mapped() - 4
         ways = (self.write_files, self.write_bytes, self.exchange, self.take, self.resize, self.write_any, self.rename)
         self.edit(ways[number % 5])
-        for _ in range(rng.randrange(4)):
+        for _ in range(rng.randrange(3 if device.is_tight else 4)):
             self.edit(rng.choice(ways))
+        if device.is_tight:
+            self.edit(self.fill)
         while not self.words:
             self.edit(rng.choice(ways))
         rng.shuffle(self.words)
@@ -605,9 +623,22 @@ class Edits:
         old = self.one(is_one, (self.replaced, self.sized))
         if old is None:
             return False
-        volume = self.device.contents.new(self.new[old], self.new[old].reserved)
-        needed = volume.lebs(self.device.leb)
-        if needed > min(self.free, volume.reserved):
+        return self.put(old, self.device.contents.new(self.new[old]))
+
+    def fill(self):
+        """Gives a volume so many LEBs that each eraseblock is taken that may be. Not if a UBIFS is used, since it isn't
+        known how many LEBs that has."""
+        untouched = (self.replaced, self.sized)
+        old = self.one(lambda volume: volume.files is None and 0 < self.free <= volume.reserved, untouched)
+        if old is None or self.device.used:
+            return False
+        data = self.device.contents.sparse(self.new[old], self.free)
+        return self.put(old, dataclasses.replace(self.new[old], data=data))
+
+    def put(self, old, volume):
+        """Replaces a volume by another one, if there is room."""
+        needed = volume.written(self.device.leb)
+        if needed > self.free or volume.lebs(self.device.leb) > volume.reserved:
             return False
         self.free -= needed
         self.new[old] = volume
@@ -710,7 +741,7 @@ class Plan:
     def __init__(self, bench, number, seed, is_whole):
         self.rng = random.Random(f"{seed} {number}")
         self.bench, self.machine = bench, bench.machine
-        self.device, self.used = Device(self.rng, number, bench.folder, is_whole), []
+        self.device = Device(self.rng, number, bench.folder, is_whole)
         self.dump()
         self.edits = Edits(self.rng, number, self.device, bench.folder)
         self.words = [word for words in self.edits.words for word in words] + self.device.blank_words()
@@ -751,13 +782,13 @@ class Plan:
         """Maybe lets the kernel write to each UBIFS: then its contents are those that the kernel reads. It fills the
         volume from then on, and so may only grow."""
         for name, volume in self.device.volumes.items():
-            if volume.files is not None and self.rng.random() < 0.5:
+            if volume.files is not None and not self.device.is_tight and self.rng.random() < 0.7:
                 words = f"{self.device.vid} {shlex.quote(name)}"
                 expect(self.machine.run(f"use {words}") == "a file\n", "a file that was written isn't read")
                 told = self.machine.run(f"fetch {words} used.img").strip(";\n")
                 fields = {"data": read(self.path("used.img")).rstrip(b"\xFF"), "files": told.split(" ")[-1]}
                 self.device.volumes[name] = dataclasses.replace(volume, **fields, least=volume.reserved)
-                self.used.append(name)
+                self.device.used.append(name)
 
     def is_settled(self):
         image, bad = read(self.path("dump.img")), self.device.bad
@@ -774,7 +805,7 @@ class Plan:
         write(self.path("new.plan"), text.encode())
         lines = [line for line in text.splitlines() if not line.startswith("volume ")]
         expect(lines[0] == f"steps {len(lines) - 1}", f"a plan begins with {lines[0]}")
-        self.steps = len(lines) - 1
+        self.steps, self.erases = len(lines) - 1, {k for k, line in enumerate(lines) if line.startswith("erase ")}
         self.commit = commit_point(self.device, read(self.path("dump.img")), lines[1:])
 
     def cuts(self, count):
@@ -807,8 +838,12 @@ class Plan:
             self.machine.run("dump held.img && cmp held.img cut.img")
         self.look(k >= self.commit)
 
+    def cut_to_continue(self):
+        """A cut before the commit point that leaves no eraseblock blank, as those may be kept."""
+        return self.rng.choice([k for k in range(self.commit) if k not in self.erases])
+
     def try_again(self, k, is_attached):
-        """Plans the same edits again from a cut before the commit point, as it is or as the kernel leaves it."""
+        """Plans the same edits again from a cut, as it is or as the kernel leaves it."""
         self.update("dump.img", "--stop", str(k), "--out", self.path("cut.img"))
         if is_attached:
             self.machine.run("put cut.img")
@@ -835,7 +870,7 @@ class Plan:
     def __str__(self):
         device, bad = self.device, ",".join(map(str, self.device.bad)) or "none"
         chip = f"{device.count} eraseblocks, bad {bad}, second header at {device.vid}, {device.way}"
-        chip += ", used" if self.used else ""
+        chip += ", used" if device.used else ""
         kinds = ", ".join(self.edits.kinds)
         words = " ".join(self.words).replace(f"{self.bench.folder}{os.sep}", "").replace("x" * 127, "x..x")
         return f"{chip}; {kinds}: {words}; {self.steps} steps, commit point {self.commit}"
@@ -889,9 +924,9 @@ class Bench:
         for k in cuts:
             self.attempt(f"{name}, cut {k}", lambda: plan.try_cut(k))
         if cuts:
-            for is_attached in (False, True):
-                k = plan.rng.randrange(plan.commit)
-                self.attempt(f"{name}, cut {k} planned again", lambda: plan.try_again(k, is_attached))
+            for is_attached, how in ((False, "as it is"), (True, "after it was attached")):
+                k = plan.cut_to_continue()
+                self.attempt(f"{name}, cut {k} planned again {how}", lambda: plan.try_again(k, is_attached))
         print(f"  {len(cuts)} cuts, {self.failed - failed} failed, {time.monotonic() - began:.0f} s", flush=True)
 
 
