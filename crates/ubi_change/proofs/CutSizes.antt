@@ -13,7 +13,7 @@ test_other a b e = grind (arith, nat_tests)
 
 module _ (s : Sizes) (some : 0 < s.page) where
   -- an eraseblock keeps its size
-  block_sized : (b : List ℕ) (next : Step) → length b ≡ s.peb_size → FitsBlock s next → length (block_after s b next) ≡ s.peb_size
+  pub block_sized : (b : List ℕ) (next : Step) → length b ≡ s.peb_size → FitsBlock s next → length (block_after s b next) ≡ s.peb_size
   block_sized b (step.Erase p) long fits = length-replicate s.peb_size 255
   block_sized b (step.Program p page x) long fits =
       length-written s.page page x b some fits.1 (subst (λ n. page < n / s.page) (sym long) fits.0) ∙ long

@@ -1,5 +1,5 @@
 -- The pieces of a part lie in the source, and a read of one that failed began in the bytes of the part.
-use Rattle.ubi_change.proofs.Prelude.{◌≡◌, ℕ, ◌+◌, ◌*◌, ◌<◌, ◌++◌, List, [], ◌∷◌, refl, arith, ap, ap₂, sym, length, take, take_more, get_or, append-nil, ◌∙◌, subst, append_assoc, None, Option, Some, IfSome, cons_option, filter_map, range_with_len, all_append, AllByRecursion, Sizes, VolKind, usable, filter_map-append, usable_some, piece_begins, share_len, pieces_of, LiesIn, built_piece, part_header, Part, Piece, flat_map-append, all_layings, laying_of, layings_of, IsContentsError, IsPartUnread, IsPartReadable, IsReadOfPiece, ContentsError, Laying}
+use Rattle.ubi_change.proofs.Prelude.{◌≡◌, ℕ, ◌+◌, ◌*◌, ◌<◌, ◌++◌, List, [], ◌∷◌, refl, arith, ap, ap₂, sym, length, take, take_more, get_or, append-nil, ◌∙◌, subst, append_assoc, None, Option, Some, IfSome, cons_option, filter_map, range_with_len, all_append, AllByRecursion, Sizes, VolKind, usable, filter_map-append, usable_some, piece_begins, share_len, pieces_of, LiesIn, built_piece, part_header, Part, Piece, flat_map-append, all_layings, laying_of, layings_of, IsContentsError, Source, Err, slice_get-get_or, after_contents, contents_after_update, contents_error, IsPartUnread, IsPartReadable, IsReadOfPiece, ContentsError, Laying}
 use Rattle.ubi_media.specs.declared.vid.VolKind.TheVariants as kind
 use Rattle.ubi_change.specs.declared.errors.ContentsError.TheVariants as contents
 use Rattle.ubi_change.proofs.FirstTakeable.{range_more}
@@ -56,6 +56,11 @@ all_layings_more s bytes ps i p inside here old e =
 
 -- a failed read is one for a part that is listed
 pub contents_unread : (ps : List Part) (i : ℕ) (p : Part) → i < length ps → get_or ps i p ≡ p → (at : ℕ) (e : ContentsError)
-    → IsPartUnread p at e → IsContentsError ps at e
-contents_unread ps i p inside here at (contents.Read id) h = (p, (i, inside, here), h)
-contents_unread ps i p inside here at contents.Memory h = tt
+    → IsPartUnread p at e → IsContentsError ps at (contents_error i e)
+contents_unread ps i p inside here at (contents.Read id) h = (p, slice_get-get_or ps i p inside ∙ ap Some here, h.1, h.2)
+contents_unread ps i p inside here at contents.Memory h = refl
+
+-- and one read of the contents failed
+pub contents_known : (j : Source) (i : ℕ) (e : ContentsError) → contents_after_update {A = List Laying} j (Err (contents_error i e)) ≡ after_contents {A = Unit {0}} j (Err e)
+contents_known j i (contents.Read id) = refl
+contents_known j i contents.Memory = refl

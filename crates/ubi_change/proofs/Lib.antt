@@ -3,7 +3,6 @@ pub mod Attached
 pub mod AttachedImage
 pub mod AvoidedKept
 pub mod BlankListed
-pub mod BlockSteps
 pub mod BothRecords
 pub mod Carried
 pub mod ChangeCauses
@@ -24,6 +23,7 @@ pub mod Copied
 pub mod CopyFits
 pub mod CopyReplaced
 pub mod CountsErases
+pub mod CutBlocks
 pub mod CutSizes
 pub mod EditedAllowed
 pub mod EditedMeaning
@@ -39,6 +39,7 @@ pub mod Fits
 pub mod GivenUp
 pub mod Grounded
 pub mod GroupPlaces
+pub mod GroupsApart
 pub mod HeadersKept
 pub mod JudgedFirst
 pub mod KnownEdits
@@ -54,6 +55,7 @@ pub mod Mounted
 pub mod NamedTwice
 pub mod Newest
 pub mod NothingAvoided
+pub mod OnBlock
 pub mod OnlyRenames
 pub mod OrphanWritten
 pub mod Orphaned

@@ -1,5 +1,6 @@
 -- The names that the proofs of this crate speak of, and where they come from.
 pub use Rattle.std.proofs.Common.{Bool, Less, List, [], ap, append-nil, append_assoc, ap₂, arith, cond, drop, false, get_or, get_or-set_other, get_or-set_same, inl, inr, length, length-append, length-drop, length-set, map, not, refl, replicate, rules, set, slice_range, subst, suc, sym, take, take-add, true, true≢false, zero, ℕ, ◌%◌, ◌*◌, ◌++◌, ◌+◌, ◌-◌, ◌/◌, ◌<◌, ◌^◌, ◌∙◌, ◌∷◌, ◌≡◌, ◌≢◌, ◌≤◌, ◌⊎◌}
+pub use Rattle.std.proofs.KnownBytes.{Appends-nil}
 pub use Rattle.std.proofs.Math.Nat.{div-add-mod, div-eq_of_lt, div-le_of_le-mul, div-mul-le_self, le-max_left, le-max_right, mod-lt}
 pub use Rattle.std.proofs.Math.Seq.{drop-append_seam, take-append-add, take-append_seam}
 pub use Rattle.std.proofs.lemmas.Bool.{and_parts, cases_eq, cases_lt, eqb-true, ltb-true}
@@ -131,7 +132,7 @@ pub use Rattle.ubi_volume.specs.Means.{HoldContents, IsPiece, LebReads, Means, S
 pub use Rattle.ubi_volume.specs.Meant.{Fits, IsMeaning, IsVolume, KeepsNoBlank, Meant, VolumeMap, pieces, records_of}
 pub use Rattle.ubi_volume.specs.Places.{ArePlacesError, case_of}
 pub use Rattle.ubi_volume.specs.Survey.{IsSurvey, IsSurveyOf, Seen, TellsCase}
-pub use Rattle.ubi_volume.specs.Wrote.{All, IsWroteError, Wrote}
+pub use Rattle.ubi_volume.specs.Wrote.{All, First, IsWroteError, NotAll, Wanted, Wrote}
 pub use Rattle.ubi_volume.specs.declared.attached.BlockState.{BlockState}
 pub use Rattle.ubi_volume.specs.declared.content.Content.{Content}
 pub use Rattle.ubi_volume.specs.declared.content.Volume.{Volume}
@@ -147,7 +148,7 @@ pub use Rattle.ubi_change.specs.EditsAsked.{all_asked, asked, first_beyond, is_b
 pub use Rattle.ubi_change.specs.Fitting.{AllFit, AllWithin, FitsBlock, fits, only_clears, page_of}
 pub use Rattle.ubi_change.specs.Frugal.{CountsErases, IsFrugal, TouchesOnly, counter_after, erases, given_up, touched}
 pub use Rattle.ubi_change.specs.Laws.{AcceptsHarmed, AcceptsTorn, CommitAvoiding, CommitSurvives, CommitSurvivesTears, EditsAllowed, PlanSurvives, PlanSurvivesTears, RenameSurvives, RenameSurvivesTears, left}
-pub use Rattle.ubi_change.specs.Laying.{IsReadOfPiece, after_contents, all_layings, contents_error, laying_of, laying_with, layings_of, piece_bytes}
+pub use Rattle.ubi_change.specs.Laying.{IsReadOfPiece, StaysOpen, after_contents, all_layings, contents_error, laying_of, laying_with, layings_of, piece_bytes}
 pub use Rattle.ubi_change.specs.Order.{ComesFirst, Erases, NoErase, Programs, RisesBetweenErases}
 pub use Rattle.ubi_change.specs.Pages.{PagesCarry, line_of, programmed, with_pages}
 pub use Rattle.ubi_change.specs.Placed.{autoresized_twice, edited_parts, edited_records, flagged_twice, free_slots, is_free, parts_of, records_with}
@@ -159,7 +160,7 @@ pub use Rattle.ubi_change.specs.RenamePlanned.{IsFrugalRename, IsFrugalRenameAvo
 pub use Rattle.ubi_change.specs.RenameRefused.{BothGood, HasName, IsFirstCause, MayBeNamed, RenameStands, rename_rank}
 pub use Rattle.ubi_change.specs.Renamed.{ReadSame, nameless, renamed, volume_named}
 pub use Rattle.ubi_change.specs.Sites.{BothFit, FitsIn, copy_on, is_sole_on, lay_on, mount_on, release_on, stays_on}
-pub use Rattle.ubi_change.specs.Steps.{after_text, block_after, blocks_after, step_done, target}
+pub use Rattle.ubi_change.specs.Steps.{after_text, block_after, block_cut, block_step, blocks_after, step_done, target}
 pub use Rattle.ubi_change.specs.Takeable.{able, ec_at, is_clean, is_sole_carrier, is_takeable, is_unused, is_worn, stays, takeable}
 pub use Rattle.ubi_change.specs.Tears.{IsHarmless, MayBeHarmed, MayBeLeft, NoChance, OnlyClears, SurvivesHarm, SurvivesTears, TearsCover}
 pub use Rattle.ubi_change.specs.UpdatePlan.{FitsUpdate, IsBeside, IsPlanOf, contents_after_update, copy_steps, groups_from, header_at, in_order, lay_steps, plan_groups, table_groups}
@@ -196,5 +197,5 @@ pub use Rattle.ubi_change.specs.inner.Ready.{IsReady, IsSitesError, IsUnready}
 pub use Rattle.ubi_change.specs.inner.Renaming.{AreHolders, AreHoldersOf, rename_cause, rename_error}
 pub use Rattle.ubi_change.specs.inner.Sites.{IsSiteAt, ready_on, site_at}
 pub use Rattle.ubi_change.specs.inner.Taking.{AreTaken, IsGroundOf, ListedIs, NotBlankIs, SayBlank, TakeableIs, first_taken, listed_site, with_next}
-pub use Rattle.ubi_change.specs.inner.Updating.{IsBased, IsUnbased, listed_in, update_error}
-pub use Rattle.ubi_change.specs.inner.Writing.{block_cut, block_step, block_text, front_text}
+pub use Rattle.ubi_change.specs.inner.Updating.{IsApart, IsBased, IsUnbased, listed_in, update_error}
+pub use Rattle.ubi_change.specs.inner.Writing.{block_text, front_text}

@@ -1,10 +1,9 @@
 -- What stops an edit that is a rename stops the rename, and nothing does before.
-use Rattle.ubi_change.proofs.Prelude.{◌≡◌, ◌≢◌, inl, inr, ℕ, ◌+◌, ◌<◌, ◌≤◌, Bool, true, false, cond, not, List, [], ◌∷◌, length, refl, ap, sym, ◌∙◌, subst, arith, None, Option, Some, option_map, option_map_or, then_some, cases_eq, at_itself, at_other, same_Some, held_entry, Sizes, Image, IsWholeSize, image_of, eraseblocks, of_blocks, Agreed, Source, WhereHeld, IsAttached, ReadBlank, IsRenameError, IsUpdateError, StopsIfRenames, rename_error, contents_error, ContentsError, UpdateError, is_name, VolumeRecord, Records, twice, records_of, record_of, AttachValue, Meant, IsMeaning, Volume, volume_named, avoiding, Avoided, touchable, renamed, renamed_pages, table_pages, weak_pages, HasName, IsFirstCause, RenameStands, rename_rank, takeable, commit_needs, Laid, asked_records, update_rank, UpdateStands, IsUpdateCause, UpdateRefusal, RenameRefusal, EditFault, no_some, rename_cause}
+use Rattle.ubi_change.proofs.Prelude.{◌≡◌, ◌≢◌, inl, inr, ℕ, ◌+◌, ◌<◌, ◌≤◌, Bool, true, false, cond, not, List, [], ◌∷◌, length, refl, ap, sym, ◌∙◌, subst, arith, None, Option, Some, option_map, option_map_or, then_some, cases_eq, at_itself, at_other, same_Some, held_entry, Sizes, Image, IsWholeSize, image_of, eraseblocks, of_blocks, Agreed, Source, WhereHeld, IsAttached, ReadBlank, IsRenameError, IsUpdateError, StopsIfRenames, rename_error, UpdateError, is_name, VolumeRecord, Records, twice, records_of, record_of, AttachValue, Meant, IsMeaning, Volume, volume_named, avoiding, Avoided, touchable, renamed, renamed_pages, table_pages, weak_pages, HasName, IsFirstCause, RenameStands, rename_rank, takeable, commit_needs, Laid, asked_records, update_rank, UpdateStands, IsUpdateCause, UpdateRefusal, RenameRefusal, EditFault, no_some, rename_cause}
 use Rattle.std.proofs.Common.{◌==◌}
 use Rattle.std.specs.FinMap as finite
 use Rattle.ubi_change.specs.declared.edit.Edit.TheVariants as asking
 use Rattle.ubi_change.specs.declared.errors.EditFault.TheVariants as fault
-use Rattle.ubi_change.specs.declared.errors.ContentsError.TheVariants as contents
 use Rattle.ubi_change.specs.declared.errors.UpdateError.TheVariants as error
 use Rattle.ubi_change.specs.declared.errors.UpdateRefusal.TheVariants as update
 use Rattle.ubi_change.specs.declared.errors.RenameRefusal.TheVariants as refusal
@@ -324,9 +323,3 @@ module _ (s : Sizes) (k : Source) (agrees : Agreed) (size at : ℕ) (agreed : Ag
       told update.Exhausted refusal.Exhausted (λ image is. exhausted_first image av id name [] is) h
   stopped_is (error.Refused (update.NoFree n m)) stops h =
       told (update.NoFree n m) refusal.NoFree (λ image is. free_first image av id name [] n m is) h
-
--- no contents are written
-pub contents_stopped : (s : Sizes) (k : Source) (agrees : Agreed) (av : Avoided) (id : ℕ) (name : List ℕ) (e : ContentsError)
-    → IsRenameError s k agrees av id name (rename_error id (contents_error e))
-contents_stopped s k agrees av id name (contents.Read slot) = tt
-contents_stopped s k agrees av id name contents.Memory = tt

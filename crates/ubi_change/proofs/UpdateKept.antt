@@ -1,5 +1,5 @@
 -- What was read for edits holds for whatever the sources may hold.
-use Rattle.ubi_change.proofs.Prelude.{◌≡◌, ℕ, ◌+◌, ◌≤◌, List, length, Err, None, Some, AllByRecursion, IsGeometry, Sizes, Source, image_of, blocks_of, IsSurvey, Seen, Avoided, states_avoiding, Holders, first_taken, subst, sym, ap, ap₂, ◌∙◌, Agreed, touchable, all_asked, first_beyond, news_of, all_layings, groups_from, in_order, IsUpdateFor, IsBased, IsBeside, AreHolders, Edit, UpdatePlan, Based, Contains, refl, Part, Narrows, WhereHeld, after_contents, contents_after_update, contents_error, IsUpdateCause, IsUpdateError, IsContentsError, IsSitesError, IsUnbased, ContentsError, Laying, UpdateError}
+use Rattle.ubi_change.proofs.Prelude.{UpdateRefusal, slice_get, ◌≡◌, ℕ, ◌+◌, ◌≤◌, List, length, Err, None, Some, AllByRecursion, IsGeometry, Sizes, Source, image_of, blocks_of, IsSurvey, Seen, Avoided, states_avoiding, Holders, first_taken, subst, sym, ap, ap₂, ◌∙◌, Agreed, touchable, all_asked, first_beyond, news_of, all_layings, groups_from, in_order, IsUpdateFor, IsBased, IsBeside, AreHolders, Edit, UpdatePlan, Based, refl, Part, Narrows, WhereHeld, contents_after_update, IsUpdateCause, IsUpdateError, IsContentsError, IsSitesError, IsUnbased, Laying, UpdateError}
 use Rattle.ubi_change.proofs.BlankListed.{survey_blank}
 use Rattle.ubi_change.proofs.CommitKept.{commit_avoiding}
 use Rattle.ubi_change.proofs.PlanBeside.{survey_beside}
@@ -7,7 +7,6 @@ use Rattle.ubi_change.proofs.Surveys.{whole}
 use Rattle.ubi_change.proofs.Touchable.{none_beyond}
 use Rattle.ubi_change.proofs.UpdateMade as make
 use Rattle.std.specs.Prelude.{[]}
-use Rattle.ubi_change.specs.declared.errors.ContentsError.TheVariants as contents
 use Rattle.ubi_change.specs.declared.errors.UpdateError.TheVariants as error
 use Rattle.ubi_change.specs.declared.errors.UpdateRefusal.TheVariants as refusal
 
@@ -92,19 +91,24 @@ sites_known s k agrees av v needs j (error.NotBlank p) h = absurd h
 sites_known s k agrees av v needs j (error.Refused c) h = refl
 
 -- and if a read of contents failed, that one did
-pub contents_known : (j : Source) (e : ContentsError) → contents_after_update {A = UpdatePlan} j (Err (contents_error e)) ≡ after_contents {A = UpdatePlan} j (Err e)
-contents_known j (contents.Read id) = refl
-contents_known j contents.Memory = refl
+pub contents_known : (j : Source) (ps : List Part) (at : ℕ) (e : UpdateError) → IsContentsError ps at e
+    → contents_after_update {A = UpdatePlan} j (Err e) ≡ contents_after_update {A = List Laying} j (Err e)
+contents_known j ps at (error.Contents i) h = refl
+contents_known j ps at (error.Refused c) h = refl
+contents_known j ps at (error.Read p) h = absurd h
+contents_known j ps at (error.NotBlank p) h = absurd h
+contents_known j ps at (error.Beyond i) h = absurd h
 
 module _ (s : Sizes) (k : Source) (agrees : Agreed) (av : Avoided) (es : List Edit) (b : Based) (is : IsBased s k agrees av es b) where
   survey_now : (bytes : List ℕ) → agrees bytes → IsSurvey (image_of s bytes) b.surveyed
   survey_now bytes holds = is.survey.held bytes holds
 
   -- a read of contents that failed
-  pub contents_unread_is : (size at : ℕ) (agreed : Agreed) (e : ContentsError) → IsContentsError b.ready.parts.items at e
-      → IsUpdateError s k agrees size at agreed av es (contents_error e)
-  contents_unread_is size at agreed contents.Memory h = tt
-  contents_unread_is size agreed at (contents.Read id) h = λ bytes holds.
+  pub contents_unread_is : (size at : ℕ) (agreed : Agreed) (e : UpdateError) → IsContentsError b.ready.parts.items at e
+      → IsUpdateError s k agrees size at agreed av es e
+  contents_unread_is size at agreed (error.Refused c) h =
+      subst (λ (d : UpdateRefusal). IsUpdateError s k agrees size at agreed av es (error.Refused d)) (sym h) tt
+  contents_unread_is size at agreed (error.Contents i) h = λ bytes holds.
       (let image = image_of s bytes in
       let survey = survey_now bytes holds in
       let same = make.parts_are image av b.surveyed survey [] (touchable av b.surveyed.states) es is.wholes (is.read bytes holds survey)
@@ -113,11 +117,13 @@ module _ (s : Sizes) (k : Source) (agrees : Agreed) (av : Avoided) (es : List Ed
         from = whole image b.surveyed survey;
         attached = survey.attached;
         part = h.0;
-        asked = subst (λ (ps : List Part). Contains ps h.0) same h.1;
-        slot = sym h.2.0;
-        begins = h.2.1;
-        ends = h.2.2;
+        asked = subst (λ (ps : List Part). slice_get ps i ≡ Some h.0) same h.1;
+        begins = h.2;
+        ends = h.3;
       })
+  contents_unread_is size at agreed (error.Read p) h = absurd h
+  contents_unread_is size at agreed (error.NotBlank p) h = absurd h
+  contents_unread_is size at agreed (error.Beyond i) h = absurd h
 
   -- none of the eraseblocks of a plan is listed, if the source can hold anything
   pub update_beside : (now : Agreed) → Narrows agrees now → (p : UpdatePlan) (n : ℕ) → p.holders ≡ b.ready.holders

@@ -1,7 +1,8 @@
 -- What is written of an image after the steps, eraseblock by eraseblock.
-use Rattle.ubi_change.proofs.Prelude.{◌≡◌, ℕ, ◌+◌, ◌<◌, List, [], ◌∷◌, ◌++◌, append-nil, length, take, drop, slice_range, ap, sym, ◌∙◌, arith, length-set, Option, fold, concat, take_all, take_more, concat-append, Sizes, block, Agreed, IsSource, Source, blocks_in, blocks_of, StreamError, count_blocks, All, IsWroteError, Wrote, part_is, error_where, wrote_where, Splits, error_behind, error_front, wrote_as, wrote_more, wrote_none, blocks_after, after_text, step_done, target, block_after, block_cut, block_text, front_text, Step}
+use Rattle.ubi_change.proofs.Prelude.{◌≡◌, ℕ, ◌+◌, ◌<◌, List, [], ◌∷◌, ◌++◌, append-nil, length, take, drop, slice_range, ap, sym, ◌∙◌, arith, length-set, Option, fold, concat, take_all, take_more, concat-append, Sizes, block, Agreed, IsSource, Source, blocks_in, blocks_of, StreamError, count_blocks, All, First, IsWroteError, NotAll, Wanted, Wrote, Appends-nil, AllWithin, refl, part_is, error_where, wrote_where, Splits, error_behind, error_front, wrote_as, wrote_more, wrote_none, blocks_after, after_text, step_done, target, block_after, block_cut, block_text, front_text, Step}
 use Rattle.std.proofs.Common.{take-append-drop}
-use Rattle.ubi_change.proofs.BlockSteps.{block_done}
+use Rattle.ubi_change.proofs.OnBlock.{block_done}
+use Rattle.ubi_change.proofs.CutBlocks.{cut_sized}
 use Rattle.ubi_change.proofs.WholeReads.{block_whole}
 
 -- an eraseblock that was read whole
@@ -10,6 +11,24 @@ pub whole_read : (s : Sizes) (k : Source) (agrees : Agreed) → IsSource k agree
 whole_read s k agrees is bytes holds p n out inside size read =
     let b = block (blocks_of s bytes) p in
     read ∙ part_is b 0 n ∙ take_all n b (let long = block_whole s k agrees is bytes holds p inside in omega (arith, long, size))
+
+-- nothing is written of an eraseblock for which steps can't be made
+pub nothing_written : (s : Sizes) (k : Source) (agrees : Agreed) → IsSource k agrees → 0 < s.page → 0 < s.peb_size → (n p : ℕ) (steps : List Step)
+    → AllWithin s n steps → p < blocks_in s k → (a : Option (List ℕ)) (done : ℕ) → Wrote agrees a a (block_text s p steps) NotAll done done
+nothing_written s k agrees is paged sized n p steps within inside a done = record {
+  bytes = [];
+  got = Appends-nil a;
+  count = omega arith;
+  held = λ bytes holds text same.
+      (let long = ap length same
+      ∙ cut_sized s paged n p steps within (block (blocks_of s bytes) p) (block_whole s k agrees is bytes holds p inside) in
+      (omega (arith, long, sized), refl));
+}
+
+-- nor of one that can't be read
+pub nothing_of_unread : (agrees : Agreed) (a : Option (List ℕ)) (wanted : Wanted) (done : ℕ) → Wrote agrees a a wanted First done done
+nothing_of_unread agrees a wanted done =
+    record { bytes = []; got = Appends-nil a; count = omega arith; held = λ bytes holds text same. (omega arith, refl) }
 
 length-done : (s : Sizes) (bs : List (List ℕ)) (steps : List Step) → length (fold (step_done s) bs steps) ≡ length bs
 length-done s bs [] = omega arith

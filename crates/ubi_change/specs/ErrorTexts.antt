@@ -89,4 +89,4 @@ update_error_text (error.Refused c) = update_refusal_text c
 update_error_text (error.Read p) = codes "a read failed block=" ++ decimal p
 update_error_text (error.NotBlank p) = codes "K10 NotBlank block=" ++ decimal p
 update_error_text (error.Beyond i) = codes "the contents end too early edit=" ++ decimal i
-update_error_text (error.Contents id) = codes "a read of contents failed volume=" ++ decimal id
+update_error_text (error.Contents i) = codes "a read of contents failed written=" ++ decimal i

@@ -34,3 +34,7 @@ FitsBlock s (step.Program p page bytes) = (page < s.peb_size / s.page) × (lengt
 -- each step works within one of n eraseblocks
 abbrev pub AllWithin : Sizes → ℕ → List Step → Type 0
 AllWithin s n steps = (k : ℕ) (next : Step) → slice_get steps k ≡ Some next → (target next < n) × FitsBlock s next
+
+-- each step works within an eraseblock, of which there may be any number
+abbrev pub WorkWithin : Sizes → List Step → Type 0
+WorkWithin s steps = (n : ℕ) × AllWithin s n steps

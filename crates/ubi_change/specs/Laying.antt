@@ -1,5 +1,5 @@
 -- What is written of the pieces of new volumes.
-use Rattle.std.specs.Prelude.{ℕ, if◌then◌else◌, List, filter_map, flat_map, Option, Some, None, Result, Err}
+use Rattle.std.specs.Prelude.{◌≡◌, ℕ, if◌then◌else◌, List, filter_map, flat_map, Option, Some, None, Result, Err}
 use Rattle.std.specs.List.{range_with_len}
 use Rattle.ubi_media.specs.Geometry.{Sizes}
 use Rattle.ubi_scan.specs.Source.{Source, failed}
@@ -42,10 +42,15 @@ abbrev pub after_contents : {A : Type 0} → Source → Result A ContentsError �
 after_contents k (Err (contents.Read _)) = failed k
 after_contents k _ = k
 
--- what an error of contents says about a plan
-abbrev pub contents_error : ContentsError → UpdateError
-contents_error (contents.Read id) = error.Contents id
-contents_error contents.Memory = error.Refused refusal.Memory
+-- a source of contents has the size that it had, and is promised to hold what it was
+pub record StaysOpen (old new : Source) : Type 0 where
+  pub size : new.size ≡ old.size
+  pub held : new.held ≡ old.held
+
+-- what an error of contents says about a plan, if the i-th of the volumes that are written was read
+abbrev pub contents_error : ℕ → ContentsError → UpdateError
+contents_error i (contents.Read id) = error.Contents i
+contents_error i contents.Memory = error.Refused refusal.Memory
 
 -- a read of a piece failed, which began at this place
 abbrev pub IsReadOfPiece : Sizes → Piece → ℕ → ContentsError → Type 0

@@ -1,5 +1,5 @@
 -- What holds for a plan of edits, and why edits of a source aren't planned.
-use Rattle.std.specs.Prelude.{◌≡◌, ℕ, ◌+◌, ◌<◌, ◌≤◌, Contains, List, Some, length}
+use Rattle.std.specs.Prelude.{◌≡◌, ℕ, ◌+◌, ◌<◌, ◌≤◌, List, Some, length, slice_get}
 use Rattle.std.specs.List.{AllByRecursion}
 use Rattle.ubi_media.specs.Geometry.{Sizes}
 use Rattle.ubi_scan.specs.Image.{Image, IsWholeSize, image_of, of_blocks}
@@ -60,13 +60,12 @@ abbrev pub StopsIfRenames : List Edit → UpdateError → Type 0
 StopsIfRenames es (error.Refused c) = AllByRecursion IsRename es → StopsRenames c
 StopsIfRenames es _ = Unit {0}
 
--- a place in the source of contents lies in the bytes of a volume that edits of an image write, and the slot is that volume's
-pub record IsAskedAt (image : Image) (es : List Edit) (id at : ℕ) : Type 0 where
+-- a place in the source of contents lies in the bytes of the i-th of the volumes that edits of an image write
+pub record IsAskedAt (image : Image) (es : List Edit) (i at : ℕ) : Type 0 where
   pub from : AttachValue
   pub attached : IsAttached image from
   pub part : Part
-  pub asked : Contains (of_blocks asked_parts image from es) part
-  pub slot : part.id ≡ id
+  pub asked : slice_get (of_blocks asked_parts image from es) i ≡ Some part
   pub begins : part.start ≤ at
   pub ends : at < part.start + part.len
 
@@ -77,7 +76,7 @@ IsUpdateError s k agrees size at agreed av es (error.Beyond i) = first_beyond si
 IsUpdateError s k agrees size at agreed av es (error.Read p) = IsWholeSize s k.size × (p < blocks_in s k)
 IsUpdateError s k agrees size at agreed av es (error.NotBlank p) =
     IsWholeSize s k.size × WhereHeld agrees (λ bytes. of_blocks IsNotBlank (image_of s bytes) av p)
-IsUpdateError s k agrees size at agreed av es (error.Contents id) = WhereHeld agrees (λ bytes. IsAskedAt (image_of s bytes) es id at)
+IsUpdateError s k agrees size at agreed av es (error.Contents i) = WhereHeld agrees (λ bytes. IsAskedAt (image_of s bytes) es i at)
 IsUpdateError s k agrees size at agreed av es (error.Refused refusal.Memory) = Unit {0}
 IsUpdateError s k agrees size at agreed av es (error.Refused (refusal.Attach c)) = ArePlacesError s k agrees (stream.Refused c)
 IsUpdateError s k agrees size at agreed av es (error.Refused c) =

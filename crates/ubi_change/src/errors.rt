@@ -3,7 +3,6 @@
 ghost use Rattle.std.specs.Prelude.{◌≡◌, Some};
 ghost use Rattle.ubi_change.specs.declared.errors.ChangeRefusal.{ChangeRefusal};
 ghost use Rattle.ubi_change.specs.declared.errors.RenameRefusal.{RenameRefusal};
-ghost use Rattle.ubi_change.specs.Laying.{contents_error};
 ghost use Rattle.ubi_change.specs.declared.errors.ContentsError.{ContentsError};
 ghost use Rattle.ubi_change.specs.declared.errors.UpdateError.{UpdateError};
 ghost use Rattle.ubi_change.specs.declared.errors.UpdateRefusal.{UpdateRefusal};
@@ -285,8 +284,8 @@ pub enum UpdateError {
     NotBlank(u32),
     /// The source of contents ends before the bytes of a volume that is written do: the edit, from 0.
     Beyond(usize),
-    /// A read of contents failed: the slot of the volume that is written.
-    Contents(u32),
+    /// A read of contents failed: for which of the volumes that are written, counted from 0 in the order of their edits.
+    Contents(usize),
 }
 
 impl fmt::Display for UpdateError {
@@ -298,23 +297,12 @@ impl fmt::Display for UpdateError {
             UpdateError::Read(p) => write!(f, "a read failed block={p}"),
             UpdateError::NotBlank(p) => write!(f, "K10 NotBlank block={p}"),
             UpdateError::Beyond(i) => write!(f, "the contents end too early edit={i}"),
-            UpdateError::Contents(id) => write!(f, "a read of contents failed volume={id}"),
+            UpdateError::Contents(i) => write!(f, "a read of contents failed written={i}"),
         }
     }
 }
 
 impl Error for UpdateError {}
-
-impl From<ContentsError> for UpdateError {
-    ghost from_gives = { λ error e. e ≡ contents_error error };
-
-    fn from(error: ContentsError) -> UpdateError {
-        match error {
-            ContentsError::Read(id) => UpdateError::Contents(id),
-            ContentsError::Memory => UpdateError::Refused(UpdateRefusal::Memory),
-        }
-    }
-}
 
 impl From<UpdateRefusal> for UpdateError {
     ghost from_gives = { λ cause e. e ≡ UpdateError.Refused cause };

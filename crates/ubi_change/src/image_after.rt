@@ -2,13 +2,15 @@
 
 ghost use Rattle.std.specs.Prelude.{◌≡◌, ℕ, ◌*◌, ◌/◌, ◌<◌, ◌+◌, ◌^◌, IfErr, IfOk, drop, length, nat_lt, true};
 ghost use Rattle.ubi_change.specs.Fitting.{AllWithin, FitsBlock, fits, only_clears, page_of};
-ghost use Rattle.ubi_change.specs.inner.Writing.{block_cut, block_text};
-ghost use Rattle.ubi_change.specs.Steps.{after_text, block_after, step_done};
+ghost use Rattle.ubi_change.specs.Laying.{StaysOpen};
+ghost use Rattle.ubi_change.specs.inner.Writing.{block_text};
+ghost use Rattle.ubi_change.specs.Steps.{IsReadOrWrite, after_text, block_after, step_done};
 ghost use Rattle.ubi_scan.specs.Image.{Image, IsWholeSize, block, eraseblocks, image_of, of_blocks};
-ghost use Rattle.ubi_scan.specs.Source.{Narrows, blocks_in};
+ghost use Rattle.ubi_scan.specs.Source.{Narrows, WhereHeld, blocks_in};
 ghost use Rattle.ubi_scan.specs.Stream.{NamesBlock, after};
 ghost use Rattle.ubi_volume.specs.Wrote.{All, IsWroteError, Wrote};
 
+use crate::block_steps::BlockSteps;
 use crate::step::Step;
 use std::io::Write;
 use ubi_media::Geometry;
@@ -69,7 +71,7 @@ fn only_clears(old: &[u8], new: &[u8]) -> bool
 }
 
 /// Carries a step out on the bytes of its eraseblock.
-fn apply_to(geometry: &Geometry, block: &mut [u8], step: &Step)
+pub fn apply_to(geometry: &Geometry, block: &mut [u8], step: &Step)
     requires size { length block.old ≡ geometry.now.peb_size }
     requires page { FitsBlock geometry.now step.now }
     ensures { block.new ≡ block_after geometry.now block.old step.now }
@@ -95,80 +97,81 @@ pub fn apply(geometry: &Geometry, image: &mut [u8], step: &Step)
     apply_to(geometry, &mut image[start..start + size], step);
 }
 
-/// Carries out, on an eraseblock, those of the steps that change it.
-pub fn apply_in(geometry: &Geometry, p: u32, block: &mut [u8], steps: &[Step])
-    requires size { length block.old ≡ geometry.now.peb_size }
-    requires within { (n : ℕ) × AllWithin geometry.now n steps.now }
-    ensures done { block.new ≡ block_cut geometry.now p steps.now block.old }
-    ensures size { length block.new ≡ geometry.now.peb_size }
-{
-    for step in steps {
-        if step.eraseblock() == p {
-            apply_to(geometry, block, step);
-        }
-    }
-}
-
 /// Writes an eraseblock after those of the steps that change it. Returns how many bytes are now written; `done` of them
 /// were written before.
 ///
 /// # Errors
 ///
-/// The read failed, or a write did.
-fn write_block<S: BlockSource, W: Write>(
+/// The read failed; or a write did, or the steps couldn't be made.
+fn write_block<S: BlockSource, E: BlockSteps, W: Write>(
     geometry: &Geometry,
     source: &mut S,
     p: u32,
-    steps: &[Step],
+    steps: &mut E,
     buffer: &mut [u8],
     writer: &mut W,
     done: u64,
 ) -> Result<u64, StreamError>
     requires inside { p < blocks_in geometry.now (S.known source.old) }
-    requires within { AllWithin geometry.now (blocks_in geometry.now (S.known source.old)) steps.now }
+    requires ready { E.ready steps.old geometry.now }
     requires room { length buffer.old ≡ geometry.now.peb_size }
     requires few { done + geometry.now.peb_size < 2 ^ 64 }
     ensures known { S.known source.new ≡ after (S.known source.old) result }
     ensures narrows { Narrows (S.agrees source.old) (S.agrees source.new) }
-    ensures written { IfOk result (Wrote (S.agrees source.new) (W.contents writer.old) (W.contents writer.new) (block_text geometry.now p steps.now) All done) }
+    ensures ready { E.ready steps.new geometry.now }
+    ensures same { E.plan steps.new ≡ E.plan steps.old }
+    ensures kept { StaysOpen (E.known steps.old) (E.known steps.new) }
+    ensures contents { Narrows (E.agrees steps.old) (E.agrees steps.new) }
+    ensures written { IfOk result (λ n. WhereHeld (E.agrees steps.new) (λ bytes. Wrote (S.agrees source.new) (W.contents writer.old) (W.contents writer.new) (block_text geometry.now p (E.plan steps.old bytes)) All done n)) }
     ensures count { IfOk result (λ n. n ≡ done + geometry.now.peb_size) }
-    ensures failed { IfErr result (IsWroteError geometry.now (S.known source.old) (S.agrees source.new) (W.contents writer.old) (W.contents writer.new) (block_text geometry.now p steps.now) done) }
+    ensures failed { IfErr result (λ e. WhereHeld (E.agrees steps.new) (λ bytes. IsWroteError geometry.now (S.known source.old) (S.agrees source.new) (W.contents writer.old) (W.contents writer.new) (block_text geometry.now p (E.plan steps.old bytes)) done e)) }
+    ensures kind { IfErr result IsReadOrWrite }
     ensures named { IfErr result (NamesBlock geometry.now (S.failed_at source.new)) }
 {
+    let size = u64::from(geometry.peb_size());
     match read_part(source, geometry, p, 0, buffer) {
         Ok(()) => {}
         Err(StreamError::Read(p, _)) => return Err(StreamError::Read(p, done)),
         Err(_) => unreachable!(),
     }
-    apply_in(geometry, p, buffer, steps);
+    match steps.apply_in(geometry, p, buffer) {
+        Ok(()) => {}
+        // What can't be made isn't written.
+        Err(_) => return Err(StreamError::Write(done)),
+    }
     match write_all(writer, buffer) {
-        Ok(()) => Ok(done + buffer.len() as u64),
+        Ok(()) => Ok(done + size),
         Err(more) => Err(StreamError::Write(done + more as u64)),
     }
 }
 
 /// Writes the image of a source after the steps, and returns how many bytes that is. One eraseblock is held at a time, in
-/// a buffer of its size. No other memory is allocated, and each eraseblock is read once.
+/// a buffer of its size. No other memory is allocated, unless to make the steps, and each eraseblock is read once.
 ///
 /// # Errors
 ///
-/// `Read` if a read failed, and `Write` if a write failed: the writer then received the first of the bytes, and the
-/// error says how many.
-pub fn write_after<S: BlockSource, W: Write>(
+/// `Read` if a read failed, and `Write` if a write failed, or if steps couldn't be made: the writer then received the first of
+/// the bytes, and the error says how many.
+pub fn write_after<S: BlockSource, E: BlockSteps, W: Write>(
     geometry: &Geometry,
     source: &mut S,
-    steps: &[Step],
+    steps: &mut E,
     buffer: &mut [u8],
     writer: &mut W,
 ) -> Result<u64, StreamError>
     requires whole { IsWholeSize geometry.now (S.known source.old).size }
-    requires within { AllWithin geometry.now (blocks_in geometry.now (S.known source.old)) steps.now }
+    requires ready { E.ready steps.old geometry.now }
     requires room { length buffer.old ≡ geometry.now.peb_size }
     ensures known { S.known source.new ≡ after (S.known source.old) result }
     ensures narrows { Narrows (S.agrees source.old) (S.agrees source.new) }
-    ensures written { IfOk result (Wrote (S.agrees source.new) (W.contents writer.old) (W.contents writer.new) (after_text geometry.now steps.now) All 0) }
+    ensures ready { E.ready steps.new geometry.now }
+    ensures same { E.plan steps.new ≡ E.plan steps.old }
+    ensures kept { StaysOpen (E.known steps.old) (E.known steps.new) }
+    ensures contents { Narrows (E.agrees steps.old) (E.agrees steps.new) }
+    ensures written { IfOk result (λ n. WhereHeld (E.agrees steps.new) (λ bytes. Wrote (S.agrees source.new) (W.contents writer.old) (W.contents writer.new) (after_text geometry.now (E.plan steps.old bytes)) All 0 n)) }
     ensures count { IfOk result (λ n. n ≡ (S.known source.old).size) }
-    ensures failed { IfErr result (IsWroteError geometry.now (S.known source.old) (S.agrees source.new) (W.contents writer.old) (W.contents writer.new) (after_text geometry.now steps.now) 0) }
+    ensures failed { IfErr result (λ e. WhereHeld (E.agrees steps.new) (λ bytes. IsWroteError geometry.now (S.known source.old) (S.agrees source.new) (W.contents writer.old) (W.contents writer.new) (after_text geometry.now (E.plan steps.old bytes)) 0 e)) }
+    ensures kind { IfErr result IsReadOrWrite }
     ensures named { IfErr result (NamesBlock geometry.now (S.failed_at source.new)) }
 {
     let count = source.len() / u64::from(geometry.peb_size());

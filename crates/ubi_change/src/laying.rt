@@ -2,13 +2,14 @@
 
 ghost use Rattle.std.specs.List.{AllByRecursion, cons_option};
 ghost use Rattle.std.specs.Prelude.{◌≡◌, ◌++◌, [], IfErr, IfOk, IfSome, OnOk, length};
-ghost use Rattle.ubi_change.specs.Laying.{after_contents, all_layings, laying_of, layings_of};
+ghost use Rattle.ubi_change.specs.Laying.{after_contents, all_layings, contents_error, laying_of, layings_of};
+ghost use Rattle.ubi_change.specs.UpdatePlan.{contents_after_update};
 ghost use Rattle.ubi_change.specs.inner.Laying.{IsContentsError, IsPartUnread, IsPartReadable};
 ghost use Rattle.ubi_change.specs.Laying.{IsReadOfPiece};
 ghost use Rattle.ubi_laid.specs.Pieces.{IsInBuffer, LiesIn};
 ghost use Rattle.ubi_scan.specs.Source.{Narrows, WhereHeld};
 
-use crate::errors::ContentsError;
+use crate::errors::{ContentsError, UpdateError, UpdateRefusal};
 use crate::trim::{pages_needed, whole_text};
 use std::alloc::{AllocError, Global};
 use ubi_laid::{Part, Piece, fetch, is_left_out, piece_count, piece_of};
@@ -121,21 +122,31 @@ fn add_part<T: BlockSource>(
     Ok(())
 }
 
+/// What an error of contents says about a plan, if one of the volumes that are written was read, counted from 0.
+pub fn contents_error(i: usize, error: ContentsError) -> UpdateError
+    ensures { result ≡ contents_error i error }
+{
+    match error {
+        ContentsError::Read(_) => UpdateError::Contents(i),
+        ContentsError::Memory => UpdateError::Refused(UpdateRefusal::Memory),
+    }
+}
+
 /// What is written of parts.
 ///
 /// # Errors
 ///
-/// `Read` if a read failed. `Memory` if memory ran out.
+/// `Contents` if a read failed, or `Memory` if memory ran out.
 pub fn layings_from<T: BlockSource>(
     alloc: Global,
     geometry: &Geometry,
     parts: &[Part],
     contents: &mut T,
     buffer: &mut [u8],
-) -> Result<Vec<Laying>, ContentsError>
+) -> Result<Vec<Laying>, UpdateError>
     requires parts { AllByRecursion (IsPartReadable geometry.now (T.known contents.old).size) parts.now }
     requires room { length buffer.old ≡ geometry.now.peb_size }
-    ensures known { T.known contents.new ≡ after_contents (T.known contents.old) result }
+    ensures known { T.known contents.new ≡ contents_after_update (T.known contents.old) result }
     ensures narrows { Narrows (T.agrees contents.old) (T.agrees contents.new) }
     ensures layings { IfOk result (λ layings. WhereHeld (T.agrees contents.new) (λ bytes. layings.items ≡ all_layings geometry.now bytes parts.now)) }
     ensures lie { IfOk result (λ layings. AllByRecursion (λ l. LiesIn geometry.now (T.known contents.old).size l.piece) layings.items) }
@@ -143,7 +154,10 @@ pub fn layings_from<T: BlockSource>(
 {
     let mut layings = Vec::new(alloc);
     for i in 0..parts.len() {
-        add_part(geometry, &parts[i], contents, buffer, &mut layings)?;
+        match add_part(geometry, &parts[i], contents, buffer, &mut layings) {
+            Ok(()) => {}
+            Err(error) => return Err(contents_error(i, error)),
+        }
     }
     Ok(layings)
 }

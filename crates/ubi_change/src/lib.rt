@@ -30,11 +30,13 @@
 #![tactic(auto)]
 
 mod avoided;
+mod block_steps;
 mod change;
 mod copies;
 mod drafting;
 mod edit;
 mod errors;
+mod first_steps;
 mod ground;
 mod image_after;
 mod judging;
@@ -55,11 +57,13 @@ mod weak_check;
 mod written_out;
 
 pub use avoided::Avoided;
+pub use block_steps::{BlockSteps, HeldSteps};
 pub use change::{plan_change, plan_change_from};
 pub use edit::{Edit, NewVolume};
 pub use errors::{
     ChangeRefusal, ContentsError, EditFault, PlanError, RenameRefusal, UpdateError, UpdateRefusal,
 };
+pub use first_steps::FirstSteps;
 pub use image_after::{apply, step_fits, write_after};
 pub use rename::{plan_rename, plan_rename_from};
 pub use step::Step;

@@ -15,6 +15,7 @@ ghost use Rattle.ubi_scan.specs.Source.{Narrows};
 use crate::avoided::Avoided;
 use crate::edit::Edit;
 use crate::errors::{EditFault, PlanError, RenameRefusal, UpdateError, UpdateRefusal};
+use crate::laying::contents_error;
 use crate::step::Step;
 use crate::updating::plan_update_from;
 use std::alloc::{AllocError, Global};
@@ -106,7 +107,10 @@ fn steps_of<S: BlockSource>(
         edits.as_slice(),
     )?;
     let mut buffer = Vec::from_elem(alloc, 0u8, geometry.peb_size() as usize)?;
-    Ok(plan.steps(alloc, geometry, &mut contents, buffer.as_mut_slice())?)
+    match plan.steps(alloc, geometry, &mut contents, buffer.as_mut_slice()) {
+        Ok(steps) => Ok(steps),
+        Err(error) => Err(contents_error(0, error)),
+    }
 }
 
 /// The steps of [`plan_rename`] for the image of a source. One of its eraseblocks is held at a time.

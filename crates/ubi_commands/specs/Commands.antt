@@ -10,7 +10,7 @@ use Rattle.ubi_commands.specs.CommandLine.{AsksAsked, AsksChange, AsksDump, Asks
 use Rattle.ubi_reading.specs.Comparisons.{ComparesOf, comparison_format}
 use Rattle.ubi_writing.specs.Asks.{value_in}
 use Rattle.ubi_writing.specs.Compose.{ComposesInto}
-use Rattle.ubi_writing.specs.Contents.{OfContents, all_asks, all_bytes}
+use Rattle.ubi_writing.specs.Contents.{OfContents, all_asks}
 use Rattle.ubi_files.specs.Disk.{AllStay, Files, OthersStay, OutsideStay, Stays}
 use Rattle.ubi_files.specs.Dump.{greatest_dump}
 use Rattle.ubi_writing.specs.Extract.{ExtractsOf, HasTextIn}
@@ -240,9 +240,9 @@ said_of (request.Update dump update_it) =
       asks = λ words. AsksDump words dump × AsksUpdate words update_it;
       answers = λ d e o. WithList d e dump.bad image (OnGrid d e dump image (OfFile d dump image
           (λ s k agrees. OfContents d dump.numbers update_it.contents.now
-          (λ fs. WritesPlan out plan.pages d e
-          (UpdatesFrom kept (all_asks update_it fs) (all_bytes fs) plan.stop s k agrees)
-          (HasUpdate kept (all_asks update_it fs) (all_bytes fs) s k agrees))))) o × KeepsImage d e image o;
+          (λ fs bytes. WritesPlan out plan.pages d e
+          (UpdatesFrom kept (all_asks update_it fs) bytes plan.stop s k agrees)
+          (HasUpdate kept (all_asks update_it fs) bytes s k agrees))))) o × KeepsImage d e image o;
       leaves = λ d e. PlanStays d e plan × All (λ word. Stays d e (value_in word.now)) update_it.contents.now × KeepsPart d e dump image;
     }
 

@@ -1,7 +1,7 @@
 //! Sources over files.
 
 ghost use Rattle.std.specs.Option.{ForSome};
-ghost use Rattle.std.specs.Prelude.{◌≡◌, ◌+◌, ◌<◌, ◌^◌, [], IfOk, length, true, take};
+ghost use Rattle.std.specs.Prelude.{◌≡◌, ◌+◌, ◌<◌, ◌^◌, [], IfOk, IfSome, None, length, true, take};
 ghost use Rattle.ubi_scan.specs.Placed.{IsSourceOf, StandsAt};
 ghost use Rattle.ubi_scan.specs.Source.{file_owned, file_sized, known_by};
 ghost use Rattle.ubi_scan.specs.Promised.{keeps_promise};
@@ -80,6 +80,20 @@ impl<F: PlacedFile> FileSource<F> {
             failed_at: 0,
             trace: Trace::new(),
             window: Window::new(),
+        }
+    }
+}
+
+impl<F: PlacedFile> FileSource<F> {
+    /// The place at which the last failed read began. `None` if none has failed.
+    pub fn failed_place(&self) -> Option<u64>
+        ensures none { result ≡ None → self.now.failures ≡ 0 }
+        ensures place { IfSome result (λ at. at ≡ self.now.failed_at) }
+    {
+        if self.failures == 0 {
+            None
+        } else {
+            Some(self.failed_at)
         }
     }
 }

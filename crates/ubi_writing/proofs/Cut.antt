@@ -1,5 +1,5 @@
 -- The image after the first steps of a plan: what was written of it, and what it means.
-use Rattle.ubi_writing.proofs.Prelude.{◌≡◌, ℕ, zero, suc, ◌/◌, ◌<◌, ◌≤◌, List, [], ◌∷◌, length, take, arith, ap, sym, subst, ◌∙◌, Option, fold, if◌then◌else◌, slice_get, concat, take_all, IsGeometry, Sizes, AllWithin, blocks_after, after_text, step_done, Step, blocks-cut, length-cut, Image, IsWholeImage, IsWholeSize, eraseblocks, image_of, Agreed, Source, blocks_of, StreamError, AcceptsBlocks, Meant, First, IsWroteError, Wanted, Wrote, error_as, CutAccepts, IsCutAfter, cut_text, steps_done, nat_lt, None}
+use Rattle.ubi_writing.proofs.Prelude.{◌≡◌, ℕ, ◌/◌, ◌<◌, ◌≤◌, List, length, take, arith, ap, sym, subst, ◌∙◌, Option, fold, if◌then◌else◌, concat, take_all, IsGeometry, Sizes, AllWithin, blocks_after, after_text, step_done, Step, blocks-cut, length-cut, Image, IsWholeImage, IsWholeSize, eraseblocks, image_of, Agreed, Source, blocks_of, StreamError, AcceptsBlocks, Meant, First, NotAll, IsWroteError, Wanted, Wrote, error_as, wrote_as, CutAccepts, IsCutAfter, cut_text, steps_done, nat_lt, None}
 use Rattle.std.specs.Prelude.{Some}
 use Rattle.ubi_scan.specs.declared.errors.StreamError.TheVariants as stream
 
@@ -17,23 +17,17 @@ pub few_done : (steps : List Step) (stop : Option ℕ) → steps_done steps stop
 few_done steps (Some k) = omega arith
 few_done steps None = omega arith
 
--- the first of some steps that work within their eraseblocks do so
-first_get : (xs : List Step) (n k : ℕ) (next : Step) → slice_get (take n xs) k ≡ Some next → slice_get xs k ≡ Some next
-first_get [] zero k next e = e
-first_get [] (suc n) k next e = e
-first_get (x ∷ xs) zero k next e = absurd (cc)
-first_get (x ∷ xs) (suc n) zero next e = e
-first_get (x ∷ xs) (suc n) (suc k) next e = first_get xs n k next e
-
-pub first_within : (s : Sizes) (n : ℕ) (steps : List Step) (k : ℕ) → AllWithin s n steps → AllWithin s n (take k steps)
-first_within s n steps k all i next e = all i next (first_get steps k i next e)
-
 -- the bytes of an image after the first k steps are those after these alone
 module _ (s : Sizes) (steps : List Step) (k : ℕ) where
   alone : (image text : List ℕ) → cut_text s steps k image text → after_text s (take k steps) image text
   alone image text is =
       let firsts = take k steps in
       is ∙ ap (λ (xs : List Step). concat (fold (step_done s) (blocks_of s image) xs)) (sym (take_all (length firsts) firsts (omega arith)))
+
+  -- so what was written of these is of those
+  pub wrote_firsts : (known : Source) (agrees : Agreed) (a b : Option (List ℕ)) (many : ℕ → ℕ → Type 0) (n : ℕ)
+      → Wrote agrees a b (after_text s (take k steps)) many 0 n → Wrote agrees a b (cut_text s steps k) many 0 n
+  wrote_firsts known agrees a b many n w = wrote_as known agrees a b (after_text s (take k steps)) (cut_text s steps k) many 0 n alone w
 
   pub failed_firsts : (known : Source) (agrees : Agreed) (a b : Option (List ℕ)) (e : StreamError)
       → IsWroteError s known agrees a b (after_text s (take k steps)) 0 e → IsWroteError s known agrees a b (cut_text s steps k) 0 e
@@ -53,3 +47,8 @@ module _ (s : Sizes) (g : IsGeometry s) (bytes : List ℕ) (size : ℕ) (whole :
 pub part_read : (s : Sizes) (known : Source) (agrees : Agreed) (a b : Option (List ℕ)) (wanted : Wanted) (e : StreamError) (p n : ℕ)
     → e ≡ stream.Read p n → IsWroteError s known agrees a b wanted 0 e → (m : ℕ) × Wrote agrees a b wanted First 0 m
 part_read s known agrees a b wanted e p n is h = (n, (subst (IsWroteError s known agrees a b wanted 0) is h).1)
+
+-- so did a write that failed, and not all of them
+pub part_written : (s : Sizes) (known : Source) (agrees : Agreed) (a b : Option (List ℕ)) (wanted : Wanted) (e : StreamError) (n : ℕ)
+    → e ≡ stream.Write n → IsWroteError s known agrees a b wanted 0 e → (m : ℕ) × Wrote agrees a b wanted NotAll 0 m
+part_written s known agrees a b wanted e n is h = (n, subst (IsWroteError s known agrees a b wanted 0) is h)

@@ -1,5 +1,5 @@
 -- The edits that are asked for, one after the other, and the volumes that those of edits replace.
-use Rattle.ubi_writing.proofs.Prelude.{◌≡◌, ◌∙◌, ℕ, ◌+◌, ◌<◌, List, [], ◌∷◌, ◌++◌, length, take, get_or, ap, sym, Some, None, Option, option_map, slice_get, append-nil, take_more, filter_map-append, fold_more, cons_option, slice_get-get_or, Records, Edit, IsNoEdit, edit_for, edits_for, with_edit_for, all_replaced, replaced_by, Ask}
+use Rattle.ubi_writing.proofs.Prelude.{◌≡◌, ◌∙◌, ℕ, ◌+◌, ◌<◌, List, [], ◌∷◌, ◌++◌, length, take, get_or, ap, sym, Some, None, Option, option_map, append-nil, take_more, filter_map-append, fold_more, cons_option, slice_get-get_or, Records, Edit, IsNoEdit, edit_for, edits_for, with_edit_for, all_replaced, replaced_by, Ask}
 
 module _ (t : Records) (asks : List Ask) (i : ℕ) (d : Ask) (before : List Edit) (inside : i < length asks)
     (so_far : edits_for t (take i asks) ≡ Some before) where

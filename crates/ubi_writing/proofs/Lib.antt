@@ -1,3 +1,4 @@
+pub mod AnyContents
 pub mod AtOnce
 pub mod BuiltInto
 pub mod ByteVectors
@@ -11,9 +12,10 @@ pub mod FolderConfigs
 pub mod GatheredParts
 pub mod Hexadecimals
 pub mod Into
+pub mod KeptReads
+pub mod MadeGroups
 pub mod NamedLines
 pub mod Normalised
-pub mod KeptReads
 pub mod Planned
 pub mod PlannedAll
 pub mod Prelude

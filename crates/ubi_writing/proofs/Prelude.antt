@@ -1,10 +1,10 @@
 -- The names that the proofs of this crate speak of, and where they come from.
-pub use Rattle.std.proofs.Common.{Bool, List, Some, [], ap, append-nil, append_assoc, ap₂, arith, cond, drop, false, get_or, inl, inr, length, map, not, refl, string_bytes, subst, suc, sym, take, true, true≢false, vec_items, zero, zero-add, ℕ, ◌&&◌, ◌*◌, ◌++◌, ◌+◌, ◌/◌, ◌<◌, ◌==◌, ◌^◌, ◌∙◌, ◌∷◌, ◌≡◌, ◌≢◌, ◌≤◌, ◌⊎◌}
-pub use Rattle.std.proofs.KnownBytes.{Keeps-refl}
+pub use Rattle.std.proofs.Common.{Bool, List, Some, [], ap, append-nil, append_assoc, ap₂, arith, cond, decimal, drop, false, get_or, inl, inr, length, map, not, refl, string_bytes, subst, suc, sym, take, true, true≢false, vec_items, zero, zero-add, ℕ, ◌&&◌, ◌*◌, ◌++◌, ◌+◌, ◌-◌, ◌/◌, ◌<◌, ◌==◌, ◌^◌, ◌∙◌, ◌∷◌, ◌≡◌, ◌≢◌, ◌≤◌, ◌⊎◌}
+pub use Rattle.std.proofs.KnownBytes.{Appends-trans, Keeps-refl}
 pub use Rattle.std.proofs.Math.Nat.{mul-le-mul_left}
 pub use Rattle.std.proofs.lemmas.Bool.Decides.{nat_tests}
 pub use Rattle.std.proofs.lemmas.Grind.{flat_map-append}
-pub use Rattle.std.proofs.lemmas.List.{at_drop_more, length-append, map-append, take_all, take_more}
+pub use Rattle.std.proofs.lemmas.List.{at_drop_more, length-append, length-take-le, map-append, take_all, take_more}
 pub use Rattle.std.proofs.lemmas.List.Elements.{All-cons, All-contains_itself, All-head, All-map, All-nil, All-tail, filter_map-append}
 pub use Rattle.std.proofs.lemmas.List.Folds.{list_all_more}
 pub use Rattle.std.proofs.lemmas.List.Sums.{fold-append, fold_more, sum_by-append}
@@ -23,25 +23,29 @@ pub use Rattle.std.specs.Result.{result_map_both}
 pub use Rattle.std.specs.declared.alloc.AllocError.{AllocError}
 pub use Rattle.std.specs.declared.alloc.Global.{Global}
 pub use Rattle.std.specs.declared.vec.Vec.{Vec}
+pub use Rattle.ubi_change.proofs.AllGroups.{all_beside_append, all_within_append, groups_count, in_order_more}
+pub use Rattle.ubi_change.proofs.CutBlocks.{first_of_both, first_within}
 pub use Rattle.ubi_change.proofs.CutSizes.{blocks-cut, length-cut}
 pub use Rattle.ubi_change.specs.Avoided.{AllBeside, Avoided, avoiding, nothing}
 pub use Rattle.ubi_change.specs.CommitPlanned.{SurvivesCommit}
 pub use Rattle.ubi_change.specs.Cuts.{changed, turn}
 pub use Rattle.ubi_change.specs.Edited.{edited_in}
-pub use Rattle.ubi_change.specs.EditsAsked.{all_asked}
+pub use Rattle.ubi_change.specs.EditsAsked.{all_asked, first_beyond}
 pub use Rattle.ubi_change.specs.Fitting.{AllWithin}
-pub use Rattle.ubi_change.specs.Laying.{all_layings}
+pub use Rattle.ubi_change.specs.Laying.{StaysOpen, after_contents, all_layings}
 pub use Rattle.ubi_change.specs.Pages.{programmed}
 pub use Rattle.ubi_change.specs.Planned.{IsChangeError, PlanFactsOfSource}
 pub use Rattle.ubi_change.specs.RenamePlan.{renamed_pages, table_pages}
 pub use Rattle.ubi_change.specs.RenamePlanned.{IsPlannedRename, IsRenameError}
 pub use Rattle.ubi_change.specs.Renamed.{renamed}
 pub use Rattle.ubi_change.specs.Steps.{after_text, blocks_after, step_done}
-pub use Rattle.ubi_change.specs.UpdatePlan.{IsBeside, IsPlanOf, in_order, plan_groups}
-pub use Rattle.ubi_change.specs.UpdatePlanned.{ArePlannedSteps, AreUpdateSteps, IsPlannedUpdate, IsUpdateErrorIn, IsUpdateFor}
+pub use Rattle.ubi_change.specs.UpdatePlan.{FitsUpdate, IsBeside, IsPlanOf, in_order, plan_groups}
+pub use Rattle.ubi_change.specs.UpdatePlanned.{ArePlannedSteps, AreUpdateSteps, IsPlannedUpdate, IsUpdateCause, IsUpdateError, IsUpdateErrorIn, IsUpdateFor}
 pub use Rattle.ubi_change.specs.UpdateRefused.{asked_parts}
 pub use Rattle.ubi_change.specs.declared.edit.Edit.{Edit}
+pub use Rattle.ubi_change.specs.declared.errors.ContentsError.{ContentsError}
 pub use Rattle.ubi_change.specs.declared.errors.UpdateError.{UpdateError}
+pub use Rattle.ubi_change.specs.declared.errors.UpdateRefusal.{UpdateRefusal}
 pub use Rattle.ubi_change.specs.declared.laying.Laying.{Laying}
 pub use Rattle.ubi_change.specs.declared.step.Step.{Step}
 pub use Rattle.ubi_change.specs.declared.update.UpdatePlan.{UpdatePlan}
@@ -99,7 +103,7 @@ pub use Rattle.ubi_table.specs.Records.{AreRecords, Records}
 pub use Rattle.ubi_volume.proofs.Extracted.{len_none, len_some}
 pub use Rattle.ubi_volume.proofs.Gathered.{listed_at}
 pub use Rattle.ubi_volume.proofs.NarrowedPlaces.{places_narrowed}
-pub use Rattle.ubi_volume.proofs.Received.{error_as}
+pub use Rattle.ubi_volume.proofs.Received.{error_as, wrote_as}
 pub use Rattle.ubi_volume.proofs.Unattached.{refuses}
 pub use Rattle.ubi_volume.specs.Accepts.{Accepts, AcceptsBlocks}
 pub use Rattle.ubi_volume.specs.Extract.{extent_in, extent_len, extent_of, read_text}
@@ -122,24 +126,28 @@ pub use Rattle.ubi_writing.specs.Extract.{Extracts, HasTextIn, HasVolumeText, Is
 pub use Rattle.ubi_writing.specs.Key.{number_in}
 pub use Rattle.ubi_writing.specs.Lines.{blocks_line, bytes_line}
 pub use Rattle.ubi_writing.specs.Normalise.{HasMeaning, IsNormaliseError, Normalises, wrote_nothing}
-pub use Rattle.ubi_writing.specs.Outputs.{OfText, OnGrid, WithList, WritesInto, WritesPlan, avoided, no_first_pages, no_last_image, no_list, no_pages, no_sizes, no_text, off_grid, on_grid, planned, text_limit, unwritten, with_list, written}
-pub use Rattle.ubi_writing.specs.Plan.{CutAccepts, IsCarryFault, cut_bytes, cut_text, plan_answer, plan_lines, step_line, steps_done}
+pub use Rattle.ubi_writing.specs.Outputs.{OfText, OnGrid, WithList, WritesInto, WritesPlan, avoided, no_bytes, no_first_pages, no_last_image, no_list, no_pages, no_sizes, no_text, off_grid, on_grid, planned, text_limit, unwritten, with_list, written}
+pub use Rattle.ubi_writing.specs.Pages.{IsReadyFor, IsSoundPlan, made_steps, pages_made}
+pub use Rattle.ubi_writing.specs.Plan.{CutAccepts, IsCarryFault, IsWriteFault, cut_bytes, cut_text, plan_answer, plan_lines, step_line, steps_done}
 pub use Rattle.ubi_writing.specs.Rename.{CutIsNamed, HasRename, IsRenameFault, Renames, RenamesFrom, nameless_from}
 pub use Rattle.ubi_writing.specs.Unpack.{AreUnpacked, AreUnpackedUntil, IsNewFile, IsUnpacked, Listed, Unpacks, UnpacksOf, all_described, config_path, described, file_byte, file_path, folder_config, listed, no_config, no_folder, unpacked, unpacked_line, unpacked_lines, unpacked_status}
 unfoldable pub use Rattle.ubi_writing.specs.Unpack.{file_name}
-pub use Rattle.ubi_writing.specs.Update.{AreEditsOf, AreLinesOf, ArePlanned, CutIsEdited, HasUpdate, IsNoEditOf, IsUpdateFault, UpdatesFrom, all_replaced, asked_words, no_edit_line, replaced_by, volume_line, written_lebs, written_lines}
-pub use Rattle.ubi_writing.specs.Writes.{HasWork, writes}
+pub use Rattle.ubi_writing.specs.Update.{AreEditsOf, AreLinesOf, ArePlanned, CutIsEdited, HasUpdate, IsNoEditOf, IsUpdateFault, UpdatesFrom, all_replaced, asked_words, contents_path, no_edit_line, replaced_by, volume_line, written_lebs, written_lines}
+pub use Rattle.ubi_writing.specs.Writes.{HasWork, HasWorkOf, Plans, writes, writes_of}
 pub use Rattle.ubi_writing.specs.declared.asks.Ask.{Ask}
 pub use Rattle.ubi_writing.specs.declared.build.Answers.{Answers}
 pub use Rattle.ubi_writing.specs.declared.contents.Contents.{Contents}
 pub use Rattle.ubi_writing.specs.declared.orders.Plan.{Plan}
 pub use Rattle.ubi_writing.specs.declared.orders.Update.{Update}
+pub use Rattle.ubi_writing.specs.declared.pages.Made.{Made}
+pub use Rattle.ubi_writing.specs.declared.pages.MadeEdits.{MadeEdits}
 pub use Rattle.ubi_writing.specs.declared.unpack.VolumeFile.{VolumeFile}
 pub use Rattle.ubi_writing.specs.declared.volume_key.VolumeKey.{VolumeKey}
+pub use Rattle.ubi_writing.specs.declared.writers.Writing.{Writing}
 pub use Rattle.ubi_writing.specs.inner.Built.{AreAnswers, IsNotBegun, IsToldOf}
-pub use Rattle.ubi_writing.specs.inner.Editing.{AreNoEdits}
+pub use Rattle.ubi_writing.specs.inner.Editing.{AreCounted, AreNoEdits, IsHeldPlan, IsUnheld}
 pub use Rattle.ubi_writing.specs.inner.Extracting.{HasFirst, IsExtractFault}
-pub use Rattle.ubi_writing.specs.inner.Filling.{IsFilledBy}
+pub use Rattle.ubi_writing.specs.inner.Filling.{IsContentsFile, IsFilledBy, bytes_in}
 pub use Rattle.ubi_writing.specs.inner.Folder.{AreFilesOf, Ends, IsFileOf, config_in}
 pub use Rattle.ubi_writing.specs.inner.Gathering.{AreSoFar, AreUnread, IsFoundFile, IsSectionPart, as_list}
 pub use Rattle.ubi_writing.specs.inner.Planning.{AreCut, HasFile, IsCutAfter, NamesNoBlocks, TheseStay, done, refused_file}

@@ -1,10 +1,12 @@
--- What an update of a source answers: what its file means.
-use Rattle.ubi_writing.proofs.Prelude.{not_both, ◌≡◌, ℕ, ◌++◌, inl, inr, Global, Keeps-refl, List, Vec, sym, take, subst, IfErr, IfOk, OnOk, Option, Result, Ok, Err, Sizes, image_of, Agreed, Narrows, Source, WhereHeld, All, Wrote, Avoided, programmed, Step, turn, Gives, says, AreCut, IsCarryFault, cut_text, plan_lines, steps_done, Outcome, ToolError, avoiding, SurvivesCommit, edited_in, all_asked, table_pages, ArePlannedSteps, AreUpdateSteps, IsUpdateErrorIn, UpdateError, AreNoEdits, Edit, of_blocks, records_of, AreEditsOf, AreLinesOf, ArePlanned, CutIsEdited, IsUpdateFault, UpdatesFrom, Ask, HasUpdate}
+-- What an update of a source answers, for what the source of contents may hold: what its file means.
+use Rattle.ubi_writing.proofs.Prelude.{IsUnheld, IsUpdateCause, IsUpdateError, IsWholeSize, UpdateRefusal, ap, first_beyond, length, ◌∙◌, not_both, ◌≡◌, ℕ, ◌++◌, inl, inr, Global, Keeps-refl, List, Vec, sym, take, subst, IfErr, IfOk, Option, Result, Ok, Err, Sizes, image_of, Agreed, Narrows, Source, WhereHeld, All, Wrote, Avoided, programmed, Step, turn, Gives, says, AreCut, IsWriteFault, First, NotAll, after_text, same_Some, plan_lines, steps_done, Outcome, ToolError, avoiding, SurvivesCommit, edited_in, all_asked, table_pages, ArePlannedSteps, AreUpdateSteps, IsUpdateErrorIn, UpdateError, AreNoEdits, Edit, of_blocks, records_of, AreEditsOf, AreLinesOf, ArePlanned, CutIsEdited, IsUpdateFault, UpdatesFrom, Ask, HasUpdate}
 use Rattle.ubi_writing.specs.inner.Editing.{IsToldOf}
 use Rattle.ubi_writing.specs.declared.update.NoEdits.TheVariants as no_edits
 use Rattle.ubi_writing.specs.Update as update
 use Rattle.ubi_files.specs.declared.outcome.ToolError.TheVariants as tool
-use Rattle.ubi_writing.proofs.Cut.{cut_accepts, few_done}
+use Rattle.ubi_change.specs.declared.errors.UpdateError.TheVariants as error
+use Rattle.ubi_change.specs.declared.errors.UpdateRefusal.TheVariants as refusal
+use Rattle.ubi_writing.proofs.Cut.{cut_accepts, few_done, wrote_firsts}
 
 module _ (av : Avoided) (asks : List Ask) (contents : List ℕ) (stop : Option ℕ) (s : Sizes) where
   -- the image after the first steps means the old, or what the edits make of it
@@ -25,21 +27,27 @@ module _ (av : Avoided) (asks : List Ask) (contents : List ℕ) (stop : Option �
               (cut bytes agreed) (survives.each j (few_done steps stop)),
         )
 
-    pub update_done : (lines : List ℕ) → WhereHeld agrees (λ bytes. AreLinesOf (image_of s bytes) contents es lines)
-        → (r : Result Outcome ToolError) (pages : List ℕ) (old now : Option (List ℕ))
-        → IfOk r (λ o. Gives o (says (lines ++ plan_lines steps) 0)) → OnOk r (pages ≡ programmed (take (steps_done steps stop) steps))
-        → IfOk r (λ _. Wrote agrees old now (cut_text s steps (steps_done steps stop)) All 0 k.size)
-        → IfOk r (λ _. AreCut s agrees steps (steps_done steps stop)) → IfOk r (UpdatesFrom av asks contents stop s k agrees pages old now)
-    update_done lines told (Ok o) pages old now gives are wrote cut = update.planned_from es steps lines plan told gives are wrote (edited cut)
-    update_done lines told (Err e) pages old now gives are wrote cut = tt
+    abbrev pub done_firsts : List Step
+    done_firsts = take (steps_done steps stop) steps
 
-    pub update_cut : (r : Result Outcome ToolError) (old now : Option (List ℕ))
-        → IfErr r (IsCarryFault s agrees steps (steps_done steps stop) old now)
+    pub update_done : (lines : List ℕ) → WhereHeld agrees (λ bytes. AreLinesOf (image_of s bytes) contents es lines)
+        → (r : Result Outcome ToolError) (pages : List ℕ) (old now : Option (List ℕ)) (text : List ℕ) → text ≡ lines ++ plan_lines steps
+        → IfOk r (λ o. Gives o (says text 0)) → pages ≡ programmed done_firsts → AreCut s agrees steps (steps_done steps stop)
+        → IfOk r (λ _. Wrote agrees old now (after_text s done_firsts) All 0 k.size)
+        → IfOk r (UpdatesFrom av asks contents stop s k agrees pages old now)
+    update_done lines told (Ok o) pages old now text said gives are cut wrote =
+        update.planned_from es steps lines plan told (subst (λ (xs : List ℕ). Gives o (says xs 0)) said gives) are
+        (wrote_firsts s steps (steps_done steps stop) k agrees old now All k.size wrote) (edited cut)
+    update_done lines told (Err e) pages old now text said gives are cut wrote = tt
+
+    pub update_cut : (r : Result Outcome ToolError) (old now : Option (List ℕ)) → IfErr r (IsWriteFault agrees (after_text s done_firsts) old now)
         → IfErr r (IsUpdateFault av asks contents stop s k agrees old now)
     update_cut (Ok o) old now h = tt
     update_cut (Err tool.Memory) old now h = h
-    update_cut (Err tool.Read) old now h = inr (es, steps, plan, h)
-    update_cut (Err tool.Write) old now h = (es, steps, plan, h)
+    update_cut (Err tool.Read) old now h =
+        inr (es, steps, plan, (h.0, wrote_firsts s steps (steps_done steps stop) k agrees old now First h.0 h.1))
+    update_cut (Err tool.Write) old now h =
+        (es, steps, plan, (h.0, wrote_firsts s steps (steps_done steps stop) k agrees old now NotAll h.0 h.1))
 
   -- what is planned stays so while more is read
   pub planned_later : (k : Source) (old later : Agreed) (es : List Edit) (steps : List Step) → Narrows old later
@@ -55,12 +63,65 @@ module _ (av : Avoided) (asks : List Ask) (contents : List ℕ) (stop : Option �
       update.refused_from c cause (subst (λ (line : List ℕ). Gives o (says line 1)) is gives) (Keeps-refl _)
   no_edits_told k agrees pages old o text (inr none) gives = update.unasked_from text.items none gives (Keeps-refl _)
 
+  -- where contents can't be read
+  pub unread_told : (k : Source) (agrees : Agreed) (pages : List ℕ) (old : Option (List ℕ)) (i : ℕ) (r : Result Outcome ToolError)
+      → IfOk r (IsToldOf asks (error.Contents i)) → IfOk r (UpdatesFrom av asks contents stop s k agrees pages old old)
+  unread_told k agrees pages old i (Ok o) (line, is, gives) =
+      update.unread_from i (subst (λ (xs : List ℕ). Gives o (says xs 1)) (sym (same_Some _ line is)) gives) (Keeps-refl _)
+  unread_told k agrees pages old i (Err x) h = tt
+
+  -- where their plan isn't held
+  pub unheld_told : (k : Source) (agrees : Agreed) (pages : List ℕ) (old : Option (List ℕ)) (e : UpdateError) → IsUnheld e
+      → (r : Result Outcome ToolError) → IfOk r (IsToldOf asks e) → IfOk r (UpdatesFrom av asks contents stop s k agrees pages old old)
+  unheld_told k agrees pages old (error.Contents i) un r h = unread_told k agrees pages old i r h
+  unheld_told k agrees pages old (error.Refused c) un (Ok o) h =
+      let told : IsToldOf asks (error.Refused refusal.Memory) o = subst (λ (d : UpdateRefusal). IsToldOf asks (error.Refused d) o) un h in
+      absurd (let bad = told.1 in cc)
+  unheld_told k agrees pages old (error.Refused c) un (Err x) h = tt
+  unheld_told k agrees pages old (error.Read p) un r h = absurd un
+  unheld_told k agrees pages old (error.NotBlank p) un r h = absurd un
+  unheld_told k agrees pages old (error.Beyond i) un r h = absurd un
+
   -- and where they aren't planned
   pub unplanned_told : (k : Source) (agrees : Agreed) (pages : List ℕ) (old : Option (List ℕ)) (es : List Edit) (e : UpdateError)
       → WhereHeld agrees (λ bytes. AreEditsOf (image_of s bytes) asks es) → IsUpdateErrorIn s k agrees av contents es e
       → (r : Result Outcome ToolError) → IfOk r (IsToldOf asks e) → IfOk r (UpdatesFrom av asks contents stop s k agrees pages old old)
   unplanned_told k agrees pages old es e are cause (Ok o) (line, is, gives) = update.unplanned_from es e line are cause is gives (Keeps-refl _)
   unplanned_told k agrees pages old es e are cause (Err x) h = tt
+
+  -- why edits aren't planned, for what the source of contents may hold
+  module _ (k : Source) (agrees agreed : Agreed) (size at : ℕ) (es : List Edit) (held : agreed contents) (sized : length contents ≡ size) where
+    cause_in : (c : UpdateRefusal)
+        → IsWholeSize s k.size × WhereHeld agrees (λ bytes. WhereHeld agreed (λ xs. IsUpdateCause (image_of s bytes) av xs es c))
+        → IsWholeSize s k.size × WhereHeld agrees (λ bytes. WhereHeld (λ xs. xs ≡ contents) (λ xs. IsUpdateCause (image_of s bytes) av xs es c))
+    cause_in c h = (
+      h.0,
+      λ bytes holds xs is. h.1 bytes holds xs (subst agreed (sym is) held),
+    )
+
+    refused_in : (c : UpdateRefusal) → IsUpdateError s k agrees size at agreed av es (error.Refused c)
+        → IsUpdateErrorIn s k agrees av contents es (error.Refused c)
+    refused_in refusal.Memory h = h
+    refused_in (refusal.Attach c) h = h
+    refused_in (refusal.Edit i f) h = cause_in (refusal.Edit i f) h
+    refused_in (refusal.SameName i j) h = cause_in (refusal.SameName i j) h
+    refused_in (refusal.NoSlot i j) h = cause_in (refusal.NoSlot i j) h
+    refused_in (refusal.NoSpace i j) h = cause_in (refusal.NoSpace i j) h
+    refused_in (refusal.Autoresize i j) h = cause_in (refusal.Autoresize i j) h
+    refused_in refusal.NeedsRepair h = cause_in refusal.NeedsRepair h
+    refused_in (refusal.WeakCheck n) h = cause_in (refusal.WeakCheck n) h
+    refused_in refusal.Exhausted h = cause_in refusal.Exhausted h
+    refused_in (refusal.NoFree i j) h = cause_in (refusal.NoFree i j) h
+
+    pub refused_told : (pages : List ℕ) (old : Option (List ℕ)) (e : UpdateError) → WhereHeld agrees (λ bytes. AreEditsOf (image_of s bytes) asks es)
+        → IsUpdateError s k agrees size at agreed av es e
+        → (r : Result Outcome ToolError) → IfOk r (IsToldOf asks e) → IfOk r (UpdatesFrom av asks contents stop s k agrees pages old old)
+    refused_told pages old (error.Contents i) are h r told = unread_told k agrees pages old i r told
+    refused_told pages old (error.Refused c) are h r told = unplanned_told k agrees pages old es (error.Refused c) are (refused_in c h) r told
+    refused_told pages old (error.Read p) are h r told = unplanned_told k agrees pages old es (error.Read p) are h r told
+    refused_told pages old (error.NotBlank p) are h r told = unplanned_told k agrees pages old es (error.NotBlank p) are h r told
+    refused_told pages old (error.Beyond i) are h r told =
+        unplanned_told k agrees pages old es (error.Beyond i) are (ap (λ n. first_beyond n es) sized ∙ h) r told
 
   -- work that was done had a plan
   pub edits_done : (k : Source) (agrees : Agreed) (pages : List ℕ) (old now : Option (List ℕ)) (answer : Result Outcome ToolError)
@@ -71,4 +132,5 @@ module _ (av : Avoided) (asks : List Ask) (contents : List ℕ) (stop : Option �
   edits_done k agrees pages old now (Ok o) (update.unasked_from line none said kept) = λ zero. absurd (not_both o zero said.status)
   edits_done k agrees pages old now (Ok o) (update.unplanned_from es e line are cause is said kept) =
       λ zero. absurd (not_both o zero said.status)
+  edits_done k agrees pages old now (Ok o) (update.unread_from i said kept) = λ zero. absurd (not_both o zero said.status)
   edits_done k agrees pages old now (Err e) h = tt

@@ -1,5 +1,5 @@
 -- Numbers of bytes, as words of the command line: decimal digits, which a unit may follow, or hexadecimal ones after `0x`.
-use Rattle.std.specs.Prelude.{ℕ, ◌-◌, ◌+◌, ◌*◌, ◌==◌, ◌&&◌, Bool, nat_le, if◌then◌else◌, List, drop, fold, length, Option, Some, option_and_then, option_map, slice_index, take}
+use Rattle.std.specs.Prelude.{ℕ, ◌+◌, ◌*◌, ◌==◌, ◌&&◌, Bool, nat_le, if◌then◌else◌, List, drop, fold, length, Option, Some, option_and_then, option_map, slice_index, take}
 use Rattle.std.specs.Bool.{then_some}
 use Rattle.std.specs.Char.{digit_value, is_ascii_digit, is_digit}
 use Rattle.std.specs.List.{list_all, position_or_len}

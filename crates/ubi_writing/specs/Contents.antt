@@ -1,11 +1,13 @@
--- What is asked of volumes, with what the files hold that are to be their contents.
+-- What is asked of volumes, with the files that are to be their contents.
 use Rattle.std.specs.Borrow.{Bor}
-use Rattle.std.specs.List.{AllByRecursion, flat_map}
-use Rattle.std.specs.Prelude.{◌≡◌, ℕ, ◌+◌, ◌++◌, Contains, List, [], ◌∷◌, fold, length, map}
+use Rattle.std.specs.List.{AllByRecursion}
+use Rattle.std.specs.Prelude.{◌≡◌, ◌⊎◌, ℕ, ◌+◌, ◌++◌, Contains, IfSome, List, [], ◌∷◌, Option, Some, fold, length, map, sum_by}
 use Rattle.ubi_media.specs.Geometry.{Sizes}
+use Rattle.ubi_scan.specs.Source.{WhereHeld, known_by}
 use Rattle.ubi_files.specs.Disk.{Files, IsJudgedOf}
 use Rattle.ubi_files.specs.Numbers.{sizes_of}
 use Rattle.ubi_files.specs.OverFile.{IsRead, IsUnread}
+use Rattle.ubi_files.specs.Row.{row_bytes}
 use Rattle.ubi_files.specs.declared.numbers.Numbers.{Numbers}
 use Rattle.ubi_files.specs.declared.outcome.Outcome.{Outcome}
 use Rattle.ubi_writing.specs.Asks.{value_in}
@@ -13,22 +15,31 @@ use Rattle.ubi_writing.specs.declared.asks.Ask.{Ask}
 use Rattle.ubi_writing.specs.declared.asks.Ask.TheVariants as ask
 use Rattle.ubi_writing.specs.declared.orders.Update.{Update}
 
--- a word that names a file for the contents of a volume, and what the file holds
-abbrev pub Filled : Type 0
-Filled = Bor (List ℕ) × List ℕ
+-- a word that names a file for the contents of a volume, how many bytes the file has, and what it holds, if that is known
+pub record Filled : Type 0 where
+  pub word : Bor (List ℕ)
+  pub len : ℕ
+  pub held : Option (List ℕ)
 
--- the file holds this, as far as it isn't longer than the device
-abbrev pub IsFilled : Files → Sizes → Filled → Type 0
-IsFilled d s f = IsRead s f.1 × IsJudgedOf d (value_in f.0.now) s f.1
+-- the file is read at places, and it is known what it holds if that is known of the file at its path; or it was read to its end, as far as
+-- it isn't longer than the device
+pub record IsFilled (d : Files) (s : Sizes) (f : Filled) : Type 0 where
+  pub sized : IfSome f.held (λ all. length all ≡ f.len)
+  pub of : (f.held ≡ d.holds (value_in f.word.now))
+      ⊎ ((bytes : List ℕ) × (f.held ≡ Some bytes) × IsRead s bytes × IsJudgedOf d (value_in f.word.now) s bytes)
 
--- the words, each with what its file holds
+-- the words, each with its file
 pub record AreFilled (d : Files) (s : Sizes) (words : List (Bor (List ℕ))) (fs : List Filled) : Type 0 where
-  pub named : map (λ f. f.0) fs ≡ words
+  pub named : map (λ f. f.word) fs ≡ words
   pub held : AllByRecursion (IsFilled d s) fs
 
--- what the files hold, one after the other
-abbrev pub all_bytes : List Filled → List ℕ
-all_bytes fs = flat_map (λ f. f.1) fs
+-- how many bytes the files have together
+abbrev pub all_bytes : List Filled → ℕ
+all_bytes fs = sum_by (λ f. f.len) fs
+
+-- what the files hold, one after the other, if it is known of each
+abbrev pub all_held : List Filled → Option (List ℕ)
+all_held fs = row_bytes (map (λ f. f.held) fs)
 
 -- what is asked of volumes beside contents
 abbrev pub named_asks : Update → List Ask
@@ -36,7 +47,7 @@ named_asks u = map ask.Rename u.names.now ++ map ask.Resize u.sizes.now ++ map a
 
 -- what is asked for by one more word, whose contents lie behind those before; and where the next lie
 abbrev pub with_contents : List Ask × ℕ → Filled → List Ask × ℕ
-with_contents before f = (before.0 ++ ask.Contents f.0 before.1 (length f.1) ∷ [], before.1 + length f.1)
+with_contents before f = (before.0 ++ ask.Contents f.word before.1 f.len ∷ [], before.1 + f.len)
 
 -- all that is asked of volumes
 abbrev pub all_asks : Update → List Filled → List Ask
@@ -47,9 +58,10 @@ abbrev pub IsUnfilled : Numbers → List (Bor (List ℕ)) → Outcome → Type 0
 IsUnfilled numbers words o = (word : Bor (List ℕ)) × Contains words word × IsUnread numbers (value_in word.now) o
 
 -- what a command can answer that takes contents of volumes from the files that words name: the line of one that can't be read; or the
--- answer for what they hold
-pub data OfContents (d : Files) (numbers : Numbers) (words : List (Bor (List ℕ))) (answers : List Filled → Outcome → Type 0) : Outcome
-    → Type 0 where
+-- answer, whatever the files hold together that agrees with what was read of them
+pub data OfContents (d : Files) (numbers : Numbers) (words : List (Bor (List ℕ))) (answers : List Filled → List ℕ → Outcome → Type 0)
+    : Outcome → Type 0 where
   no_contents : {o : Outcome} → IsUnfilled numbers words o → OfContents d numbers words answers o
-  contents : {o : Outcome} (fs : List Filled) → AreFilled d (sizes_of numbers) words fs → answers fs o
+  contents : {o : Outcome} (fs : List Filled) (reads : List (ℕ × List ℕ)) → AreFilled d (sizes_of numbers) words fs
+      → IfSome (all_held fs) (known_by (all_bytes fs) reads) → WhereHeld (known_by (all_bytes fs) reads) (λ bytes. answers fs bytes o)
       → OfContents d numbers words answers o

@@ -39,7 +39,8 @@ pub data WritesInto (out : List ℕ) (old new : Files) (answers : Option (List �
 -- what a command that plans can answer for a source, if it writes the file at a path, and may write the programmed pages to a
 -- second: what is said for the first; and if all is done, the second received the pages, or else it stays as it was, unless it is
 -- the first; or the line of a second file that can't be written, when all but that is done. If the first may be the image, it is
--- written last: then the line of either file that can't be written is answered when the first holds what it held
+-- written last: then the line of either file that can't be written is answered when the first holds what it held, as is that of the first
+-- if its bytes can't be made
 pub data WritesPlan (out : List ℕ) (pages : Option (Bor (List ℕ))) (old new : Files)
     (answers : List ℕ → Option (List ℕ) → Option (List ℕ) → Outcome → Type 0) (writes : Type 0) : Outcome → Type 0 where
   planned : {o : Outcome} (bytes : List ℕ) → WritesInto out old new (answers bytes) writes o
@@ -50,6 +51,8 @@ pub data WritesPlan (out : List ℕ) (pages : Option (Bor (List ℕ))) (old new 
       → Gives o (says (file_line (codes "cannot write ") path.now) 1) → WritesPlan out pages old new answers writes o
   no_first_pages : {o : Outcome} (path : Bor (List ℕ)) → pages ≡ Some path → writes → Stays old new out
       → Gives o (says (file_line (codes "cannot write ") path.now) 1) → WritesPlan out pages old new answers writes o
+  no_bytes : {o : Outcome} → writes → Stays old new out → ForSome pages (λ path. Stays old new path.now)
+      → Gives o (says (file_line (codes "cannot write ") out) 1) → WritesPlan out pages old new answers writes o
   no_last_image : {o : Outcome} (bytes : List ℕ) → writes → Stays old new out
       → ForSome pages (λ path. Receives old new path.now (Some bytes)) → Gives o (says (file_line (codes "cannot write ") out) 1)
       → WritesPlan out pages old new answers writes o

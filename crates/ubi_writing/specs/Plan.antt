@@ -10,7 +10,7 @@ use Rattle.ubi_scan.specs.Image.{Image, image_of, of_blocks}
 use Rattle.ubi_scan.specs.Source.{Agreed}
 use Rattle.ubi_volume.specs.Accepts.{Accepts}
 use Rattle.ubi_volume.specs.Meant.{Meant}
-use Rattle.ubi_volume.specs.Wrote.{First, NotAll, Wrote}
+use Rattle.ubi_volume.specs.Wrote.{First, NotAll, Wanted, Wrote}
 use Rattle.ubi_files.specs.Answer.{Answer}
 use Rattle.ubi_files.specs.Lines.{refused_line}
 use Rattle.ubi_files.specs.declared.outcome.ToolError.{ToolError}
@@ -54,12 +54,16 @@ plan_answer image steps stop = record {
 abbrev pub cut_text : Sizes → List Step → ℕ → List ℕ → List ℕ → Type 0
 cut_text s steps k image text = text ≡ cut_bytes (image_of s image) steps k
 
--- why that image wasn't written: memory ran out, and the writer received nothing; or a read or a write failed, and it
--- received the first of the image
+-- why some bytes weren't written: memory ran out, and the writer received nothing; or a read or a write failed, and it received
+-- the first of them
+abbrev pub IsWriteFault : Agreed → Wanted → Option (List ℕ) → Option (List ℕ) → ToolError → Type 0
+IsWriteFault agrees wanted old new tool.Memory = Keeps old new
+IsWriteFault agrees wanted old new tool.Read = (n : ℕ) × Wrote agrees old new wanted First 0 n
+IsWriteFault agrees wanted old new tool.Write = (n : ℕ) × Wrote agrees old new wanted NotAll 0 n
+
+-- why that image wasn't written
 abbrev pub IsCarryFault : Sizes → Agreed → List Step → ℕ → Option (List ℕ) → Option (List ℕ) → ToolError → Type 0
-IsCarryFault s agrees steps k old new tool.Memory = Keeps old new
-IsCarryFault s agrees steps k old new tool.Read = (n : ℕ) × Wrote agrees old new (cut_text s steps k) First 0 n
-IsCarryFault s agrees steps k old new tool.Write = (n : ℕ) × Wrote agrees old new (cut_text s steps k) NotAll 0 n
+IsCarryFault s agrees steps k = IsWriteFault agrees (cut_text s steps k)
 
 -- the image after the first k steps is accepted: before the commit point with the old meaning, and from it on with the new one
 abbrev pub CutAccepts : Image → List Step → ℕ → Meant → Meant → ℕ → Type 0

@@ -1,5 +1,5 @@
 -- What updating volumes of an image answers.
-use Rattle.std.specs.Prelude.{◌≡◌, ◌⊎◌, ℕ, ◌++◌, List, [], ◌∷◌, Option, Some, None, codes, count_by, decimal, filter_map, if◌then◌else◌, is_some, length, slice_get, take, ◌==◌}
+use Rattle.std.specs.Prelude.{◌≡◌, ◌⊎◌, ℕ, ◌++◌, List, [], ◌∷◌, Option, Some, None, codes, count_by, decimal, filter_map, get_or, if◌then◌else◌, is_some, slice_get, take, ◌==◌}
 use Rattle.std.specs.Io.KnownBytes.{Keeps}
 use Rattle.std.specs.Option.{option_map_or}
 use Rattle.ubi_media.specs.Geometry.{Sizes}
@@ -31,13 +31,13 @@ use Rattle.ubi_volume.specs.Meant.{records_of}
 use Rattle.ubi_volume.specs.Places.{ArePlacesError}
 use Rattle.ubi_volume.specs.Wrote.{All, Wrote}
 use Rattle.ubi_files.specs.Answer.{Gives, says}
-use Rattle.ubi_files.specs.Lines.{refusal_line, refused_line}
+use Rattle.ubi_files.specs.Lines.{file_line, refusal_line, refused_line}
 use Rattle.ubi_files.specs.declared.outcome.Outcome.{Outcome}
 use Rattle.ubi_files.specs.declared.outcome.ToolError.{ToolError}
 use Rattle.ubi_files.specs.declared.outcome.ToolError.TheVariants as tool
 use Rattle.ubi_words.specs.Shown.{shown}
 use Rattle.ubi_table.specs.Records.{Records}
-use Rattle.ubi_writing.specs.Asks.{IsNoEdit, edits_for, name_of, named_by}
+use Rattle.ubi_writing.specs.Asks.{IsNoEdit, edits_for, name_of, named_by, value_in}
 use Rattle.ubi_writing.specs.Plan.{CutAccepts, IsCarryFault, cut_text, not_blank_line, plan_lines, steps_done}
 use Rattle.ubi_writing.specs.declared.asks.Ask.{Ask}
 use Rattle.ubi_writing.specs.declared.asks.Ask.TheVariants as ask
@@ -81,12 +81,26 @@ update_line asks refusal.Memory = None
 update_line asks (refusal.Edit i f) = Some (refused_line (edit_fault_text f ++ asked_words asks i))
 update_line asks c = Some (refused_line (update_refusal_text c))
 
--- the line of an error of a plan; there is none if a read failed or memory ran out
+-- the path of the file that is to be the contents of a volume, if that is asked
+abbrev pub path_in : Ask → Option (List ℕ)
+path_in (ask.Contents word start len) = Some (value_in word.now)
+path_in _ = None
+
+-- the path of the file for the contents of the i-th of the volumes that are written; it is empty if fewer are
+abbrev pub contents_path : List Ask → ℕ → List ℕ
+contents_path asks i = get_or (filter_map path_in asks) i []
+
+-- the line of contents that can't be read
+abbrev pub unread_contents_line : List Ask → ℕ → List ℕ
+unread_contents_line asks i = file_line (codes "cannot read ") (contents_path asks i)
+
+-- the line of an error of a plan; there is none if a read of the image failed or memory ran out
 abbrev pub error_line : List Ask → UpdateError → Option (List ℕ)
 error_line asks (error.Refused c) = update_line asks c
 error_line asks (error.NotBlank p) = Some (not_blank_line p)
 error_line asks (error.Beyond i) = Some (refused_line (update_error_text (error.Beyond i)))
-error_line asks _ = None
+error_line asks (error.Contents i) = Some (unread_contents_line asks i)
+error_line asks (error.Read p) = None
 
 -- an image is attached, and these are the edits that are asked for
 pub record AreEditsOf (image : Image) (asks : List Ask) (es : List Edit) : Type 0 where
@@ -140,7 +154,8 @@ HasUpdate av asks contents s k agrees = (es : List Edit) × (steps : List Step) 
 module _ (av : Avoided) (asks : List Ask) (contents : List ℕ) (stop : Option ℕ) (s : Sizes) (k : Source) (agrees : Agreed) where
   -- what is answered for a source: the lines of the volumes that are written, and of a plan that avoids some eraseblocks, with
   -- the pages that the steps done program; and the writer received what the file holds, whatever the source may hold. Or the line of an
-  -- image that is refused, of what stands for no edit, or of why nothing is planned, and the writer received nothing
+  -- image that is refused, of what stands for no edit, of why nothing is planned, or of contents that can't be read, and the writer received
+  -- nothing
   pub data UpdatesFrom (pages : List ℕ) (old now : Option (List ℕ)) : Outcome → Type 0 where
     planned_from : {o : Outcome} (es : List Edit) (steps : List Step) (lines : List ℕ) → ArePlanned av asks contents s k agrees es steps
         → WhereHeld agrees (λ bytes. AreLinesOf (image_of s bytes) contents es lines)
@@ -154,6 +169,7 @@ module _ (av : Avoided) (asks : List Ask) (contents : List ℕ) (stop : Option �
     unplanned_from : {o : Outcome} (es : List Edit) (e : UpdateError) (line : List ℕ)
         → WhereHeld agrees (λ bytes. AreEditsOf (image_of s bytes) asks es) → IsUpdateErrorIn s k agrees av contents es e
         → error_line asks e ≡ Some line → Gives o (says line 1) → Keeps old now → UpdatesFrom pages old now o
+    unread_from : {o : Outcome} (i : ℕ) → Gives o (says (unread_contents_line asks i) 1) → Keeps old now → UpdatesFrom pages old now o
 
   -- why there is no answer: memory ran out, and the writer received nothing; or a read or a write failed, and it received
   -- the first of what the plan leaves

@@ -74,7 +74,6 @@ pub fn run_change_from<S: BlockSource, W: Write>(
             alloc,
             geometry,
             source,
-            Vec::new(alloc),
             steps.as_slice(),
             stop,
             writer,

@@ -14,7 +14,7 @@ ghost use Rattle.ubi_volume.specs.Wrote.{All, Wrote};
 
 use std::alloc::{AllocError, Global};
 use std::io::Write;
-use ubi_change::{ChangeRefusal, PlanError, Step, write_after};
+use ubi_change::{ChangeRefusal, HeldSteps, PlanError, Step, write_after};
 use ubi_files::{DONE, Outcome, ToolError, put_number, put_word, refused};
 use ubi_media::Geometry;
 use ubi_scan::{BlockSource, StreamError};
@@ -33,7 +33,7 @@ fn put_step(text: &mut Vec<u8>, step: &Step) -> Result<(), AllocError>
 }
 
 /// Adds the lines of steps, in order.
-fn put_steps(text: &mut Vec<u8>, steps: &[Step]) -> Result<(), AllocError>
+pub fn put_steps(text: &mut Vec<u8>, steps: &[Step]) -> Result<(), AllocError>
     ensures { OnOk result (text.new.items ≡ text.old.items ++ flat_map step_line steps.now) }
 {
     for step in steps {
@@ -83,7 +83,7 @@ fn steps_done(steps: &[Step], stop: Option<u32>) -> usize
 }
 
 /// Writes the image of a source after the first `stop` steps of a plan (after all, if there are no more or `stop` is left
-/// out), and answers with the given lines and then those of all steps. The pages that these steps program are added to `pages`. At most
+/// out), and answers with the lines of all steps. The pages that these steps program are added to `pages`. At most
 /// one eraseblock of contents is held.
 ///
 /// Space for the answer and the pages is reserved before the first byte is written.
@@ -96,7 +96,6 @@ pub fn carry_out<S: BlockSource, W: Write>(
     alloc: Global,
     geometry: &Geometry,
     source: &mut S,
-    lines: Vec<u8>,
     steps: &[Step],
     stop: Option<u32>,
     writer: &mut W,
@@ -106,7 +105,7 @@ pub fn carry_out<S: BlockSource, W: Write>(
     requires within { AllWithin geometry.now (blocks_in geometry.now (S.known source.old)) steps.now }
     ensures known { S.known source.new ≡ after_run (S.known source.old) result }
     ensures narrows { Narrows (S.agrees source.old) (S.agrees source.new) }
-    ensures answer { IfOk result (λ o. Gives o (says (lines.items ++ plan_lines steps.now) 0)) }
+    ensures answer { IfOk result (λ o. Gives o (says (plan_lines steps.now) 0)) }
     ensures pages { OnOk result (pages.new.items ≡ pages.old.items ++ programmed (take (steps_done steps.now stop) steps.now)) }
     ensures written { IfOk result (λ _. Wrote (S.agrees source.new) (W.contents writer.old) (W.contents writer.new) (cut_text geometry.now steps.now (steps_done steps.now stop)) All 0 (S.known source.old).size) }
     ensures cut { IfOk result (λ _. AreCut geometry.now (S.agrees source.new) steps.now (steps_done steps.now stop)) }
@@ -114,17 +113,14 @@ pub fn carry_out<S: BlockSource, W: Write>(
     ensures err { IfErr result (IsCarryFault geometry.now (S.agrees source.new) steps.now (steps_done steps.now stop) (W.contents writer.old) (W.contents writer.new)) }
 {
     let count = steps_done(steps, stop);
-    let mut text = lines;
+    let mut text = Vec::new(alloc);
     put_plan(&mut text, steps)?;
     put_pages(pages, &steps[..count])?;
     let mut buffer = Vec::from_elem(alloc, 0u8, geometry.peb_size() as usize)?;
-    match write_after(
-        geometry,
-        source,
-        &steps[..count],
-        buffer.as_mut_slice(),
-        writer,
-    ) {
+    let mut done = HeldSteps {
+        steps: &steps[..count],
+    };
+    match write_after(geometry, source, &mut done, buffer.as_mut_slice(), writer) {
         Ok(_) => Ok(Outcome::saying(text, DONE)),
         Err(StreamError::Read(_, _)) => Err(ToolError::Read),
         Err(StreamError::Write(_)) => Err(ToolError::Write),

@@ -1,7 +1,7 @@
 //! The commands that plan steps, over files: the image after the steps, and the pages that they program.
 
 ghost use Rattle.std.specs.Option.{ForSome};
-ghost use Rattle.std.specs.Prelude.{◌≡◌, ◌≢◌, ◌⊎◌, ◌%◌, All, IfErr, IfOk, IfSome, IsFalse, IsTrue, None, OnErr, Some, codes, true};
+ghost use Rattle.std.specs.Prelude.{◌≡◌, ◌≢◌, ◌⊎◌, ◌%◌, All, IfErr, IfOk, IfSome, IsFalse, IsTrue, None, OnErr, Some, codes, length, true};
 ghost use Rattle.ubi_writing.specs.Change.{ChangesFrom, HasPlan};
 ghost use Rattle.ubi_files.specs.Disk.{AllStay, Files, OthersStay, OthersStayBeside, Receives, Stays};
 ghost use Rattle.ubi_files.specs.Answer.{Gives, says};
@@ -13,30 +13,36 @@ ghost use Rattle.ubi_writing.specs.Outputs.{KeepsImage, KeepsPart, OnGrid, PlanS
 ghost use Rattle.ubi_writing.specs.Rename.{HasRename, RenamesFrom};
 ghost use Rattle.ubi_dumps.specs.Ended.{Works};
 ghost use Rattle.ubi_writing.specs.inner.Replaced.{FinishesAtOnce};
-ghost use Rattle.ubi_writing.specs.Writes.{HasWork, writes};
+ghost use Rattle.ubi_change.specs.Laying.{StaysOpen};
+ghost use Rattle.ubi_writing.specs.Pages.{IsSound, pages_made};
+ghost use Rattle.ubi_writing.specs.Writes.{Plans};
+ghost use Rattle.ubi_writing.specs.declared.pages.Made.{Made};
 ghost use Rattle.ubi_files.specs.Lines.{file_line};
 ghost use Rattle.ubi_files.specs.Told.{Tells};
 ghost use Rattle.ubi_writing.specs.Asks.{value_in};
-ghost use Rattle.ubi_writing.specs.Contents.{OfContents, all_asks, all_bytes};
+ghost use Rattle.ubi_writing.specs.Contents.{OfContents, all_asks};
 ghost use Rattle.ubi_writing.specs.Update.{HasUpdate, UpdatesFrom};
 ghost use Rattle.ubi_writing.specs.inner.Planning.{NamesNoBlocks, TheseStay};
-ghost use Rattle.ubi_scan.specs.Source.{Narrows};
+ghost use Rattle.ubi_scan.specs.Source.{Narrows, WhereHeld};
 
+use crate::asks::{Ask, parts_of};
 use crate::change::NewBytes;
-use crate::contents::load_contents;
+use crate::contents::{Contents, gather_contents};
 use crate::orders::{Change, Plan, Rename, Update};
-use crate::update::AskedEdits;
+use crate::pages::Pages;
+use crate::pages_file::write_pages_file;
 use crate::writers::{Way, Writing, replaced, write_opened};
 use std::alloc::{AllocError, Global};
 use std::marker::Brand;
 use ubi_change::Avoided;
-use ubi_dumps::{Opening, Output, Paths, opening_of, unwritten_line, write_bytes};
+use ubi_dumps::{Opening, Output, Paths, opening_of, unwritten_line};
 use ubi_files::{
-    DONE, Disk, Dump, DumpSource, FAILED, Frame, HeldFile, OpenImage, Outcome, Seen, Target,
-    ToolError, Unread, frame_of, load, nothing, open_beside, put_number, put_word, unread_line,
+    DONE, Disk, Dump, DumpSource, FAILED, FileRow, Frame, HeldFile, OpenImage, Outcome, Seen,
+    Target, ToolError, Unread, frame_of, load, nothing, open_beside, put_number, put_word,
+    unread_line,
 };
 use ubi_media::Geometry;
-use ubi_scan::{BlockSource, MemorySource, PlacedFile};
+use ubi_scan::{BlockSource, FileSource, MemorySource, PlacedFile};
 
 /// What is printed for a device whose bad eraseblocks aren't listed.
 const NO_LIST: &str =
@@ -104,46 +110,55 @@ fn opening_for<D: Disk + Eprint>(
 
 /// Writes the pages of a plan to a path, and says whether they were written. They aren't if it may be a file that the plan reads or
 /// writes.
-fn put_pages<D: Disk + Eprint>(
+fn put_pages<D: Disk + Eprint, T: BlockSource>(
     disk: &mut D,
     plan: &Plan<'_>,
     reads: &[&str],
-    pages: &[u8],
-    output: Output<'_>,
+    pages: &mut Pages<T>,
+    path: &str,
 ) -> bool
-    ensures written { result ≡ true → Receives (D.files disk.old) (D.files disk.new) output.entry.path.now (Some pages.now) }
-    ensures apart { result ≡ true → output.entry.path.now ≢ plan.now.paths.out.now }
-    ensures others { OthersStay (D.files disk.old) (D.files disk.new) output.entry.path.now }
+    requires { IsSound (T.known pages.old.contents).size (T.agrees pages.old.contents) (length pages.old.buffer.items) pages.old.made }
+    ensures made { pages.new.made ≡ pages.old.made }
+    ensures contents { StaysOpen (T.known pages.old.contents) (T.known pages.new.contents) }
+    ensures sound { IsSound (T.known pages.new.contents).size (T.agrees pages.new.contents) (length pages.new.buffer.items) pages.new.made }
+    ensures narrows { Narrows (T.agrees pages.old.contents) (T.agrees pages.new.contents) }
+    ensures written { result ≡ true → WhereHeld (T.agrees pages.new.contents) (λ bytes. Receives (D.files disk.old) (D.files disk.new) path.now (Some (pages_made pages.new.made bytes))) }
+    ensures apart { result ≡ true → path.now ≢ plan.now.paths.out.now }
+    ensures others { OthersStay (D.files disk.old) (D.files disk.new) path.now }
     ensures out { Stays (D.files disk.old) (D.files disk.new) plan.now.paths.out.now }
     ensures image { Stays (D.files disk.old) (D.files disk.new) plan.now.paths.image.now }
     ensures reads { TheseStay (D.files disk.old) (D.files disk.new) reads.now }
 {
-    let path = output.path;
     if !may_write_pages(disk, plan, reads, path) {
         let _ = disk.eprintln(format_args!("{path}: it may be a file that is read or written"));
         return false;
     }
-    write_bytes(disk, pages, output).is_ok()
+    write_pages_file(disk, pages, Output { path }).is_ok()
 }
 
 /// Writes the pages of a plan that was carried out to a path, and answers with its outcome; or with the line of a file
 /// that can't be written, such as one that the plan has read or written.
-fn write_pages<D: Disk + Eprint>(
+fn write_pages<D: Disk + Eprint, T: BlockSource>(
     disk: &mut D,
     outcome: Outcome,
     plan: &Plan<'_>,
     reads: &[&str],
-    pages: &[u8],
-    output: Output<'_>,
+    pages: &mut Pages<T>,
+    path: &str,
     unwritten: Outcome,
 ) -> Outcome
-    ensures answer { ((result ≡ outcome) × Receives (D.files disk.old) (D.files disk.new) output.entry.path.now (Some pages.now)) ⊎ (result ≡ unwritten) }
-    ensures others { OthersStay (D.files disk.old) (D.files disk.new) output.entry.path.now }
+    requires { IsSound (T.known pages.old.contents).size (T.agrees pages.old.contents) (length pages.old.buffer.items) pages.old.made }
+    ensures made { pages.new.made ≡ pages.old.made }
+    ensures contents { StaysOpen (T.known pages.old.contents) (T.known pages.new.contents) }
+    ensures sound { IsSound (T.known pages.new.contents).size (T.agrees pages.new.contents) (length pages.new.buffer.items) pages.new.made }
+    ensures narrows { Narrows (T.agrees pages.old.contents) (T.agrees pages.new.contents) }
+    ensures answer { ((result ≡ outcome) × WhereHeld (T.agrees pages.new.contents) (λ bytes. Receives (D.files disk.old) (D.files disk.new) path.now (Some (pages_made pages.new.made bytes)))) ⊎ (result ≡ unwritten) }
+    ensures others { OthersStay (D.files disk.old) (D.files disk.new) path.now }
     ensures out { Stays (D.files disk.old) (D.files disk.new) plan.now.paths.out.now }
     ensures image { Stays (D.files disk.old) (D.files disk.new) plan.now.paths.image.now }
     ensures reads { TheseStay (D.files disk.old) (D.files disk.new) reads.now }
 {
-    if put_pages(disk, plan, reads, pages, output) {
+    if put_pages(disk, plan, reads, pages, path) {
         outcome
     } else {
         unwritten
@@ -152,7 +167,7 @@ fn write_pages<D: Disk + Eprint>(
 
 /// Does the work of a plan over an image that was opened: writes the image after its steps, if that may be opened, and then the pages, if
 /// there is a path for them. `reads` has the paths of the other files that were read for it.
-fn plan_late<D: Disk + Eprint>(
+fn plan_late<D: Disk + Eprint, T: BlockSource>(
     disk: &mut D,
     alloc: Global,
     opened: OpenImage<DumpSource<'_, D::Placed>>,
@@ -160,13 +175,17 @@ fn plan_late<D: Disk + Eprint>(
     reads: &[&str],
     may_open: bool,
     command: &Writing<'_>,
+    pages: &mut Pages<T>,
 ) -> Result<Outcome, AllocError>
+    requires nothing { pages.old.made ≡ Made.Nothing }
     requires image { may_open ≡ true → plan.now.paths.image.now ≢ plan.now.paths.out.now }
     requires reads { may_open ≡ true → All (λ f. f.now ≢ plan.now.paths.out.now) reads.now }
-    ensures answer { (d : Files) (dump : Dump) → IsOpened (λ s. IsUnreadOf (seen dump d) plan.now.paths.image.now (⟦<Seen<'static, D::Placed> as PlacedFile>⟧.bytes s.file) s.failures) d plan.now.paths.image.now dump opened.entry → IfOk result (OfFile d dump plan.now.paths.image.now (λ s k agrees. WritesPlan plan.now.paths.out.now plan.now.pages (D.files disk.old) (D.files disk.new) (writes command.now s k agrees) (HasWork command.now s k agrees))) }
+    ensures answer { (d : Files) (dump : Dump) → IsOpened (λ s. IsUnreadOf (seen dump d) plan.now.paths.image.now (⟦<Seen<'static, D::Placed> as PlacedFile>⟧.bytes s.file) s.failures) d plan.now.paths.image.now dump opened.entry → IfOk result (OfFile d dump plan.now.paths.image.now (Plans plan.now (D.files disk.old) (D.files disk.new) command.now (T.agrees pages.new.contents))) }
     ensures stays { PlanStays (D.files disk.old) (D.files disk.new) plan.now }
     ensures image { Stays (D.files disk.old) (D.files disk.new) plan.now.paths.image.now }
     ensures reads { TheseStay (D.files disk.old) (D.files disk.new) reads.now }
+    ensures contents { StaysOpen (T.known pages.old.contents) (T.known pages.new.contents) }
+    ensures sound { IsSound (T.known pages.new.contents).size (T.agrees pages.new.contents) (length pages.new.buffer.items) pages.new.made }
     ensures memory { OnErr result (AllStay (D.files disk.old) (D.files disk.new)) }
 {
     let way = Way {
@@ -174,19 +193,16 @@ fn plan_late<D: Disk + Eprint>(
         may_open,
         is_watched: false,
     };
-    let mut pages = Vec::new(alloc);
     let Some(path) = plan.pages else {
-        return write_opened(disk, alloc, opened, &way, command, &mut pages);
+        return write_opened(disk, alloc, opened, &way, command, pages);
     };
     // Made before a file is opened, so that nothing is written if memory runs out.
     let unwritten = unwritten_line(alloc, path)?;
-    let outcome = write_opened(disk, alloc, opened, &way, command, &mut pages)?;
+    let outcome = write_opened(disk, alloc, opened, &way, command, pages)?;
     if outcome.status != DONE {
         return Ok(outcome);
     }
-    let output = Output { path };
-    let pages = pages.as_slice();
-    Ok(write_pages(disk, outcome, plan, reads, pages, output, unwritten))
+    Ok(write_pages(disk, outcome, plan, reads, pages, path, unwritten))
 }
 
 /// What is answered if a file of a plan fails. It is made before a file is written, so that nothing is if memory runs out.
@@ -218,21 +234,26 @@ fn plan_faults(alloc: Global, plan: &Plan<'_>) -> Result<PlanFaults, AllocError>
 }
 
 /// Writes the pages of a plan that is done, if there is a path for them, and then gives the output all of its bytes at once.
-fn finish_at_once<D: Disk + Eprint>(
+fn finish_at_once<D: Disk + Eprint, T: BlockSource>(
     disk: &mut D,
     alloc: Global,
     outcome: Outcome,
     plan: &Plan<'_>,
     reads: &[&str],
-    pages: &[u8],
+    pages: &mut Pages<T>,
     bytes: &[u8],
     faults: PlanFaults,
 ) -> Outcome
+    requires sound { IsSound (T.known pages.old.contents).size (T.agrees pages.old.contents) (length pages.old.buffer.items) pages.old.made }
     requires done { outcome.status ≡ 0 }
     requires unwritten { Gives faults.unwritten (says (file_line (codes "cannot write ") plan.now.paths.out.now) 1) }
     requires unpaged { ForSome plan.now.pages (λ path. Gives faults.unpaged (says (file_line (codes "cannot write ") path.now) 1)) }
     requires reads { All (λ f. f.now ≢ plan.now.paths.out.now) reads.now }
-    ensures answer { FinishesAtOnce (D.files disk.old) (D.files disk.new) plan.now pages.now bytes.now outcome result }
+    ensures made { pages.new.made ≡ pages.old.made }
+    ensures contents { StaysOpen (T.known pages.old.contents) (T.known pages.new.contents) }
+    ensures sound { IsSound (T.known pages.new.contents).size (T.agrees pages.new.contents) (length pages.new.buffer.items) pages.new.made }
+    ensures narrows { Narrows (T.agrees pages.old.contents) (T.agrees pages.new.contents) }
+    ensures answer { WhereHeld (T.agrees pages.new.contents) (λ held. FinishesAtOnce (D.files disk.old) (D.files disk.new) plan.now (pages_made pages.new.made held) bytes.now outcome result) }
     ensures others { OthersStayBeside (D.files disk.old) (D.files disk.new) plan.now.paths.out.now plan.now.pages }
     ensures kept { KeepsImage (D.files disk.old) (D.files disk.new) plan.now.paths.image.now result }
     ensures image { plan.now.paths.image.now ≢ plan.now.paths.out.now → Stays (D.files disk.old) (D.files disk.new) plan.now.paths.image.now }
@@ -247,7 +268,7 @@ fn finish_at_once<D: Disk + Eprint>(
     match plan.pages {
         None => replaced(disk, alloc, outcome, bytes, out, unwritten),
         Some(path) => {
-            if !put_pages(disk, plan, reads, pages, Output { path }) {
+            if !put_pages(disk, plan, reads, pages, path) {
                 return unpaged;
             }
             replaced(disk, alloc, outcome, bytes, out, unwritten)
@@ -257,7 +278,7 @@ fn finish_at_once<D: Disk + Eprint>(
 
 /// Does the work of a plan over a source: writes the pages, if there is a path for them, and then gives the output all of its bytes at
 /// once.
-fn plan_at_once<D: Disk + Eprint, S: BlockSource, K: Target>(
+fn plan_at_once<D: Disk + Eprint, S: BlockSource, T: BlockSource, K: Target>(
     disk: &mut D,
     alloc: Global,
     geometry: &Geometry,
@@ -266,27 +287,29 @@ fn plan_at_once<D: Disk + Eprint, S: BlockSource, K: Target>(
     reads: &[&str],
     command: &Writing<'_>,
     faults: PlanFaults,
+    pages: &mut Pages<T>,
 ) -> Result<Outcome, AllocError>
+    requires nothing { pages.old.made ≡ Made.Nothing }
     requires files { D.files disk.old ≡ K.files }
     requires unread { Gives faults.unread (says (file_line (codes "cannot read ") plan.now.paths.image.now) 1) }
     requires unwritten { Gives faults.unwritten (says (file_line (codes "cannot write ") plan.now.paths.out.now) 1) }
     requires unpaged { ForSome plan.now.pages (λ path. Gives faults.unpaged (says (file_line (codes "cannot write ") path.now) 1)) }
     requires reads { All (λ f. f.now ≢ plan.now.paths.out.now) reads.now }
     ensures narrows { Narrows (S.agrees source.old) (S.agrees source.new) }
-    ensures answer { IfOk result (Works (S.known source.old) (S.known source.new) plan.now.paths.image.now (WritesPlan plan.now.paths.out.now plan.now.pages (D.files disk.old) (D.files disk.new) (writes command.now geometry.now (S.known source.old) (S.agrees source.new)) (HasWork command.now geometry.now (S.known source.old) (S.agrees source.new)))) }
+    ensures answer { IfOk result (Works (S.known source.old) (S.known source.new) plan.now.paths.image.now (Plans plan.now (D.files disk.old) (D.files disk.new) command.now (T.agrees pages.new.contents) geometry.now (S.known source.old) (S.agrees source.new))) }
     ensures stays { PlanStays (D.files disk.old) (D.files disk.new) plan.now }
     ensures kept { IfOk result (KeepsImage (D.files disk.old) (D.files disk.new) plan.now.paths.image.now) }
     ensures reads { TheseStay (D.files disk.old) (D.files disk.new) reads.now }
+    ensures contents { StaysOpen (T.known pages.old.contents) (T.known pages.new.contents) }
+    ensures sound { IsSound (T.known pages.new.contents).size (T.agrees pages.new.contents) (length pages.new.buffer.items) pages.new.made }
     ensures memory { OnErr result (AllStay (D.files disk.old) (D.files disk.new)) }
 {
     let mut held: HeldFile<K> = HeldFile::new(alloc);
-    let mut pages = Vec::new(alloc);
-    match command.answer(alloc, geometry, source, &mut held, &mut pages) {
+    match command.answer(alloc, geometry, source, &mut held, pages) {
         Ok(outcome) => {
             if outcome.status != DONE {
                 return Ok(outcome);
             }
-            let pages = pages.as_slice();
             Ok(finish_at_once(
                 disk,
                 alloc,
@@ -299,13 +322,14 @@ fn plan_at_once<D: Disk + Eprint, S: BlockSource, K: Target>(
             ))
         }
         Err(ToolError::Read) => Ok(faults.unread),
-        // What is kept takes all bytes, unless it can't grow.
-        Err(ToolError::Write | ToolError::Memory) => Err(AllocError),
+        // Not all bytes were made, or kept.
+        Err(ToolError::Write) => Ok(faults.unwritten),
+        Err(ToolError::Memory) => Err(AllocError),
     }
 }
 
 /// Does the work of a plan over a source, as [`plan_at_once`] does.
-fn plan_into<D: Disk + Eprint, S: BlockSource>(
+fn plan_into<D: Disk + Eprint, S: BlockSource, T: BlockSource>(
     disk: &mut D,
     alloc: Global,
     geometry: &Geometry,
@@ -313,33 +337,43 @@ fn plan_into<D: Disk + Eprint, S: BlockSource>(
     plan: &Plan<'_>,
     reads: &[&str],
     command: &Writing<'_>,
+    pages: &mut Pages<T>,
 ) -> Result<Outcome, AllocError>
-    requires { All (λ f. f.now ≢ plan.now.paths.out.now) reads.now }
+    requires nothing { pages.old.made ≡ Made.Nothing }
+    requires reads { All (λ f. f.now ≢ plan.now.paths.out.now) reads.now }
     ensures narrows { Narrows (S.agrees source.old) (S.agrees source.new) }
-    ensures answer { IfOk result (Works (S.known source.old) (S.known source.new) plan.now.paths.image.now (WritesPlan plan.now.paths.out.now plan.now.pages (D.files disk.old) (D.files disk.new) (writes command.now geometry.now (S.known source.old) (S.agrees source.new)) (HasWork command.now geometry.now (S.known source.old) (S.agrees source.new)))) }
+    ensures answer { IfOk result (Works (S.known source.old) (S.known source.new) plan.now.paths.image.now (Plans plan.now (D.files disk.old) (D.files disk.new) command.now (T.agrees pages.new.contents) geometry.now (S.known source.old) (S.agrees source.new))) }
     ensures stays { PlanStays (D.files disk.old) (D.files disk.new) plan.now }
     ensures kept { IfOk result (KeepsImage (D.files disk.old) (D.files disk.new) plan.now.paths.image.now) }
     ensures reads { TheseStay (D.files disk.old) (D.files disk.new) reads.now }
+    ensures contents { StaysOpen (T.known pages.old.contents) (T.known pages.new.contents) }
+    ensures sound { IsSound (T.known pages.new.contents).size (T.agrees pages.new.contents) (length pages.new.buffer.items) pages.new.made }
     ensures memory { OnErr result (AllStay (D.files disk.old) (D.files disk.new)) }
 {
     let faults = plan_faults(alloc, plan)?;
-    plan_at_once::<D, S, Brand>(disk, alloc, geometry, source, plan, reads, command, faults)
+    plan_at_once::<D, S, T, Brand>(
+        disk, alloc, geometry, source, plan, reads, command, faults, pages,
+    )
 }
 
 /// Does the work of a plan over an image that was opened, whose output gets all of its bytes at once, after the pages.
-fn plan_over<D: Disk + Eprint>(
+fn plan_over<D: Disk + Eprint, T: BlockSource>(
     disk: &mut D,
     alloc: Global,
     opened: OpenImage<DumpSource<'_, D::Placed>>,
     plan: &Plan<'_>,
     reads: &[&str],
     command: &Writing<'_>,
+    pages: &mut Pages<T>,
 ) -> Result<Outcome, AllocError>
-    requires { All (λ f. f.now ≢ plan.now.paths.out.now) reads.now }
-    ensures answer { (d : Files) (dump : Dump) → IsOpened (λ s. IsUnreadOf (seen dump d) plan.now.paths.image.now (⟦<Seen<'static, D::Placed> as PlacedFile>⟧.bytes s.file) s.failures) d plan.now.paths.image.now dump opened.entry → IfOk result (OfFile d dump plan.now.paths.image.now (λ s k agrees. WritesPlan plan.now.paths.out.now plan.now.pages (D.files disk.old) (D.files disk.new) (writes command.now s k agrees) (HasWork command.now s k agrees))) }
+    requires nothing { pages.old.made ≡ Made.Nothing }
+    requires reads { All (λ f. f.now ≢ plan.now.paths.out.now) reads.now }
+    ensures answer { (d : Files) (dump : Dump) → IsOpened (λ s. IsUnreadOf (seen dump d) plan.now.paths.image.now (⟦<Seen<'static, D::Placed> as PlacedFile>⟧.bytes s.file) s.failures) d plan.now.paths.image.now dump opened.entry → IfOk result (OfFile d dump plan.now.paths.image.now (Plans plan.now (D.files disk.old) (D.files disk.new) command.now (T.agrees pages.new.contents))) }
     ensures stays { PlanStays (D.files disk.old) (D.files disk.new) plan.now }
     ensures kept { IfOk result (KeepsImage (D.files disk.old) (D.files disk.new) plan.now.paths.image.now) }
     ensures reads { TheseStay (D.files disk.old) (D.files disk.new) reads.now }
+    ensures contents { StaysOpen (T.known pages.old.contents) (T.known pages.new.contents) }
+    ensures sound { IsSound (T.known pages.new.contents).size (T.agrees pages.new.contents) (length pages.new.buffer.items) pages.new.made }
     ensures memory { OnErr result (AllStay (D.files disk.old) (D.files disk.new)) }
 {
     let image = plan.paths.image;
@@ -347,14 +381,23 @@ fn plan_over<D: Disk + Eprint>(
         OpenImage::AtPlaces(mut file) => {
             let geometry = file.geometry;
             let source = &mut file.source;
-            let work = plan_into(disk, alloc, &geometry, source, plan, reads, command);
+            let work = plan_into(disk, alloc, &geometry, source, plan, reads, command, pages);
             command.remark(disk, alloc, &geometry, source, image, &work);
             work
         }
         OpenImage::Whole(file) => {
             let geometry = file.geometry;
             let mut source = MemorySource::new(file.bytes.as_slice());
-            let work = plan_into(disk, alloc, &geometry, &mut source, plan, reads, command);
+            let work = plan_into(
+                disk,
+                alloc,
+                &geometry,
+                &mut source,
+                plan,
+                reads,
+                command,
+                pages,
+            );
             command.remark(disk, alloc, &geometry, &mut source, image, &work);
             work
         }
@@ -364,7 +407,7 @@ fn plan_over<D: Disk + Eprint>(
 /// Does the work of a plan over the image of a dump that was opened: writes the image after its steps, and the pages, if there is a path
 /// for them. If the output may be the image, it gets all of its bytes at once, after the pages. `reads` has the paths of the other files
 /// that were read for the plan.
-fn write_plan<D: Disk + Eprint>(
+fn write_plan<D: Disk + Eprint, T: BlockSource>(
     disk: &mut D,
     alloc: Global,
     asked: &Dump<'_>,
@@ -372,18 +415,22 @@ fn write_plan<D: Disk + Eprint>(
     plan: &Plan<'_>,
     reads: &[&str],
     command: &Writing<'_>,
+    pages: &mut Pages<T>,
 ) -> Result<Outcome, AllocError>
-    ensures answer { (d : Files) (dump : Dump) → IsOpened (λ s. IsUnreadOf (seen dump d) plan.now.paths.image.now (⟦<Seen<'static, D::Placed> as PlacedFile>⟧.bytes s.file) s.failures) d plan.now.paths.image.now dump opened.entry → IfOk result (OfFile d dump plan.now.paths.image.now (λ s k agrees. WritesPlan plan.now.paths.out.now plan.now.pages (D.files disk.old) (D.files disk.new) (writes command.now s k agrees) (HasWork command.now s k agrees))) }
+    requires { pages.old.made ≡ Made.Nothing }
+    ensures answer { (d : Files) (dump : Dump) → IsOpened (λ s. IsUnreadOf (seen dump d) plan.now.paths.image.now (⟦<Seen<'static, D::Placed> as PlacedFile>⟧.bytes s.file) s.failures) d plan.now.paths.image.now dump opened.entry → IfOk result (OfFile d dump plan.now.paths.image.now (Plans plan.now (D.files disk.old) (D.files disk.new) command.now (T.agrees pages.new.contents))) }
     ensures stays { PlanStays (D.files disk.old) (D.files disk.new) plan.now }
     ensures image { IfOk result (KeepsImage (D.files disk.old) (D.files disk.new) plan.now.paths.image.now) }
     ensures part { KeepsPart (D.files disk.old) (D.files disk.new) asked.now plan.now.paths.image.now }
     ensures reads { TheseStay (D.files disk.old) (D.files disk.new) reads.now }
+    ensures contents { StaysOpen (T.known pages.old.contents) (T.known pages.new.contents) }
+    ensures sound { IsSound (T.known pages.new.contents).size (T.agrees pages.new.contents) (length pages.new.buffer.items) pages.new.made }
     ensures memory { OnErr result (AllStay (D.files disk.old) (D.files disk.new)) }
 {
     match opening_for(disk, asked, plan, reads) {
-        Opening::AtOnce => plan_over(disk, alloc, opened, plan, reads, command),
-        Opening::Late => plan_late(disk, alloc, opened, plan, reads, true, command),
-        Opening::Never => plan_late(disk, alloc, opened, plan, reads, false, command),
+        Opening::AtOnce => plan_over(disk, alloc, opened, plan, reads, command, pages),
+        Opening::Late => plan_late(disk, alloc, opened, plan, reads, true, command, pages),
+        Opening::Never => plan_late(disk, alloc, opened, plan, reads, false, command, pages),
     }
 }
 
@@ -472,7 +519,17 @@ pub fn change_file<D: Disk + Eprint>(
     };
     let command = Writing::Change(new, &avoided, asked.plan.stop);
     let reads = [asked.from];
-    write_plan(disk, alloc, dump, opened, &asked.plan, &reads, &command)
+    let mut pages = Pages::of(alloc, MemorySource::new(&[]));
+    write_plan(
+        disk,
+        alloc,
+        dump,
+        opened,
+        &asked.plan,
+        &reads,
+        &command,
+        &mut pages,
+    )
 }
 
 /// Renames a volume of one file, and writes the result to another.
@@ -500,18 +557,46 @@ pub fn rename_file<D: Disk + Eprint>(
     let avoided = Avoided::new(frame.marks.as_slice(), asked.plan.keeps_blank);
     let word = asked.name.as_bytes();
     let command = Writing::Rename(asked.id, word, &avoided, asked.plan.stop);
-    write_plan(disk, alloc, dump, opened, &asked.plan, &[], &command)
+    let mut pages = Pages::of(alloc, MemorySource::new(&[]));
+    write_plan(
+        disk,
+        alloc,
+        dump,
+        opened,
+        &asked.plan,
+        &[],
+        &command,
+        &mut pages,
+    )
 }
 
-/// Edits whole volumes of one file in one commit, and writes the result to another. What is to be their contents is read from further files
-/// before anything is written.
+/// Says which of the files of contents couldn't be read while a plan was carried out, if one couldn't: it could be read at first.
+fn remark_contents<D: Disk + Eprint, F: PlacedFile + Drop>(
+    disk: &D,
+    asks: &[Ask<'_>],
+    pages: &Pages<FileSource<FileRow<F>>>,
+) {
+    if let Some(at) = pages.contents().failed_place() {
+        for ask in asks {
+            if let Ask::Contents(word, start, len) = ask {
+                if at >= *start && at - *start < *len {
+                    let path = parts_of(word).1;
+                    let _ = disk.eprintln(format_args!("{path}: it can't be read"));
+                }
+            }
+        }
+    }
+}
+
+/// Edits whole volumes of one file in one commit, and writes the result to another. What is to be their contents is read from further files,
+/// a logical eraseblock at a time: once for the plan, once for its lines, once for the image, and once for the pages.
 pub fn update_file<D: Disk + Eprint>(
     disk: &mut D,
     alloc: Global,
     dump: &Dump<'_>,
     asked: &Update<'_>,
 ) -> Result<Outcome, AllocError>
-    ensures answer { IfOk result (WithList (D.files disk.old) (D.files disk.new) dump.now.bad asked.now.plan.paths.image.now (OnGrid (D.files disk.old) (D.files disk.new) dump.now asked.now.plan.paths.image.now (OfFile (D.files disk.old) dump.now asked.now.plan.paths.image.now (λ s k agrees. OfContents (D.files disk.old) dump.now.numbers asked.now.contents.now (λ fs. WritesPlan asked.now.plan.paths.out.now asked.now.plan.pages (D.files disk.old) (D.files disk.new) (UpdatesFrom (avoided dump.now asked.now.plan) (all_asks asked.now fs) (all_bytes fs) asked.now.plan.stop s k agrees) (HasUpdate (avoided dump.now asked.now.plan) (all_asks asked.now fs) (all_bytes fs) s k agrees)))))) }
+    ensures answer { IfOk result (WithList (D.files disk.old) (D.files disk.new) dump.now.bad asked.now.plan.paths.image.now (OnGrid (D.files disk.old) (D.files disk.new) dump.now asked.now.plan.paths.image.now (OfFile (D.files disk.old) dump.now asked.now.plan.paths.image.now (λ s k agrees. OfContents (D.files disk.old) dump.now.numbers asked.now.contents.now (λ fs bytes. WritesPlan asked.now.plan.paths.out.now asked.now.plan.pages (D.files disk.old) (D.files disk.new) (UpdatesFrom (avoided dump.now asked.now.plan) (all_asks asked.now fs) bytes asked.now.plan.stop s k agrees) (HasUpdate (avoided dump.now asked.now.plan) (all_asks asked.now fs) bytes s k agrees)))))) }
     ensures stays { PlanStays (D.files disk.old) (D.files disk.new) asked.now.plan }
     ensures image { IfOk result (KeepsImage (D.files disk.old) (D.files disk.new) asked.now.plan.paths.image.now) }
     ensures part { KeepsPart (D.files disk.old) (D.files disk.new) dump.now asked.now.plan.paths.image.now }
@@ -527,16 +612,25 @@ pub fn update_file<D: Disk + Eprint>(
         Ok(opened) => opened,
         Err(unread) => return unread.answer(),
     };
-    let contents = match load_contents(disk, alloc, dump.numbers, asked) {
-        Ok(contents) => contents,
+    let (contents, files) = match gather_contents(disk, alloc, dump.numbers, asked) {
+        Ok(gathered) => gathered,
         Err(unread) => return unread.answer(),
     };
+    let Contents { asks, paths, total } = contents;
     let avoided = Avoided::new(frame.marks.as_slice(), asked.plan.keeps_blank);
-    let edits = AskedEdits {
-        asks: contents.asks.as_slice(),
-        contents: contents.bytes.as_slice(),
-    };
-    let command = Writing::Update(edits, &avoided, asked.plan.stop);
-    let reads = contents.paths.as_slice();
-    write_plan(disk, alloc, dump, opened, &asked.plan, reads, &command)
+    let command = Writing::Update(asks.as_slice(), &avoided, asked.plan.stop);
+    let reads = paths.as_slice();
+    let mut pages = Pages::of(alloc, FileSource::of(FileRow::new(files), total));
+    let work = write_plan(
+        disk,
+        alloc,
+        dump,
+        opened,
+        &asked.plan,
+        reads,
+        &command,
+        &mut pages,
+    );
+    remark_contents(disk, asks.as_slice(), &pages);
+    work
 }

@@ -69,7 +69,6 @@ pub fn run_rename_from<S: BlockSource, W: Write>(
             alloc,
             geometry,
             source,
-            Vec::new(alloc),
             steps.as_slice(),
             stop,
             writer,

@@ -1,40 +1,45 @@
 //! Edits of whole volumes that are asked for by name: their plan, and the image after its first steps.
 
-ghost use Rattle.std.specs.Prelude.{◌≡◌, ◌<◌, ◌++◌, [], IfErr, IfOk, IfSome, OnOk, Some, codes, length, slice_get};
-ghost use Rattle.ubi_scan.specs.Image.{image_of};
+ghost use Rattle.std.specs.List.{flat_map};
+ghost use Rattle.std.specs.Prelude.{◌≡◌, ◌<◌, ◌+◌, ◌++◌, ◌∷◌, [], IfErr, IfOk, IfSome, List, OnOk, Some, codes, length, slice_get};
+ghost use Rattle.ubi_scan.specs.Image.{IsWholeSize, image_of};
 ghost use Rattle.ubi_scan.specs.Source.{Narrows, WhereHeld};
-ghost use Rattle.ubi_change.specs.UpdatePlan.{after_update};
-ghost use Rattle.ubi_change.specs.UpdatePlanned.{ArePlannedSteps, IsUpdateErrorIn};
+ghost use Rattle.ubi_change.specs.Laying.{StaysOpen};
+ghost use Rattle.ubi_change.specs.Steps.{after_text};
+ghost use Rattle.ubi_change.specs.UpdatePlan.{FitsUpdate, plan_groups};
+ghost use Rattle.ubi_change.specs.declared.step.Step.{Step};
+ghost use Rattle.ubi_volume.specs.Wrote.{All, Wrote};
+ghost use Rattle.ubi_files.specs.Answer.{Gives, says};
 ghost use Rattle.ubi_files.specs.AfterRun.{WhereNotDone, after_run};
 ghost use Rattle.ubi_files.specs.Lines.{refused_line};
-ghost use Rattle.ubi_writing.specs.Update.{AreEditsOf, AreLinesOf, IsUpdateFault, UpdatesFrom, all_replaced, asked_words, no_edit_line, replaced_by, replaced_words, unfit_text, update_line, volume_line, written_lines};
-ghost use Rattle.ubi_writing.specs.inner.Editing.{AreNoEdits, IsFaultOf, IsNoContents, WritesNothing, IsToldOf, IsUnreadImage, after_edits};
+ghost use Rattle.ubi_writing.specs.Pages.{IsReadyFor, IsSound, made_steps, pages_made};
+ghost use Rattle.ubi_writing.specs.Plan.{IsWriteFault, step_line, steps_done};
+ghost use Rattle.ubi_writing.specs.Update.{AreEditsOf, IsUpdateFault, UpdatesFrom, all_replaced, asked_words, contents_path, no_edit_line, replaced_by, replaced_words, unfit_text, unread_contents_line, update_line, volume_line, written_lines};
+ghost use Rattle.ubi_writing.specs.inner.Editing.{AreCounted, AreNoEdits, IsFaultOf, IsHeldPlan, IsToldOf, IsUnheld, IsUnreadImage, WritesNothing, after_edits};
 ghost use Rattle.ubi_files.specs.declared.outcome.ToolError.{ToolError};
 ghost use Rattle.ubi_writing.specs.declared.asks.Ask.{Ask};
+ghost use Rattle.ubi_writing.specs.declared.pages.Made.{Made};
 ghost use Rattle.ubi_writing.specs.declared.update.NoEdits.{NoEdits};
 
-use crate::asks::{Ask, Unasked, edits_for, named_by};
-use crate::plan::{carry_out, not_blank_line};
+use crate::asks::{Ask, Unasked, edits_for, named_by, parts_of};
+use crate::pages::{Made, MadeEdits, Pages};
+use crate::plan::{not_blank_line, put_steps};
 use std::alloc::{AllocError, Global};
 use std::fmt;
 use std::io::Write;
-use ubi_change::{Avoided, Edit, Step, UpdateError, UpdatePlan, UpdateRefusal, plan_update_from};
+use ubi_change::{
+    Avoided, ContentsError, Edit, Step, UpdateError, UpdatePlan, UpdateRefusal, plan_update_from,
+    write_after,
+};
 use ubi_dumps::put_shown;
-use ubi_files::{FAILED, Outcome, ToolError, put_number, put_word, refusal_line, refused};
+use ubi_files::{
+    DONE, FAILED, Outcome, ToolError, put_number, put_word, refusal_line, refused, unread_line,
+};
 use ubi_laid::Part;
 use ubi_media::Geometry;
-use ubi_scan::{BlockSource, MemorySource, StreamError};
+use ubi_scan::{BlockSource, StreamError};
 use ubi_table::Table;
 use ubi_volume::survey_from;
-
-/// What is asked of the volumes of an image, and the bytes that are written.
-#[derive(Clone, Copy)]
-pub struct AskedEdits<'a> {
-    /// What is asked, in order.
-    pub asks: &'a [Ask<'a>],
-    /// The source of contents.
-    pub contents: &'a [u8],
-}
 
 /// The volume that the one of an edit replaces; a new one replaces none. `None` if the edit writes no volume.
 fn replaced_by(edit: &Edit) -> Option<Option<u32>>
@@ -266,48 +271,39 @@ fn edits_from<S: BlockSource>(
     }
 }
 
-/// What is planned: the lines of the volumes that are written, and the steps.
-#[derive(Drop)]
-struct Planned {
-    lines: Vec<u8>,
-    steps: Vec<Step>,
+/// The path of the file for the contents of the volume that is the i-th of those that are written. It is empty if fewer are.
+fn contents_path<'a>(asks: &[Ask<'a>], i: usize) -> &'a str
+    ensures { result.now ≡ contents_path asks.now i }
+{
+    let mut left = i;
+    for ask in asks {
+        if let Ask::Contents(word, _, _) = ask {
+            if left == 0 {
+                return parts_of(word).1;
+            }
+            left -= 1;
+        }
+    }
+    ""
 }
 
-/// Plans edits of the image of a source, with all steps.
+/// What is answered if the contents of the i-th of the volumes that are written can't be read.
 ///
 /// # Errors
 ///
-/// As [`plan_update_from`]; no read of contents fails.
-fn plan_all<S: BlockSource>(
-    alloc: Global,
-    geometry: &Geometry,
-    source: &mut S,
-    avoided: &Avoided<'_>,
-    contents: &[u8],
-    edits: &[Edit],
-) -> Result<Planned, UpdateError>
-    ensures known { S.known source.new ≡ after_update (S.known source.old) result }
-    ensures narrows { Narrows (S.agrees source.old) (S.agrees source.new) }
-    ensures steps { IfOk result (λ planned. ArePlannedSteps geometry.now (S.known source.old) (S.agrees source.new) avoided.now contents.now edits.now planned.steps.items) }
-    ensures lines { IfOk result (λ planned. WhereHeld (S.agrees source.new) (λ bytes. AreLinesOf (image_of geometry.now bytes) contents.now edits.now planned.lines.items)) }
-    ensures refused { IfErr result (IsUpdateErrorIn geometry.now (S.known source.old) (S.agrees source.new) avoided.now contents.now edits.now) }
-    ensures contents { IfErr result IsNoContents }
+/// Memory ran out.
+fn unread_contents(alloc: Global, asks: &[Ask<'_>], i: usize) -> Result<Outcome, AllocError>
+    ensures { IfOk result (λ o. Gives o (says (unread_contents_line asks.now i) 1)) }
 {
-    let mut contents = MemorySource::new(contents);
-    let plan = plan_update_from(alloc, geometry, source, avoided, &mut contents, edits)?;
-    let mut buffer = Vec::from_elem(alloc, 0u8, geometry.peb_size() as usize)?;
-    let steps = plan.steps(alloc, geometry, &mut contents, buffer.as_mut_slice())?;
-    let lines = written_lines(alloc, &plan, edits)?;
-    Ok(Planned { lines, steps })
+    unread_line(alloc, contents_path(asks, i))
 }
 
 /// What is answered for edits that aren't planned.
 ///
 /// # Errors
 ///
-/// A read failed, or memory ran out.
+/// A read of the image failed, or memory ran out.
 fn unplanned(alloc: Global, asks: &[Ask<'_>], error: UpdateError) -> Result<Outcome, ToolError>
-    requires { IsNoContents error }
     ensures ok { IfOk result (IsToldOf asks.now error) }
     ensures err { IfErr result (λ e. IsFaultOf error e) }
 {
@@ -317,57 +313,231 @@ fn unplanned(alloc: Global, asks: &[Ask<'_>], error: UpdateError) -> Result<Outc
         }
         UpdateError::NotBlank(p) => Ok(Outcome::saying(not_blank_line(alloc, p)?, FAILED)),
         UpdateError::Beyond(_) => Ok(Outcome::saying(refused(alloc, &error)?, FAILED)),
+        UpdateError::Contents(i) => Ok(unread_contents(alloc, asks, i)?),
         UpdateError::Read(_) => Err(ToolError::Read),
-        // The contents are in memory.
-        UpdateError::Contents(_) => unreachable!(),
+    }
+}
+
+/// The lines of steps, and how many steps there are, in all and in each group.
+#[derive(Drop)]
+struct Counted {
+    lines: Vec<u8>,
+    counts: Vec<usize>,
+    total: usize,
+}
+
+impl Counted {
+    /// Adds a group of steps.
+    ///
+    /// # Errors
+    ///
+    /// Memory ran out.
+    fn add(&mut self, group: &[Step]) -> Result<(), AllocError>
+        ensures lines { OnOk result (self.new.lines.items ≡ self.old.lines.items ++ flat_map step_line group.now) }
+        ensures counts { OnOk result (self.new.counts.items ≡ self.old.counts.items ++ (length group.now ∷ [])) }
+        ensures total { OnOk result (self.new.total ≡ self.old.total + length group.now) }
+    {
+        put_steps(&mut self.lines, group)?;
+        self.counts.push(group.len())?;
+        let Some(total) = self.total.checked_add(group.len()) else {
+            return Err(AllocError);
+        };
+        self.total = total;
+        Ok(())
+    }
+}
+
+/// Counts the steps of a plan. The contents are read again; the buffer has the size of an eraseblock.
+///
+/// # Errors
+///
+/// `Read` if a read failed. `Memory` if memory ran out.
+fn count_steps<T: BlockSource>(
+    alloc: Global,
+    geometry: &Geometry,
+    plan: &UpdatePlan,
+    contents: &mut T,
+    buffer: &mut [u8],
+) -> Result<Counted, ContentsError>
+    requires fits { FitsUpdate geometry.now (T.known contents.old).size plan.now }
+    requires room { length buffer.old ≡ geometry.now.peb_size }
+    ensures contents { StaysOpen (T.known contents.old) (T.known contents.new) }
+    ensures narrows { Narrows (T.agrees contents.old) (T.agrees contents.new) }
+    ensures counted { IfOk result (λ counted. WhereHeld (T.agrees contents.new) (λ bytes. AreCounted geometry.now plan.now (plan_groups geometry.now plan.now bytes) counted)) }
+    ensures groups { IfOk result (λ counted. length counted.counts.items ≡ length plan.now.layings.items + 2) }
+    ensures room { length buffer.new ≡ geometry.now.peb_size }
+{
+    let mut counted = Counted {
+        lines: Vec::new(alloc),
+        counts: Vec::new(alloc),
+        total: 0,
+    };
+    for k in 0..plan.group_count() {
+        let group = plan.group(alloc, geometry, k, contents, buffer)?;
+        counted.add(group.as_slice())?;
+    }
+    Ok(counted)
+}
+
+/// How many of some steps are done: as many as are asked for, or all if there are no more, or if no number is given.
+fn done_of(total: usize, stop: Option<u32>) -> usize
+    ensures { (steps : List Step) → total ≡ length steps → result ≡ steps_done steps stop }
+{
+    match stop {
+        Some(stop) => total.min(stop as usize),
+        None => total,
+    }
+}
+
+/// The volume that is written which has a slot, counted from 0.
+fn place_of(plan: &UpdatePlan, id: u32) -> usize {
+    plan.parts()
+        .iter()
+        .position(|part| part.id == id)
+        .unwrap_or(0)
+}
+
+/// Makes the pages those of a plan whose first steps are carried out, and answers with the given lines and then those of all steps.
+///
+/// # Errors
+///
+/// `Contents` if a read of contents failed, or `Memory`.
+fn hold_plan<T: BlockSource>(
+    alloc: Global,
+    geometry: &Geometry,
+    plan: UpdatePlan,
+    lines: Vec<u8>,
+    stop: Option<u32>,
+    pages: &mut Pages<T>,
+) -> Result<Vec<u8>, UpdateError>
+    requires fits { FitsUpdate geometry.now (T.known pages.old.contents).size plan }
+    requires nothing { pages.old.made ≡ Made.Nothing }
+    ensures contents { StaysOpen (T.known pages.old.contents) (T.known pages.new.contents) }
+    ensures narrows { Narrows (T.agrees pages.old.contents) (T.agrees pages.new.contents) }
+    ensures ready { OnOk result (IsReadyFor geometry.now (T.known pages.new.contents).size (T.agrees pages.new.contents) (length pages.new.buffer.items) pages.new.made) }
+    ensures sound { IsSound (T.known pages.new.contents).size (T.agrees pages.new.contents) (length pages.new.buffer.items) pages.new.made }
+    ensures held { IfOk result (λ text. IsHeldPlan geometry.now plan stop (T.agrees pages.new.contents) lines.items pages.new.made text.items) }
+    ensures refused { IfErr result IsUnheld }
+{
+    let mut buffer = Vec::from_elem(alloc, 0u8, geometry.peb_size() as usize)?;
+    let counted = count_steps(
+        alloc,
+        geometry,
+        &plan,
+        &mut pages.contents,
+        buffer.as_mut_slice(),
+    );
+    let Counted {
+        lines: more,
+        counts,
+        total,
+    } = match counted {
+        Ok(counted) => counted,
+        Err(ContentsError::Read(id)) => return Err(UpdateError::Contents(place_of(&plan, id))),
+        Err(ContentsError::Memory) => return Err(UpdateError::Refused(UpdateRefusal::Memory)),
+    };
+    let mut text = lines;
+    put_number(&mut text, "steps ", total as u64)?;
+    put_word(&mut text, "\n")?;
+    text.extend_from_slice(more.as_slice())?;
+    pages.buffer = buffer;
+    pages.made = Made::Edits(MadeEdits {
+        geometry: *geometry,
+        plan,
+        counts,
+        stop: done_of(total, stop),
+    });
+    Ok(text)
+}
+
+/// Writes the image of a source after the first steps of a plan of edits, and answers with the lines of the plan.
+///
+/// # Errors
+///
+/// `Read` if a read of the image failed. `Write` if a write failed, or if steps couldn't be made, since a read of contents failed or
+/// memory ran out: the writer then received the first of the bytes. `Memory` if memory ran out; then nothing is written.
+fn write_planned<S: BlockSource, T: BlockSource, W: Write>(
+    alloc: Global,
+    geometry: &Geometry,
+    source: &mut S,
+    text: Vec<u8>,
+    writer: &mut W,
+    pages: &mut Pages<T>,
+) -> Result<Outcome, ToolError>
+    requires whole { IsWholeSize geometry.now (S.known source.old).size }
+    requires ready { IsReadyFor geometry.now (T.known pages.old.contents).size (T.agrees pages.old.contents) (length pages.old.buffer.items) pages.old.made }
+    ensures known { S.known source.new ≡ after_run (S.known source.old) result }
+    ensures narrows { Narrows (S.agrees source.old) (S.agrees source.new) }
+    ensures contents { StaysOpen (T.known pages.old.contents) (T.known pages.new.contents) }
+    ensures agrees { Narrows (T.agrees pages.old.contents) (T.agrees pages.new.contents) }
+    ensures ready { IsReadyFor geometry.now (T.known pages.new.contents).size (T.agrees pages.new.contents) (length pages.new.buffer.items) pages.new.made }
+    ensures same { made_steps pages.new.made ≡ made_steps pages.old.made }
+    ensures answer { IfOk result (λ o. Gives o (says text.items 0)) }
+    ensures written { WhereHeld (T.agrees pages.new.contents) (λ bytes. IfOk result (λ _. Wrote (S.agrees source.new) (W.contents writer.old) (W.contents writer.new) (after_text geometry.now (made_steps pages.old.made bytes)) All 0 (S.known source.old).size)) }
+    ensures untouched { WhereNotDone (writer.new ≡ writer.old) result }
+    ensures err { WhereHeld (T.agrees pages.new.contents) (λ bytes. IfErr result (IsWriteFault (S.agrees source.new) (after_text geometry.now (made_steps pages.old.made bytes)) (W.contents writer.old) (W.contents writer.new))) }
+{
+    let mut block = Vec::from_elem(alloc, 0u8, geometry.peb_size() as usize)?;
+    match write_after(geometry, source, pages, block.as_mut_slice(), writer) {
+        Ok(_) => Ok(Outcome::saying(text, DONE)),
+        Err(StreamError::Read(_, _)) => Err(ToolError::Read),
+        Err(StreamError::Write(_)) => Err(ToolError::Write),
+        // Nothing is refused any more, and all memory has been allocated.
+        Err(StreamError::Refused(_) | StreamError::Memory) => unreachable!(),
     }
 }
 
 /// Plans edits of whole volumes of a source in one commit. The plan touches none of the eraseblocks that are to be avoided. It answers
 /// with a line for each volume that is written, and the lines of all steps; it writes the image after the first `stop` of them (after
-/// all, if there are no more or `stop` is left out), and adds the pages that these program to `pages`.
+/// all, if there are no more or `stop` is left out), and makes `pages` the pages that these program. The contents are read from the source
+/// of the pages: once for the plan, once for the lines, and once for the image, an eraseblock at a time.
 ///
 /// If nothing can be planned, it answers with the line of the first cause, and nothing is written. What is written is accepted as an
 /// image whatever `stop` is, and means the old, or what the edits make of it.
 ///
 /// # Errors
 ///
-/// `Read` if a read failed, and `Write` if a write failed: the writer then received the first of the bytes, or none.
-/// `Memory` if memory ran out; then nothing is written.
-pub fn run_update_from<S: BlockSource, W: Write>(
+/// `Read` if a read of the image failed, and `Write` if a write failed, or if contents couldn't be read again or memory ran out while the
+/// image was written: the writer then received the first of the bytes, or none. `Memory` if memory ran out before; then nothing is written.
+pub fn run_update_from<S: BlockSource, T: BlockSource, W: Write>(
     alloc: Global,
     geometry: &Geometry,
     source: &mut S,
     avoided: &Avoided<'_>,
-    asked: &AskedEdits<'_>,
+    asks: &[Ask<'_>],
     stop: Option<u32>,
     writer: &mut W,
-    pages: &mut Vec<u8>,
+    pages: &mut Pages<T>,
 ) -> Result<Outcome, ToolError>
-    requires { pages.old.items ≡ [] }
+    requires { pages.old.made ≡ Made.Nothing }
     ensures known { S.known source.new ≡ after_run (S.known source.old) result }
     ensures narrows { Narrows (S.agrees source.old) (S.agrees source.new) }
-    ensures ok { IfOk result (UpdatesFrom avoided.now asked.now.asks.now asked.now.contents.now stop geometry.now (S.known source.old) (S.agrees source.new) pages.new.items (W.contents writer.old) (W.contents writer.new)) }
+    ensures contents { StaysOpen (T.known pages.old.contents) (T.known pages.new.contents) }
+    ensures sound { IsSound (T.known pages.new.contents).size (T.agrees pages.new.contents) (length pages.new.buffer.items) pages.new.made }
+    ensures ok { WhereHeld (T.agrees pages.new.contents) (λ bytes. IfOk result (UpdatesFrom avoided.now asks.now bytes stop geometry.now (S.known source.old) (S.agrees source.new) (pages_made pages.new.made bytes) (W.contents writer.old) (W.contents writer.new))) }
     ensures untouched { WhereNotDone (writer.new ≡ writer.old) result }
-    ensures err { IfErr result (IsUpdateFault avoided.now asked.now.asks.now asked.now.contents.now stop geometry.now (S.known source.old) (S.agrees source.new) (W.contents writer.old) (W.contents writer.new)) }
+    ensures err { WhereHeld (T.agrees pages.new.contents) (λ bytes. IfErr result (IsUpdateFault avoided.now asks.now bytes stop geometry.now (S.known source.old) (S.agrees source.new) (W.contents writer.old) (W.contents writer.new))) }
 {
-    let AskedEdits { asks, contents } = *asked;
     let edits = match edits_from(alloc, geometry, source, asks) {
         Ok(edits) => edits,
         Err(NoEdits::Told(line)) => return Ok(Outcome::saying(line, FAILED)),
         Err(NoEdits::Fault(error)) => return Err(error),
     };
-    match plan_all(alloc, geometry, source, avoided, contents, edits.as_slice()) {
-        Ok(Planned { lines, steps }) => carry_out(
-            alloc,
-            geometry,
-            source,
-            lines,
-            steps.as_slice(),
-            stop,
-            writer,
-            pages,
-        ),
+    let edits = edits.as_slice();
+    let plan = match plan_update_from(
+        alloc,
+        geometry,
+        source,
+        avoided,
+        &mut pages.contents,
+        edits,
+    ) {
+        Ok(plan) => plan,
+        Err(error) => return unplanned(alloc, asks, error),
+    };
+    let lines = written_lines(alloc, &plan, edits)?;
+    match hold_plan(alloc, geometry, plan, lines, stop, pages) {
+        Ok(text) => write_planned(alloc, geometry, source, text, writer, pages),
         Err(error) => unplanned(alloc, asks, error),
     }
 }

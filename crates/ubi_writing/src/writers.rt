@@ -3,7 +3,7 @@
 //! The image is read at places; or whole, if it can't be read so or may also be the output.
 
 ghost use Rattle.std.specs.Option.{ForSome};
-ghost use Rattle.std.specs.Prelude.{◌≡◌, ◌≢◌, [], ℕ, Bool, Err, IfOk, List, MatchResult, Ok, OnErr, Option, Result, codes, false, is_some};
+ghost use Rattle.std.specs.Prelude.{◌≡◌, ◌≢◌, [], ℕ, Bool, Err, IfOk, List, MatchResult, Ok, OnErr, Option, Result, codes, false, is_some, length};
 ghost use Rattle.ubi_scan.specs.Source.{Narrows};
 ghost use Rattle.ubi_files.specs.AfterRun.{WhereNotDone, after_run};
 ghost use Rattle.ubi_files.specs.Answer.{Gives, says};
@@ -18,14 +18,19 @@ ghost use Rattle.ubi_dumps.specs.Asked.{OfAsked};
 ghost use Rattle.ubi_writing.specs.Outputs.{KeepsImage, WritesInto};
 ghost use Rattle.ubi_files.specs.OverFile.{OfFile};
 ghost use Rattle.ubi_writing.specs.inner.Replaced.{Replaces};
-ghost use Rattle.ubi_writing.specs.Writes.{HasWork, may_replace, writes};
+ghost use Rattle.ubi_change.specs.Laying.{StaysOpen};
+ghost use Rattle.ubi_writing.specs.Pages.{IsSound};
+ghost use Rattle.ubi_writing.specs.Writes.{HasWork, HasWorkOf, may_replace, writes, writes_of};
+ghost use Rattle.ubi_writing.specs.declared.pages.Made.{Made};
 ghost use Rattle.ubi_files.specs.declared.dump.Dump.{Dump};
 
+use crate::asks::Ask;
 use crate::change::{NewBytes, run_change_from};
 use crate::extract::run_extract_from;
 use crate::normalise::run_normalise;
+use crate::pages::Pages;
 use crate::rename::run_rename_from;
-use crate::update::{AskedEdits, run_update_from};
+use crate::update::run_update_from;
 use crate::volume_key::VolumeKey;
 use std::alloc::{AllocError, Global};
 use std::io::Write;
@@ -53,8 +58,8 @@ pub enum Writing<'a> {
     Change(NewBytes<'a>, &'a Avoided<'a>, Option<u32>),
     /// `rename`: the image after the first steps of a rename of the volume with this number; the word shows its new name.
     Rename(u32, &'a [u8], &'a Avoided<'a>, Option<u32>),
-    /// `update`: the image after the first steps of these edits.
-    Update(AskedEdits<'a>, &'a Avoided<'a>, Option<u32>),
+    /// `update`: the image after the first steps of what is asked of volumes, with the contents that the pages come with.
+    Update(&'a [Ask<'a>], &'a Avoided<'a>, Option<u32>),
 }
 
 impl Writing<'_> {
@@ -69,41 +74,51 @@ impl Writing<'_> {
         }
     }
 
-    /// Does its work over a source, to a writer, and adds the pages that a plan programs to `pages`.
+    /// Does its work over a source, to a writer. If it plans, `pages` become the pages that the plan programs.
     ///
     /// # Errors
     ///
     /// `Read` if a read failed, and `Write` if a write failed. `Memory` if memory ran out.
-    pub fn answer<S: BlockSource, W: Write>(
+    pub fn answer<S: BlockSource, T: BlockSource, W: Write>(
         &self,
         alloc: Global,
         geometry: &Geometry,
         source: &mut S,
         writer: &mut W,
-        pages: &mut Vec<u8>,
+        pages: &mut Pages<T>,
     ) -> Result<Outcome, ToolError>
-        requires { pages.old.items ≡ [] }
+        requires { pages.old.made ≡ Made.Nothing }
         ensures known { S.known source.new ≡ after_run (S.known source.old) result }
         ensures narrows { Narrows (S.agrees source.old) (S.agrees source.new) }
-        ensures answer { IfOk result (writes self.now geometry.now (S.known source.old) (S.agrees source.new) pages.new.items (W.contents writer.old) (W.contents writer.new)) }
+        ensures answer { IfOk result (writes self.now (T.agrees pages.new.contents) pages.new.made geometry.now (S.known source.old) (S.agrees source.new) (W.contents writer.old) (W.contents writer.new)) }
+        ensures contents { StaysOpen (T.known pages.old.contents) (T.known pages.new.contents) }
+        ensures sound { IsSound (T.known pages.new.contents).size (T.agrees pages.new.contents) (length pages.new.buffer.items) pages.new.made }
         ensures untouched { WhereNotDone (writer.new ≡ writer.old) result }
-        ensures done { IfOk result (λ o. o.status ≡ 0 → HasWork self.now geometry.now (S.known source.old) (S.agrees source.new)) }
-        ensures failed { result ≡ Err ToolError.Write → HasWork self.now geometry.now (S.known source.old) (S.agrees source.new) }
+        ensures done { IfOk result (λ o. o.status ≡ 0 → HasWork self.now (T.agrees pages.new.contents) geometry.now (S.known source.old) (S.agrees source.new)) }
+        ensures failed { result ≡ Err ToolError.Write → HasWork self.now (T.agrees pages.new.contents) geometry.now (S.known source.old) (S.agrees source.new) }
     {
         match self {
             Writing::Normalise => run_normalise(alloc, geometry, source, writer),
             Writing::Extract(key) => run_extract_from(alloc, geometry, source, *key, writer),
             Writing::Change(new, avoided, stop) => {
-                run_change_from(alloc, geometry, source, avoided, new, *stop, writer, pages)
+                let mut held = Vec::new(alloc);
+                let answer = run_change_from(
+                    alloc, geometry, source, avoided, new, *stop, writer, &mut held,
+                );
+                pages.hold(held);
+                answer
             }
-            Writing::Rename(id, word, avoided, stop) => run_rename_from(
-                alloc, geometry, source, avoided, *id, word, *stop, writer, pages,
+            Writing::Rename(id, word, avoided, stop) => {
+                let mut held = Vec::new(alloc);
+                let answer = run_rename_from(
+                    alloc, geometry, source, avoided, *id, word, *stop, writer, &mut held,
+                );
+                pages.hold(held);
+                answer
+            }
+            Writing::Update(asks, avoided, stop) => run_update_from(
+                alloc, geometry, source, avoided, asks, *stop, writer, pages,
             ),
-            Writing::Update(asked, avoided, stop) => {
-                run_update_from(
-                    alloc, geometry, source, avoided, asked, *stop, writer, pages,
-                )
-            }
         }
     }
 
@@ -209,7 +224,7 @@ pub struct Way<'a> {
 
 /// Does the work of a command over a source, to a file, which is opened at the first write, or once the work is done. Returns
 /// the disk. (The outcome isn't in the result: beside memory, a caller learns nothing about a reference.)
-fn work_late<'a, D: Disk + Eprint, S: BlockSource, K: Target>(
+fn work_late<'a, D: Disk + Eprint, S: BlockSource, T: BlockSource, K: Target>(
     disk: &'a mut D,
     alloc: Global,
     geometry: &Geometry,
@@ -217,21 +232,23 @@ fn work_late<'a, D: Disk + Eprint, S: BlockSource, K: Target>(
     way: &Way<'_>,
     command: &Writing<'_>,
     faults: Faults,
-    pages: &mut Vec<u8>,
+    pages: &mut Pages<T>,
     outcome: &mut Result<Outcome, AllocError>,
 ) -> &'a mut D
     requires same { disk.ghost_name ≡ K.disk }
     requires named { way.now.paths.out.now ≡ K.path }
     requires files { D.files disk.old ≡ K.files }
     requires allowed { way.now.may_open ≡ K.may_open }
-    requires empty { pages.old.items ≡ [] }
+    requires empty { pages.old.made ≡ Made.Nothing }
     requires unread { Gives faults.unread (says (file_line (codes "cannot read ") way.now.paths.image.now) 1) }
     requires unwritten { Gives faults.unwritten (says (file_line (codes "cannot write ") way.now.paths.out.now) 1) }
     ensures same { result.ghost_name ≡ K.disk }
     ensures narrows { Narrows (S.agrees source.old) (S.agrees source.new) }
-    ensures answer { IfOk outcome.new (Works (S.known source.old) (S.known source.new) way.now.paths.image.now (WritesInto way.now.paths.out.now K.files (D.files result.now) (writes command.now geometry.now (S.known source.old) (S.agrees source.new) pages.new.items) (HasWork command.now geometry.now (S.known source.old) (S.agrees source.new)))) }
+    ensures answer { IfOk outcome.new (Works (S.known source.old) (S.known source.new) way.now.paths.image.now (WritesInto way.now.paths.out.now K.files (D.files result.now) (writes command.now (T.agrees pages.new.contents) pages.new.made geometry.now (S.known source.old) (S.agrees source.new)) (HasWork command.now (T.agrees pages.new.contents) geometry.now (S.known source.old) (S.agrees source.new)))) }
     ensures others { OthersStay K.files (D.files result.now) way.now.paths.out.now }
     ensures shut { K.may_open ≡ false → D.files result.now ≡ K.files }
+    ensures contents { StaysOpen (T.known pages.old.contents) (T.known pages.new.contents) }
+    ensures sound { IsSound (T.known pages.new.contents).size (T.agrees pages.new.contents) (length pages.new.buffer.items) pages.new.made }
     ensures memory { OnErr outcome.new (AllStay K.files (D.files result.now)) }
 {
     let Faults { unread, unwritten } = faults;
@@ -247,20 +264,22 @@ fn work_late<'a, D: Disk + Eprint, S: BlockSource, K: Target>(
 }
 
 /// Does the work of a command over a source, to a file, which is opened at the first write, or once the work is done.
-fn work_into<D: Disk + Eprint, S: BlockSource>(
+fn work_into<D: Disk + Eprint, S: BlockSource, T: BlockSource>(
     disk: &mut D,
     alloc: Global,
     geometry: &Geometry,
     source: &mut S,
     way: &Way<'_>,
     command: &Writing<'_>,
-    pages: &mut Vec<u8>,
+    pages: &mut Pages<T>,
 ) -> Result<Outcome, AllocError>
-    requires { pages.old.items ≡ [] }
+    requires { pages.old.made ≡ Made.Nothing }
     ensures narrows { Narrows (S.agrees source.old) (S.agrees source.new) }
-    ensures answer { IfOk result (Works (S.known source.old) (S.known source.new) way.now.paths.image.now (WritesInto way.now.paths.out.now (D.files disk.old) (D.files disk.new) (writes command.now geometry.now (S.known source.old) (S.agrees source.new) pages.new.items) (HasWork command.now geometry.now (S.known source.old) (S.agrees source.new)))) }
+    ensures answer { IfOk result (Works (S.known source.old) (S.known source.new) way.now.paths.image.now (WritesInto way.now.paths.out.now (D.files disk.old) (D.files disk.new) (writes command.now (T.agrees pages.new.contents) pages.new.made geometry.now (S.known source.old) (S.agrees source.new)) (HasWork command.now (T.agrees pages.new.contents) geometry.now (S.known source.old) (S.agrees source.new)))) }
     ensures others { OthersStay (D.files disk.old) (D.files disk.new) way.now.paths.out.now }
     ensures shut { way.now.may_open ≡ false → D.files disk.new ≡ D.files disk.old }
+    ensures contents { StaysOpen (T.known pages.old.contents) (T.known pages.new.contents) }
+    ensures sound { IsSound (T.known pages.new.contents).size (T.agrees pages.new.contents) (length pages.new.buffer.items) pages.new.made }
     ensures memory { OnErr result (AllStay (D.files disk.old) (D.files disk.new)) }
 {
     let faults = Faults {
@@ -268,7 +287,7 @@ fn work_into<D: Disk + Eprint, S: BlockSource>(
         unwritten: unwritten_line(alloc, way.paths.out)?,
     };
     let mut outcome = Err(AllocError);
-    let _ = work_late::<D, S, Brand>(
+    let _ = work_late::<D, S, T, Brand>(
         disk,
         alloc,
         geometry,
@@ -283,18 +302,20 @@ fn work_into<D: Disk + Eprint, S: BlockSource>(
 }
 
 /// Does the work of a command over an image that was opened, to a file.
-pub fn write_opened<D: Disk + Eprint>(
+pub fn write_opened<D: Disk + Eprint, T: BlockSource>(
     disk: &mut D,
     alloc: Global,
     opened: OpenImage<DumpSource<'_, D::Placed>>,
     way: &Way<'_>,
     command: &Writing<'_>,
-    pages: &mut Vec<u8>,
+    pages: &mut Pages<T>,
 ) -> Result<Outcome, AllocError>
-    requires { pages.old.items ≡ [] }
-    ensures answer { (d : Files) (dump : Dump) → IsOpened (λ s. IsUnreadOf (seen dump d) way.now.paths.image.now (⟦<Seen<'static, D::Placed> as PlacedFile>⟧.bytes s.file) s.failures) d way.now.paths.image.now dump opened.entry → IfOk result (OfFile d dump way.now.paths.image.now (λ s k agrees. WritesInto way.now.paths.out.now (D.files disk.old) (D.files disk.new) (writes command.now s k agrees pages.new.items) (HasWork command.now s k agrees))) }
+    requires { pages.old.made ≡ Made.Nothing }
+    ensures answer { (d : Files) (dump : Dump) → IsOpened (λ s. IsUnreadOf (seen dump d) way.now.paths.image.now (⟦<Seen<'static, D::Placed> as PlacedFile>⟧.bytes s.file) s.failures) d way.now.paths.image.now dump opened.entry → IfOk result (OfFile d dump way.now.paths.image.now (λ s k agrees. WritesInto way.now.paths.out.now (D.files disk.old) (D.files disk.new) (writes command.now (T.agrees pages.new.contents) pages.new.made s k agrees) (HasWork command.now (T.agrees pages.new.contents) s k agrees))) }
     ensures others { OthersStay (D.files disk.old) (D.files disk.new) way.now.paths.out.now }
     ensures shut { way.now.may_open ≡ false → D.files disk.new ≡ D.files disk.old }
+    ensures contents { StaysOpen (T.known pages.old.contents) (T.known pages.new.contents) }
+    ensures sound { IsSound (T.known pages.new.contents).size (T.agrees pages.new.contents) (length pages.new.buffer.items) pages.new.made }
     ensures memory { OnErr result (AllStay (D.files disk.old) (D.files disk.new)) }
 {
     match opened {
@@ -337,7 +358,7 @@ pub fn replaced<D: Disk>(
 }
 
 /// Does the work of a command over a source, and gives the file at a path all of its bytes at once.
-fn work_at_once<D: Disk, S: BlockSource, K: Target>(
+fn work_at_once<D: Disk, S: BlockSource, T: BlockSource, K: Target>(
     disk: &mut D,
     alloc: Global,
     geometry: &Geometry,
@@ -345,16 +366,18 @@ fn work_at_once<D: Disk, S: BlockSource, K: Target>(
     paths: &Paths<'_>,
     command: &Writing<'_>,
     faults: Faults,
-    pages: &mut Vec<u8>,
+    pages: &mut Pages<T>,
 ) -> Result<Outcome, AllocError>
     requires files { D.files disk.old ≡ K.files }
-    requires empty { pages.old.items ≡ [] }
+    requires empty { pages.old.made ≡ Made.Nothing }
     requires unread { Gives faults.unread (says (file_line (codes "cannot read ") paths.now.image.now) 1) }
     requires unwritten { Gives faults.unwritten (says (file_line (codes "cannot write ") paths.now.out.now) 1) }
     ensures narrows { Narrows (S.agrees source.old) (S.agrees source.new) }
-    ensures answer { IfOk result (Works (S.known source.old) (S.known source.new) paths.now.image.now (WritesInto paths.now.out.now (D.files disk.old) (D.files disk.new) (writes command.now geometry.now (S.known source.old) (S.agrees source.new) pages.new.items) (HasWork command.now geometry.now (S.known source.old) (S.agrees source.new)))) }
+    ensures answer { IfOk result (Works (S.known source.old) (S.known source.new) paths.now.image.now (WritesInto paths.now.out.now (D.files disk.old) (D.files disk.new) (writes command.now (T.agrees pages.new.contents) pages.new.made geometry.now (S.known source.old) (S.agrees source.new)) (HasWork command.now (T.agrees pages.new.contents) geometry.now (S.known source.old) (S.agrees source.new)))) }
     ensures others { OthersStay (D.files disk.old) (D.files disk.new) paths.now.out.now }
     ensures kept { IfOk result (λ o. o.status ≢ 0 → D.files disk.new ≡ D.files disk.old) }
+    ensures contents { StaysOpen (T.known pages.old.contents) (T.known pages.new.contents) }
+    ensures sound { IsSound (T.known pages.new.contents).size (T.agrees pages.new.contents) (length pages.new.buffer.items) pages.new.made }
     ensures memory { OnErr result (AllStay (D.files disk.old) (D.files disk.new)) }
 {
     let Faults { unread, unwritten } = faults;
@@ -368,42 +391,46 @@ fn work_at_once<D: Disk, S: BlockSource, K: Target>(
 }
 
 /// Does the work of a command over a source, and gives the file at a path all of its bytes at once.
-fn replace_into<D: Disk, S: BlockSource>(
+fn replace_into<D: Disk, S: BlockSource, T: BlockSource>(
     disk: &mut D,
     alloc: Global,
     geometry: &Geometry,
     source: &mut S,
     paths: &Paths<'_>,
     command: &Writing<'_>,
-    pages: &mut Vec<u8>,
+    pages: &mut Pages<T>,
 ) -> Result<Outcome, AllocError>
-    requires { pages.old.items ≡ [] }
+    requires { pages.old.made ≡ Made.Nothing }
     ensures narrows { Narrows (S.agrees source.old) (S.agrees source.new) }
-    ensures answer { IfOk result (Works (S.known source.old) (S.known source.new) paths.now.image.now (WritesInto paths.now.out.now (D.files disk.old) (D.files disk.new) (writes command.now geometry.now (S.known source.old) (S.agrees source.new) pages.new.items) (HasWork command.now geometry.now (S.known source.old) (S.agrees source.new)))) }
+    ensures answer { IfOk result (Works (S.known source.old) (S.known source.new) paths.now.image.now (WritesInto paths.now.out.now (D.files disk.old) (D.files disk.new) (writes command.now (T.agrees pages.new.contents) pages.new.made geometry.now (S.known source.old) (S.agrees source.new)) (HasWork command.now (T.agrees pages.new.contents) geometry.now (S.known source.old) (S.agrees source.new)))) }
     ensures others { OthersStay (D.files disk.old) (D.files disk.new) paths.now.out.now }
     ensures kept { IfOk result (λ o. o.status ≢ 0 → D.files disk.new ≡ D.files disk.old) }
+    ensures contents { StaysOpen (T.known pages.old.contents) (T.known pages.new.contents) }
+    ensures sound { IsSound (T.known pages.new.contents).size (T.agrees pages.new.contents) (length pages.new.buffer.items) pages.new.made }
     ensures memory { OnErr result (AllStay (D.files disk.old) (D.files disk.new)) }
 {
     let faults = Faults {
         unread: unread_line(alloc, paths.image)?,
         unwritten: unwritten_line(alloc, paths.out)?,
     };
-    work_at_once::<D, S, Brand>(disk, alloc, geometry, source, paths, command, faults, pages)
+    work_at_once::<D, S, T, Brand>(disk, alloc, geometry, source, paths, command, faults, pages)
 }
 
 /// Does the work of a command over an image that was opened, whose file it gives other bytes, all at once.
-fn replace_opened<D: Disk + Eprint>(
+fn replace_opened<D: Disk + Eprint, T: BlockSource>(
     disk: &mut D,
     alloc: Global,
     opened: OpenImage<DumpSource<'_, D::Placed>>,
     paths: &Paths<'_>,
     command: &Writing<'_>,
-    pages: &mut Vec<u8>,
+    pages: &mut Pages<T>,
 ) -> Result<Outcome, AllocError>
-    requires { pages.old.items ≡ [] }
-    ensures answer { (d : Files) (dump : Dump) → IsOpened (λ s. IsUnreadOf (seen dump d) paths.now.image.now (⟦<Seen<'static, D::Placed> as PlacedFile>⟧.bytes s.file) s.failures) d paths.now.image.now dump opened.entry → IfOk result (OfFile d dump paths.now.image.now (λ s k agrees. WritesInto paths.now.out.now (D.files disk.old) (D.files disk.new) (writes command.now s k agrees pages.new.items) (HasWork command.now s k agrees))) }
+    requires { pages.old.made ≡ Made.Nothing }
+    ensures answer { (d : Files) (dump : Dump) → IsOpened (λ s. IsUnreadOf (seen dump d) paths.now.image.now (⟦<Seen<'static, D::Placed> as PlacedFile>⟧.bytes s.file) s.failures) d paths.now.image.now dump opened.entry → IfOk result (OfFile d dump paths.now.image.now (λ s k agrees. WritesInto paths.now.out.now (D.files disk.old) (D.files disk.new) (writes command.now (T.agrees pages.new.contents) pages.new.made s k agrees) (HasWork command.now (T.agrees pages.new.contents) s k agrees))) }
     ensures others { OthersStay (D.files disk.old) (D.files disk.new) paths.now.out.now }
     ensures kept { IfOk result (λ o. o.status ≢ 0 → D.files disk.new ≡ D.files disk.old) }
+    ensures contents { StaysOpen (T.known pages.old.contents) (T.known pages.new.contents) }
+    ensures sound { IsSound (T.known pages.new.contents).size (T.agrees pages.new.contents) (length pages.new.buffer.items) pages.new.made }
     ensures memory { OnErr result (AllStay (D.files disk.old) (D.files disk.new)) }
 {
     match opened {
@@ -434,7 +461,7 @@ fn write_dump<D: Disk + Eprint>(
     is_watched: bool,
 ) -> Result<Outcome, AllocError>
     requires kept { ForSome known.kept (λ bytes. IsPartOf (D.files disk.old) known.dump paths.now.image.now bytes.items) }
-    ensures answer { IfOk result (λ o. (pages : List ℕ) × OfFile (D.files disk.old) known.entry.dump paths.now.image.now (λ s k agrees. WritesInto paths.now.out.now (D.files disk.old) (D.files disk.new) (writes command.now s k agrees pages) (HasWork command.now s k agrees)) o) }
+    ensures answer { IfOk result (λ o. (pages : List ℕ) × OfFile (D.files disk.old) known.entry.dump paths.now.image.now (λ s k agrees. WritesInto paths.now.out.now (D.files disk.old) (D.files disk.new) (writes_of command.now [] s k agrees pages) (HasWorkOf command.now [] s k agrees)) o) }
     ensures others { OthersStay (D.files disk.old) (D.files disk.new) paths.now.out.now }
     ensures image { IfOk result (KeepsImage (D.files disk.old) (D.files disk.new) paths.now.image.now) }
     ensures read { may_replace command.now ≡ false → Stays (D.files disk.old) (D.files disk.new) paths.now.image.now }
@@ -450,7 +477,7 @@ fn write_dump<D: Disk + Eprint>(
         Ok(opened) => opened,
         Err(unread) => return unread.answer(),
     };
-    let mut pages = Vec::new(alloc);
+    let mut pages = Pages::of(alloc, MemorySource::new(&[]));
     match opening_of(disk, &frame.dump, paths, command.may_replace()) {
         Opening::AtOnce => replace_opened(disk, alloc, opened, paths, command, &mut pages),
         Opening::Late => {
@@ -481,7 +508,7 @@ pub fn write_file<D: Disk + Eprint>(
     command: &Writing<'_>,
     is_watched: bool,
 ) -> Result<Outcome, AllocError>
-    ensures answer { IfOk result (λ o. (pages : List ℕ) × OfAsked (D.files disk.old) (D.files disk.new) asked.now paths.now.image.now (λ s k agrees. WritesInto paths.now.out.now (D.files disk.old) (D.files disk.new) (writes command.now s k agrees pages) (HasWork command.now s k agrees)) o) }
+    ensures answer { IfOk result (λ o. (pages : List ℕ) × OfAsked (D.files disk.old) (D.files disk.new) asked.now paths.now.image.now (λ s k agrees. WritesInto paths.now.out.now (D.files disk.old) (D.files disk.new) (writes_of command.now [] s k agrees pages) (HasWorkOf command.now [] s k agrees)) o) }
     ensures others { OthersStay (D.files disk.old) (D.files disk.new) paths.now.out.now }
     ensures image { IfOk result (KeepsImage (D.files disk.old) (D.files disk.new) paths.now.image.now) }
     ensures read { may_replace command.now ≡ false → Stays (D.files disk.old) (D.files disk.new) paths.now.image.now }

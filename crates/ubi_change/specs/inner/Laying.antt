@@ -1,5 +1,5 @@
 -- What private functions find when contents are read.
-use Rattle.std.specs.Prelude.{◌≡◌, ℕ, ◌+◌, ◌*◌, ◌^◌, ◌<◌, ◌≤◌, Contains, List, None}
+use Rattle.std.specs.Prelude.{◌≡◌, ℕ, ◌+◌, ◌*◌, ◌^◌, ◌<◌, ◌≤◌, List, None, Some, slice_get}
 use Rattle.std.specs.List.{AllByRecursion}
 use Rattle.ubi_media.specs.Geometry.{Sizes}
 use Rattle.ubi_media.specs.Record.{rec_fault, usable}
@@ -8,6 +8,9 @@ use Rattle.ubi_change.specs.EditsAsked.{news_of}
 use Rattle.ubi_change.specs.declared.edit.Edit.{Edit}
 use Rattle.ubi_change.specs.declared.errors.ContentsError.{ContentsError}
 use Rattle.ubi_change.specs.declared.errors.ContentsError.TheVariants as contents
+use Rattle.ubi_change.specs.declared.errors.UpdateError.{UpdateError}
+use Rattle.ubi_change.specs.declared.errors.UpdateError.TheVariants as error
+use Rattle.ubi_change.specs.declared.errors.UpdateRefusal.TheVariants as refusal
 
 -- a source of this size has the bytes of a part, and these are no more than its volume holds
 pub record IsPartReadable (s : Sizes) (size : ℕ) (p : Part) : Type 0 where
@@ -21,10 +24,11 @@ abbrev pub IsPartUnread : Part → ℕ → ContentsError → Type 0
 IsPartUnread p at (contents.Read id) = (id ≡ p.id) × (p.start ≤ at) × (at < p.start + p.len)
 IsPartUnread p at contents.Memory = Unit {0}
 
--- a read for one of some parts failed; or memory ran out
-abbrev pub IsContentsError : List Part → ℕ → ContentsError → Type 0
-IsContentsError ps at (contents.Read id) = (p : Part) × Contains ps p × IsPartUnread p at (contents.Read id)
-IsContentsError ps at contents.Memory = Unit {0}
+-- a read for one of some parts failed, which is named by its place among them; or memory ran out
+abbrev pub IsContentsError : List Part → ℕ → UpdateError → Type 0
+IsContentsError ps at (error.Contents i) = (p : Part) × (slice_get ps i ≡ Some p) × (p.start ≤ at) × (at < p.start + p.len)
+IsContentsError ps at (error.Refused c) = c ≡ refusal.Memory
+IsContentsError ps at _ = ⊥
 
 -- a source that has the bytes of all new volumes has those of the parts that are placed
 abbrev pub AreReadable : Sizes → List Edit → List Part → Type 0

@@ -1,5 +1,5 @@
 -- What a plan of edits is based on.
-use Rattle.std.specs.Prelude.{◌≡◌, ℕ, ◌%◌, ◌^◌, ◌≤◌, ◌<◌, Bool, List, [], ◌∷◌, length, Option, None, Some}
+use Rattle.std.specs.Prelude.{◌≡◌, ◌≢◌, ℕ, ◌%◌, ◌^◌, ◌≤◌, ◌<◌, Bool, List, [], ◌∷◌, length, Option, None, Some, slice_get}
 use Rattle.std.specs.Option.{option_or}
 use Rattle.ubi_media.specs.Fields.{AreBytes}
 use Rattle.ubi_media.specs.Geometry.{Sizes, leb_size}
@@ -20,6 +20,7 @@ use Rattle.ubi_change.specs.declared.edit.Edit.{Edit}
 use Rattle.ubi_change.specs.declared.errors.UpdateError.{UpdateError}
 use Rattle.ubi_change.specs.declared.errors.UpdateError.TheVariants as error
 use Rattle.ubi_change.specs.declared.errors.UpdateRefusal.TheVariants as refusal
+use Rattle.ubi_change.specs.declared.sites.Site.{Site}
 use Rattle.ubi_change.specs.declared.update.UpdatePlan.{UpdatePlan}
 use Rattle.ubi_change.specs.declared.updating.Based.{Based}
 use Rattle.ubi_change.specs.declared.written_out.Ready.{Ready}
@@ -66,3 +67,10 @@ IsUnbased s k agrees av es (error.Refused refusal.Memory) = Unit {0}
 IsUnbased s k agrees av es (error.Refused (refusal.Attach c)) = ArePlacesError s k agrees (stream.Refused c)
 IsUnbased s k agrees av es (error.Refused c) =
     IsWholeSize s k.size × WhereHeld agrees (λ bytes. (contents : List ℕ) → IsUpdateCause (image_of s bytes) av contents es c)
+
+-- the k-th group of a plan works on other eraseblocks than q: not on the one that it takes, and if it writes a copy of the table, not on
+-- those that hold one
+pub record IsApart (p : UpdatePlan) (k q : ℕ) : Type 0 where
+  pub site : (t : Site) → slice_get p.sites.items k ≡ Some t → t.pnum ≢ q
+  pub first : length p.layings.items ≤ k → p.holders.first.pnum ≢ q
+  pub second : length p.layings.items ≤ k → p.holders.second.pnum ≢ q

@@ -1,19 +1,11 @@
 -- What is written of an image after the steps, eraseblock by eraseblock.
-use Rattle.std.specs.Prelude.{◌≡◌, ℕ, ◌==◌, if◌then◌else◌, List, fold, length, take}
+use Rattle.std.specs.Prelude.{◌≡◌, ℕ, List, length, take}
 use Rattle.std.specs.List.{concat}
 use Rattle.ubi_media.specs.Geometry.{Sizes}
 use Rattle.ubi_scan.specs.Image.{block}
 use Rattle.ubi_scan.specs.Source.{blocks_of}
-use Rattle.ubi_change.specs.Steps.{blocks_after, block_after, target}
+use Rattle.ubi_change.specs.Steps.{block_cut, blocks_after}
 use Rattle.ubi_change.specs.declared.step.Step.{Step}
-
--- the eraseblock p after a step, which may be on another
-abbrev pub block_step : Sizes → ℕ → List ℕ → Step → List ℕ
-block_step s p b next = if target next == p then block_after s b next else b
-
--- the eraseblock p after some steps
-abbrev pub block_cut : Sizes → ℕ → List Step → List ℕ → List ℕ
-block_cut s p steps b = fold (block_step s p) b steps
 
 -- the bytes of the eraseblock p of an image, after those of the steps that change it
 abbrev pub block_text : Sizes → ℕ → List Step → List ℕ → List ℕ → Type 0

@@ -1,7 +1,6 @@
 -- Why what is asked can't be edited.
-use Rattle.std.specs.Prelude.{◌≡◌, ℕ, ◌<◌, List, length, None, Some, slice_get, take}
+use Rattle.std.specs.Prelude.{List}
 use Rattle.ubi_table.specs.Records.{Records}
-use Rattle.ubi_change.specs.declared.edit.Edit.{Edit}
 use Rattle.ubi_writing.specs.Asks.{IsNoEdit}
 use Rattle.ubi_writing.specs.declared.asks.Ask.{Ask}
 use Rattle.ubi_writing.specs.declared.asks.Unasked.{Unasked}

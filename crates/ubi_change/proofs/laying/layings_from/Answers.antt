@@ -1,13 +1,19 @@
-use Rattle.ubi_change.proofs.Prelude.{sym, ◌∙◌, subst, err_from_is_err_and, AllByRecursion, Source, LiesIn, Part, Laying}
-use Rattle.ubi_change.proofs.LayingRead.{all_layings_more, contents_unread}
+use Rattle.ubi_change.proofs.Prelude.{sym, ◌∙◌, subst, Err, ap, after_contents, AllByRecursion, Source, LiesIn, Part, Laying}
+use Rattle.ubi_change.proofs.LayingRead.{all_layings_more, contents_known, contents_unread}
 use Rattle.ubi_change.proofs.laying.layings_from.Goals as goal
 
-pub returns-in_err-add_part-clause-refused : goal.returns-in_err-add_part-clause-refused
-returns-in_err-add_part-clause-refused g c =
-    let from = err_from_is_err_and c.from_residual.result c.from_residual.ensures.1 in
-    rw (from.1, from.2)
+pub returns-in-Err-clause-refused : goal.returns-in-Err-clause-refused
+returns-in-Err-clause-refused g c =
+    rw c.contents_error.ensures
     (contents_unread c.args.parts.now c.loop-i.i c.index-parts-i.result c.loop-i-test.true (sym c.index-parts-i.is)
-    (g.T.BlockSource.failed_at c.add_part.new.contents) c.in_err-add_part.field-0.0 c.in_err-add_part.ensures.refused)
+    (g.T.BlockSource.failed_at c.add_part.new.contents) c.in-Err.error c.in-Err.ensures.refused)
+
+pub returns-in-Err-clause-known : goal.returns-in-Err-clause-known
+returns-in-Err-clause-known g c =
+    rw c.contents_error.ensures
+    (c.in-Err.ensures.known
+    ∙ ap (λ (k : Source). after_contents {A = Unit {0}} k (Err c.in-Err.error)) c.loop-i.invariant.known
+    ∙ sym (contents_known (g.T.BlockSource.known c.args.contents.now) c.loop-i.i c.in-Err.error))
 
 pub loop-i-preserved : goal.loop-i-preserved
 loop-i-preserved g c =
@@ -15,7 +21,7 @@ loop-i-preserved g c =
     let ps = c.args.parts.now in
     let i = c.loop-i.i in
     let p : Part = c.index-parts-i.result in
-    let added = c.in_ok-add_part.ensures in
+    let added = c.in-Ok.ensures in
     let size = (g.T.BlockSource.known c.args.contents.now).size in
     record {
       known = added.known ∙ c.loop-i.invariant.known;

@@ -1,6 +1,6 @@
 use Rattle.ubi_change.proofs.Prelude.{◌≡◌, List, [], ◌∷◌, ◌∙◌, subst, err_from_is_err_and, holds, still, image_of, AllWithin, Narrows, length, IsUpdateFor, IsUpdateError, StopsIfRenames, UpdateError, Edit}
 use Rattle.ubi_change.specs.declared.edit.Edit.TheVariants as edit
-use Rattle.ubi_change.proofs.RenameStopped.{contents_stopped, stopped_is}
+use Rattle.ubi_change.proofs.RenameStopped.{stopped_is}
 use Rattle.ubi_change.proofs.RenameUpdated.{rename_facts}
 use Rattle.ubi_change.proofs.rename.steps_of.Goals as goal
 
@@ -19,20 +19,13 @@ returns-in_err-plan-clause-refused g c =
     (subst (λ (es : List Edit). StopsIfRenames es e) es c.in_err-plan.ensures.renames)
     (subst (λ (es : List Edit). IsUpdateError s known agrees (length c.new-contents.result) 0 (holds left) c.args.avoided.now es e) es c.in_err-plan.ensures.refused))
 
-pub returns-in_err-steps-clause-refused : goal.returns-in_err-steps-clause-refused
-returns-in_err-steps-clause-refused g c =
-    let from = err_from_is_err_and c.from_residual-in_err-steps.result c.from_residual-in_err-steps.ensures.1 in
-    rw (from.1, from.2)
-    (contents_stopped c.args.geometry.now (g.S.BlockSource.known c.args.source.now) (g.S.BlockSource.agrees c.plan_update_from.new.source)
-    c.args.avoided.now c.args.id c.args.name.now c.in_err-steps.field-0.0)
-
-pub returns-clause-plan : goal.returns-clause-plan
-returns-clause-plan g c =
+pub returns-in-Ok-clause-plan : goal.returns-in-Ok-clause-plan
+returns-in-Ok-clause-plan g c =
     let s = c.args.geometry.now in
     let av = c.args.avoided.now in
     let planned = c.in_ok-plan.ensures in
-    let made = c.in_ok-steps.ensures in
-    let steps = c.in_ok-steps.field-0.items in
+    let made = c.in-Ok.ensures in
+    let steps = c.in-Ok.steps.items in
     let es : c.as_slice.result.now ≡ edit.Rename c.args.id c.args.name.now ∷ [] = c.as_slice.ensures.value ∙ c.in_ok-edits.ensures in
     let first = still [] c.plan_update_from.new.contents (rw c.new-contents.ensures at planned.narrows_contents) in
     let both : Narrows (holds c.new-contents.result) (holds c.steps.new.contents) =

@@ -1,4 +1,4 @@
-use Rattle.ubi_change.proofs.Prelude.{List, Part, ◌≡◌, err_from_is_err_and, ◌+◌, ◌<◌, ◌^◌, refl, length, None, AllByRecursion, sym, ap, subst, ◌∙◌, arith, Source, states_avoiding, blocks_in, blocks_of, BothFit, FitsIn, FitsUpdate, IsPlanOf, IsUpdateFor, image_of, first_taken, first_beyond, all_layings, IsPartReadable, UpdatePlan, IsContentsError, IsSitesError, ContentsError, UpdateError}
+use Rattle.ubi_change.proofs.Prelude.{List, Part, ◌≡◌, err_from_is_err_and, ◌+◌, ◌<◌, ◌^◌, refl, length, None, AllByRecursion, sym, ap, subst, ◌∙◌, arith, Source, states_avoiding, blocks_in, blocks_of, BothFit, FitsIn, FitsUpdate, IsPlanOf, IsUpdateFor, image_of, first_taken, first_beyond, all_layings, IsPartReadable, UpdatePlan, IsContentsError, IsSitesError, UpdateError}
 use Rattle.ubi_change.proofs.PlanBeside.{beside_is, never_in}
 use Rattle.ubi_change.proofs.Touchable.{none_beyond}
 use Rattle.ubi_change.proofs.UpdateKept.{contents_known, contents_unread_is, sites_are, sites_known, unbased_is, unbased_known, update_beside, update_is}
@@ -107,7 +107,7 @@ returns-in_err-surveyed-clause-refused g c =
 pub returns-in_err-layings-clause-refused : goal.returns-in_err-layings-clause-refused
 returns-in_err-layings-clause-refused g c =
     let from = err_from_is_err_and c.from_residual-in_err-layings.result c.from_residual-in_err-layings.ensures.1 in
-    let e : ContentsError = c.in_err-layings.field-0.0 in
+    let e : UpdateError = c.in_err-layings.field-0.0 in
     let at = g.T.BlockSource.failed_at c.layings_from.new.contents in
     rw (from.1, from.2)
     (contents_unread_is c.args.geometry.now (g.S.BlockSource.known c.args.source.now) (g.S.BlockSource.agrees c.based_on.new.source)
@@ -151,7 +151,8 @@ pub returns-in_err-layings-clause-known_contents : goal.returns-in_err-layings-c
 returns-in_err-layings-clause-known_contents g c =
     let from = err_from_is_err_and c.from_residual-in_err-layings.result c.from_residual-in_err-layings.ensures.1 in
     rw (from.1, from.2)
-    (c.in_err-layings.ensures.known ∙ sym (contents_known (g.T.BlockSource.known c.args.contents.now) c.in_err-layings.field-0.0))
+    (c.in_err-layings.ensures.known
+    ∙ sym (contents_known (g.T.BlockSource.known c.args.contents.now) _ _ c.in_err-layings.field-0.0 c.in_err-layings.ensures.refused))
 
 pub returns-in_err-sites-clause-known_contents : goal.returns-in_err-sites-clause-known_contents
 returns-in_err-sites-clause-known_contents g c =

@@ -23,7 +23,7 @@ returns-in-Ok-clause-ok g c =
     (sym c.as_slice.ensures.value) c.in-Ok.ensures.plan in
     change_done av new.id new.lnum new.bytes.now c.args.stop s known agrees steps
     (change_narrowed av new.id new.lnum new.bytes.now c.args.stop s known _ agrees steps c.carry_out.ensures.narrows plan)
-    c.carry_out.result c.carry_out.new.pages.items _ _ (rw c.new.ensures.items at c.carry_out.ensures.answer)
+    c.carry_out.result c.carry_out.new.pages.items _ _ c.carry_out.ensures.answer
     (rw c.requires at c.carry_out.ensures.pages)
     (subst (λ (k : Source). IfOk c.carry_out.result (λ _. Wrote agrees (g.W.Write.contents c.args.writer.now)
     (g.W.Write.contents c.carry_out.new.writer) (cut_text s steps (steps_done steps c.args.stop)) All 0 k.size)) c.in-Ok.ensures.known

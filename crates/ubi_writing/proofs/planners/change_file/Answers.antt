@@ -1,5 +1,6 @@
-use Rattle.ubi_writing.proofs.Prelude.{◌≡◌, arith, drop, take, option_map, IfOk-weaker, keeps_promise, masked, pages_of, avoided, image, no_file, on_grid, with_list, ◌++◌, blank, OfFile-weaker, of_any, told}
+use Rattle.ubi_writing.proofs.Prelude.{[], ◌∙◌, ◌≡◌, arith, drop, take, option_map, IfOk-weaker, keeps_promise, masked, pages_of, avoided, image, no_file, on_grid, with_list, ◌++◌, blank, OfFile-weaker, of_any, told}
 use Rattle.ubi_files.specs.OverFile.{no_image}
+use Rattle.ubi_writing.proofs.AnyContents.{nothing_held}
 use Rattle.ubi_writing.proofs.Planned.{unplanned_any}
 use Rattle.ubi_writing.proofs.planners.change_file.Goals as goal
 
@@ -34,7 +35,8 @@ returns-clause-answer g c =
     rw (c.as_slice.ensures.value, c.in-Ok.frame.marked, c.in-Ok.ensures.dump) at c.new-avoided.ensures in
     IfOk-weaker c.write_plan.result _ _
     (λ o h. with_list (on_grid c.in-Ok.ensures.grid (OfFile-weaker d dump c.args.asked.now.plan.paths.image.now _ _
-    (λ s k agrees o a. image file.bytes.items c.in-Ok-load.ensures.read c.in-Ok-load.ensures.named a) o h)))
+    (λ s k agrees o a. image file.bytes.items c.in-Ok-load.ensures.read c.in-Ok-load.ensures.named
+    (a [] (nothing_held c.of-pages.result.contents c.write_plan.new.pages.contents (c.of-pages.ensures.contents ∙ c.new.ensures) c.write_plan.ensures.contents))) o h)))
     (rw (given, c.as_slice-2.ensures.value) at (c.write_plan.ensures.answer d dump (rw c.in-Ok.ensures.dump at c.in-Ok-open_beside.ensures.opened)))
 
 pub returns-clause-from : goal.returns-clause-from

@@ -1,4 +1,4 @@
-use Rattle.ubi_writing.proofs.Prelude.{◌∙◌, IfOk-weaker, keeps_promise, WritesPlan, HasWork, writes, at_places, by_bytes}
+use Rattle.ubi_writing.proofs.Prelude.{◌∙◌, IfOk-weaker, keeps_promise, Plans, at_places, by_bytes}
 use Rattle.ubi_writing.proofs.planners.plan_over.Goals as goal
 
 pub returns-in-AtPlaces-clause-answer : goal.returns-in-AtPlaces-clause-answer
@@ -9,7 +9,7 @@ returns-in-AtPlaces-clause-answer g c d dump is =
     let h = rw c.in-AtPlaces.is at is in
     IfOk-weaker c.plan_into-work.result _ _
     (λ o work. at_places d dump plan.paths.image.now
-    (λ s k agrees. WritesPlan plan.paths.out.now plan.pages before e (writes c.args.command.now s k agrees) (HasWork c.args.command.now s k agrees))
+    (Plans plan before e c.args.command.now (g.T.BlockSource.agrees c.plan_into-work.new.pages.contents))
     c.in-AtPlaces.file.geometry h.0 _ _ _ o h.1 h.2 h.3 (keeps_promise _ _ _ c.plan_into-work.new.source.told) work)
     c.plan_into-work.ensures.answer
 
@@ -21,7 +21,7 @@ returns-in-Whole-clause-answer g c d dump is =
     let h = rw c.in-Whole.is at is in
     IfOk-weaker c.plan_into-work-in-Whole.result _ _
     (λ o work. by_bytes d dump plan.paths.image.now
-    (λ s k agrees. WritesPlan plan.paths.out.now plan.pages before e (writes c.args.command.now s k agrees) (HasWork c.args.command.now s k agrees))
+    (Plans plan before e c.args.command.now (g.T.BlockSource.agrees c.plan_into-work-in-Whole.new.pages.contents))
     c.in-Whole.file.geometry h.0 c.in-Whole.file.bytes.items _ _ o h.1 h.2 h.3 (c.new-source.ensures ∙ c.as_slice.ensures.value)
     c.plan_into-work-in-Whole.ensures.narrows work)
     c.plan_into-work-in-Whole.ensures.answer

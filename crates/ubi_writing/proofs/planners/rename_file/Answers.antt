@@ -1,4 +1,5 @@
-use Rattle.ubi_writing.proofs.Prelude.{◌≡◌, IfOk-weaker, avoided, no_file, on_grid, with_list, told}
+use Rattle.ubi_writing.proofs.Prelude.{[], ◌∙◌, OfFile-weaker, ◌≡◌, IfOk-weaker, avoided, no_file, on_grid, with_list, told}
+use Rattle.ubi_writing.proofs.AnyContents.{nothing_held}
 use Rattle.ubi_writing.proofs.Planned.{unplanned_any}
 use Rattle.ubi_writing.proofs.planners.rename_file.Goals as goal
 
@@ -19,5 +20,7 @@ returns-clause-answer g c =
     let d = g.D.Disk.files c.args.disk.now in
     let given : c.new-avoided.result ≡ avoided dump c.args.asked.now.plan =
     rw (c.as_slice.ensures.value, c.in-Ok.frame.marked, c.in-Ok.ensures.dump) at c.new-avoided.ensures in
-    IfOk-weaker c.write_plan.result _ _ (λ o h. with_list (on_grid c.in-Ok.ensures.grid h))
+    IfOk-weaker c.write_plan.result _ _ (λ o h. with_list (on_grid c.in-Ok.ensures.grid (OfFile-weaker d dump c.args.asked.now.plan.paths.image.now _ _
+    (λ s k agrees o a. a [] (nothing_held c.of-pages.result.contents c.write_plan.new.pages.contents (c.of-pages.ensures.contents ∙ c.new.ensures)
+    c.write_plan.ensures.contents)) o h)))
     (rw (given, c.as_bytes-word.ensures.value) at (c.write_plan.ensures.answer d dump (rw c.in-Ok.ensures.dump at c.in-Ok-open_beside.ensures.opened)))

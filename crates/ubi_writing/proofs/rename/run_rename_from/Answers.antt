@@ -36,7 +36,7 @@ returns-in-Ok-clause-ok g c =
     let shown : shown_name word ≡ Some name = sym c.in-Some.ensures ∙ ap Some (sym c.as_bytes.ensures.value) in
     rename_done av id word c.args.stop s known agrees name shown steps
     (rename_narrowed av id word c.args.stop s name known _ agrees steps c.carry_out.ensures.narrows plan)
-    c.carry_out.result c.carry_out.new.pages.items _ _ (rw c.new.ensures.items at c.carry_out.ensures.answer)
+    c.carry_out.result c.carry_out.new.pages.items _ _ c.carry_out.ensures.answer
     (rw c.requires at c.carry_out.ensures.pages)
     (subst (λ (k : Source). IfOk c.carry_out.result (λ _. Wrote agrees (g.W.Write.contents c.args.writer.now)
     (g.W.Write.contents c.carry_out.new.writer) (cut_text s steps (steps_done steps c.args.stop)) All 0 k.size)) c.in-Ok.ensures.known

@@ -1,4 +1,4 @@
-use Rattle.ubi_writing.proofs.Prelude.{◌∙◌, Some, ap, sym, take_all, all_replaced}
+use Rattle.ubi_writing.proofs.Prelude.{◌∙◌, ap, sym, take_all, all_replaced}
 use Rattle.ubi_writing.proofs.EditsInOrder.{replaced_more, replaced_none}
 use Rattle.ubi_writing.proofs.update.all_replaced.Goals as goal
 use Rattle.ubi_writing.proofs.update.all_replaced.Goals.{in-Some+in_ok-push, in_default}

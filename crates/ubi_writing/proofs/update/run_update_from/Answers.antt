@@ -1,80 +1,125 @@
-use Rattle.ubi_writing.proofs.Prelude.{List, sym, subst, ◌∙◌, IfOk, Source, blocks_in, All, Wrote, AllWithin, Step, cut_text, steps_done, image_of, ArePlannedSteps, IsUpdateErrorIn, Edit, AreEditsOf, ArePlanned}
-use Rattle.ubi_writing.proofs.Updated.{no_edits_told, planned_later, unplanned_told, update_cut, update_done}
+use Rattle.ubi_writing.proofs.Prelude.{◌≡◌, ◌∙◌, ℕ, List, Step, subst, sym, take, IfErr, IfOk, Agreed, Source, All, Wrote, after_text, image_of, in_order, plan_groups, steps_done, AreCut, ArePlanned, ArePlannedSteps, AreEditsOf, Edit, IsUpdateError, IsUpdateFault, IsWriteFault, UpdatesFrom, made_steps, pages_made, refl}
+use Rattle.ubi_writing.proofs.Cut.{is_cut}
+use Rattle.ubi_writing.proofs.PlannedAll.{held_firsts, held_pages, lines_planned, steps_planned}
+use Rattle.ubi_writing.proofs.Updated.{no_edits_told, planned_later, refused_told, unheld_told, update_cut, update_done}
 use Rattle.ubi_writing.proofs.update.run_update_from.Given as given
 use Rattle.ubi_writing.proofs.update.run_update_from.Goals as goal
 
-pub carry_out-requires-clause-within : goal.carry_out-requires-clause-within
-carry_out-requires-clause-within g c =
-    let s = c.args.geometry.now in
-    let known = g.S.BlockSource.known c.plan_all.new.source in
-    let within : AllWithin s (blocks_in s known) c.in-Ok-plan_all.field-0.steps.items =
-    subst (λ (k : Source). AllWithin s (blocks_in s k) c.in-Ok-plan_all.field-0.steps.items) (sym c.in-Ok-plan_all.ensures.known)
-    c.in-Ok-plan_all.ensures.steps.within in
-    subst (λ (steps : List Step). AllWithin s (blocks_in s known) steps) (sym c.as_slice-in-Ok-plan_all.ensures.value) within
-
--- the steps are those that are planned for what is asked
-planned : (g : given.Over) (c : goal.After-drop-edits g) → ArePlanned c.args.avoided.now c.args.asked.now.asks.now c.args.asked.now.contents.now
-    c.args.geometry.now (g.S.BlockSource.known c.args.source.now) (g.S.BlockSource.agrees c.carry_out.new.source) c.as_slice.result.now
-    c.as_slice-in-Ok-plan_all.result.now
-planned g c =
-    let s = c.args.geometry.now in
-    let av = c.args.avoided.now in
-    let asks = c.args.asked.now.asks.now in
-    let contents = c.args.asked.now.contents.now in
-    let es = c.as_slice.result.now in
-    let steps = c.as_slice-in-Ok-plan_all.result.now in
-    let known = g.S.BlockSource.known c.args.source.now in
-    let agrees = g.S.BlockSource.agrees c.carry_out.new.source in
-    let before = g.S.BlockSource.agrees c.plan_all.new.source in
-    let made : ArePlannedSteps s known before av contents es steps =
-    subst (λ (xs : List Step). ArePlannedSteps s known before av contents es xs) (sym c.as_slice-in-Ok-plan_all.ensures.value)
-    (subst (λ (k : Source). ArePlannedSteps s k before av contents es c.in-Ok-plan_all.field-0.steps.items) c.in-Ok.ensures.known
-    c.in-Ok-plan_all.ensures.steps) in
-    record {
-      asked = λ bytes held. subst (λ (xs : List Edit). AreEditsOf (image_of s bytes) asks xs) (sym c.as_slice.ensures.value)
-          (c.in-Ok.ensures.edits bytes (c.in-Ok-plan_all.ensures.narrows bytes (c.carry_out.ensures.narrows bytes held)));
-      plan = planned_later av asks contents c.args.stop s known before agrees es steps c.carry_out.ensures.narrows made;
-    }
-
-pub returns-in-Ok-plan_all-clause-ok : goal.returns-in-Ok-plan_all-clause-ok
-returns-in-Ok-plan_all-clause-ok g c =
-    let s = c.args.geometry.now in
-    let agrees = g.S.BlockSource.agrees c.carry_out.new.source in
-    let steps = c.as_slice-in-Ok-plan_all.result.now in
-    update_done c.args.avoided.now c.args.asked.now.asks.now c.args.asked.now.contents.now c.args.stop s
-    (g.S.BlockSource.known c.args.source.now) agrees c.as_slice.result.now steps (planned g c) c.in-Ok-plan_all.field-0.lines.items
-    (λ bytes held. c.in-Ok-plan_all.ensures.lines bytes (c.carry_out.ensures.narrows bytes held))
-    c.carry_out.result c.carry_out.new.pages.items _ _ c.carry_out.ensures.answer
-    (rw c.requires at c.carry_out.ensures.pages)
-    (subst (λ (k : Source). IfOk c.carry_out.result (λ _. Wrote agrees (g.W.Write.contents c.args.writer.now)
-    (g.W.Write.contents c.carry_out.new.writer) (cut_text s steps (steps_done steps c.args.stop)) All 0 k.size))
-    (c.in-Ok-plan_all.ensures.known ∙ c.in-Ok.ensures.known) c.carry_out.ensures.written)
-    c.carry_out.ensures.cut
-
-pub returns-in-Ok-plan_all-clause-err : goal.returns-in-Ok-plan_all-clause-err
-returns-in-Ok-plan_all-clause-err g c =
-    update_cut c.args.avoided.now c.args.asked.now.asks.now c.args.asked.now.contents.now c.args.stop c.args.geometry.now
-    (g.S.BlockSource.known c.args.source.now) (g.S.BlockSource.agrees c.carry_out.new.source) c.as_slice.result.now
-    c.as_slice-in-Ok-plan_all.result.now (planned g c) c.carry_out.result _ _ c.carry_out.ensures.err
-
 pub returns-in-Err-Told-clause-ok : goal.returns-in-Err-Told-clause-ok
-returns-in-Err-Told-clause-ok g c =
-    no_edits_told c.args.avoided.now c.args.asked.now.asks.now c.args.asked.now.contents.now c.args.stop c.args.geometry.now
-    (g.S.BlockSource.known c.args.source.now) (g.S.BlockSource.agrees c.edits_from.new.source) c.args.pages.now.items
+returns-in-Err-Told-clause-ok g c bytes held =
+    no_edits_told c.args.avoided.now c.args.asks.now bytes c.args.stop c.args.geometry.now
+    (g.S.BlockSource.known c.args.source.now) (g.S.BlockSource.agrees c.edits_from.new.source) _
     (g.W.Write.contents c.args.writer.now) c.saying.result c.in-Err-Told.line
     (rw c.in-Err-Told.field-0-is at c.in-Err-Told.ensures.refused) (rw c.in-Err-Told.field-0-is at c.saying.ensures)
 
-pub returns-clause-ok : goal.returns-clause-ok
-returns-clause-ok g c =
+pub returns-in-Err-clause-ok : goal.returns-in-Err-clause-ok
+returns-in-Err-clause-ok g c bytes held =
     let s = c.args.geometry.now in
-    let av = c.args.avoided.now in
-    let asks = c.args.asked.now.asks.now in
-    let contents = c.args.asked.now.contents.now in
-    let es = c.as_slice.result.now in
-    let now = g.S.BlockSource.agrees c.plan_all.new.source in
-    unplanned_told av asks contents c.args.stop s (g.S.BlockSource.known c.args.source.now) now c.args.pages.now.items
-    (g.W.Write.contents c.args.writer.now) es c.in-Err.error
-    (λ bytes held. subst (λ (xs : List Edit). AreEditsOf (image_of s bytes) asks xs) (sym c.as_slice.ensures.value)
-    (c.in-Ok.ensures.edits bytes (c.in-Err.ensures.narrows bytes held)))
-    (subst (λ (k : Source). IsUpdateErrorIn s k now av contents es c.in-Err.error) c.in-Ok.ensures.known c.in-Err.ensures.refused)
+    let now = g.S.BlockSource.agrees c.plan_update_from.new.source in
+    let agreed = g.T.BlockSource.agrees c.plan_update_from.new.contents in
+    let size = (g.T.BlockSource.known c.args.pages.now.contents).size in
+    let at = g.T.BlockSource.failed_at c.plan_update_from.new.contents in
+    let es = c.as_slice-edits.result.now in
+    refused_told c.args.avoided.now c.args.asks.now bytes c.args.stop s (g.S.BlockSource.known c.args.source.now) now agreed size at es held
+    ((g.met.T.BlockSource.sized c.args.pages.now.contents).sized bytes (c.in-Err.ensures.narrows_contents bytes held)) _ _ c.in-Err.error
+    (λ image agrees. subst (λ (xs : List Edit). AreEditsOf (image_of s image) c.args.asks.now xs) (sym c.as_slice-edits.ensures.value)
+    (c.in-Ok.ensures.edits image (c.in-Err.ensures.narrows image agrees)))
+    (subst (λ (k : Source). IsUpdateError s k now size at agreed c.args.avoided.now es c.in-Err.error) c.in-Ok.ensures.known c.in-Err.ensures.refused)
     c.unplanned.result c.unplanned.ensures.ok
+
+pub returns-clause-ok : goal.returns-clause-ok
+returns-clause-ok g c bytes held =
+    unheld_told c.args.avoided.now c.args.asks.now bytes c.args.stop c.args.geometry.now (g.S.BlockSource.known c.args.source.now) _ _ _
+    c.in-Err-hold_plan.error c.in-Err-hold_plan.ensures.refused c.unplanned-in-Err-hold_plan.result c.unplanned-in-Err-hold_plan.ensures.ok
+
+module _ (g : given.Over) (c : goal.After-drop-edits-in-Ok-hold_plan g) (bytes : List ℕ)
+    (held : g.T.BlockSource.agrees c.write_planned.new.pages.contents bytes) where
+  -- the contents agree with what was read of them before
+  held_then : g.T.BlockSource.agrees c.hold_plan.new.pages.contents bytes
+  held_then = c.write_planned.ensures.agrees bytes held
+
+  held_first : g.T.BlockSource.agrees c.plan_update_from.new.contents bytes
+  held_first = c.in-Ok-hold_plan.ensures.narrows bytes held_then
+
+  abbrev steps : List Step
+  steps = in_order (plan_groups c.args.geometry.now c.in-Ok-plan_update_from.plan bytes)
+
+  abbrev known : Source
+  known = g.S.BlockSource.known c.args.source.now
+
+  abbrev agrees : Agreed
+  agrees = g.S.BlockSource.agrees c.write_planned.new.source
+
+  known_then : g.S.BlockSource.known c.plan_update_from.new.source ≡ known
+  known_then = c.in-Ok-plan_update_from.ensures.known ∙ c.in-Ok.ensures.known
+
+  -- the steps are those that are planned for what is asked
+  planned_steps : ArePlannedSteps c.args.geometry.now known agrees c.args.avoided.now bytes c.as_slice-edits.result.now steps
+  planned_steps =
+      let s = c.args.geometry.now in
+      let av = c.args.avoided.now in
+      let es = c.as_slice-edits.result.now in
+      let before = g.S.BlockSource.agrees c.plan_update_from.new.source in
+      let plan = c.in-Ok-plan_update_from.ensures in
+      let h = c.in-Ok-hold_plan.ensures.held in
+      planned_later av c.args.asks.now bytes c.args.stop s known before agrees es steps c.write_planned.ensures.narrows
+      (subst (λ (k : Source). ArePlannedSteps s k before av bytes es steps) c.in-Ok.ensures.known
+      (steps_planned s (g.S.BlockSource.known c.edits_from.new.source) before (g.T.BlockSource.agrees c.plan_update_from.new.contents) av bytes es
+      c.in-Ok-plan_update_from.plan plan.plan held_first plan.source plan.beside steps refl (h.within bytes held_then)
+      (λ apart. h.beside av.marks apart bytes held_then)))
+
+  planned : ArePlanned c.args.avoided.now c.args.asks.now bytes c.args.geometry.now known agrees c.as_slice-edits.result.now steps
+  planned = record {
+    asked = λ image held. subst (λ (xs : List Edit). AreEditsOf (image_of c.args.geometry.now image) c.args.asks.now xs) (sym c.as_slice-edits.ensures.value)
+        (c.in-Ok.ensures.edits image (c.in-Ok-plan_update_from.ensures.narrows image (c.write_planned.ensures.narrows image held)));
+    plan = planned_steps;
+  }
+
+  cut : AreCut c.args.geometry.now agrees steps (steps_done steps c.args.stop)
+  cut image held =
+      is_cut c.args.geometry.now c.in-Ok-plan_update_from.ensures.fits.sound image known.size planned_steps.whole
+      ((g.met.S.BlockSource.sized c.args.source.now).sized image
+      (c.in-Ok.ensures.narrows image (c.in-Ok-plan_update_from.ensures.narrows image (c.write_planned.ensures.narrows image held))))
+      steps planned_steps.within (steps_done steps c.args.stop)
+
+  abbrev firsts : List Step
+  firsts = take (steps_done steps c.args.stop) steps
+
+  made_firsts : made_steps c.hold_plan.new.pages.made bytes ≡ firsts
+  made_firsts = held_firsts _ _ _ _ _ _ _ c.in-Ok-hold_plan.ensures.held bytes held_then
+
+  answered : IfOk c.write_planned.result (UpdatesFrom c.args.avoided.now c.args.asks.now bytes c.args.stop c.args.geometry.now known agrees
+      (pages_made c.write_planned.new.pages.made bytes) (g.W.Write.contents c.args.writer.now) (g.W.Write.contents c.write_planned.new.writer))
+  answered =
+      let s = c.args.geometry.now in
+      let plan = c.in-Ok-plan_update_from.ensures in
+      let old = g.W.Write.contents c.args.writer.now in
+      let now = g.W.Write.contents c.write_planned.new.writer in
+      update_done c.args.avoided.now c.args.asks.now bytes c.args.stop s known agrees c.as_slice-edits.result.now steps planned
+      c.in_ok-lines.lines.items
+      (λ image held. lines_planned s (g.S.BlockSource.known c.edits_from.new.source) (g.S.BlockSource.agrees c.plan_update_from.new.source)
+      (g.T.BlockSource.agrees c.plan_update_from.new.contents) c.args.avoided.now bytes c.as_slice-edits.result.now c.in-Ok-plan_update_from.plan plan.plan
+      held_first c.in_ok-lines.lines.items c.in_ok-lines.ensures image (c.write_planned.ensures.narrows image held))
+      c.write_planned.result (pages_made c.write_planned.new.pages.made bytes) old now c.in-Ok-hold_plan.text.items
+      (c.in-Ok-hold_plan.ensures.held.said bytes held_then) c.write_planned.ensures.answer
+      (held_pages _ _ _ _ _ _ _ c.in-Ok-hold_plan.ensures.held bytes held_then c.write_planned.new.pages.made _ _ _ c.write_planned.ensures.ready
+      c.write_planned.ensures.same) cut
+      (subst (λ (k : Source). IfOk c.write_planned.result (λ _. Wrote agrees old now (after_text s firsts) All 0 k.size)) known_then
+      (subst (λ (xs : List Step). IfOk c.write_planned.result (λ _. Wrote agrees old now (after_text s xs) All 0 (g.S.BlockSource.known c.plan_update_from.new.source).size))
+      made_firsts (c.write_planned.ensures.written bytes held)))
+
+  failed : IfErr c.write_planned.result (IsUpdateFault c.args.avoided.now c.args.asks.now bytes c.args.stop c.args.geometry.now known agrees
+      (g.W.Write.contents c.args.writer.now) (g.W.Write.contents c.write_planned.new.writer))
+  failed =
+      let s = c.args.geometry.now in
+      let old = g.W.Write.contents c.args.writer.now in
+      let now = g.W.Write.contents c.write_planned.new.writer in
+      update_cut c.args.avoided.now c.args.asks.now bytes c.args.stop s known agrees c.as_slice-edits.result.now steps planned c.write_planned.result old now
+      (subst (λ (xs : List Step). IfErr c.write_planned.result (IsWriteFault agrees (after_text s xs) old now)) made_firsts
+      (c.write_planned.ensures.err bytes held))
+
+pub returns-in-Ok-hold_plan-clause-ok : goal.returns-in-Ok-hold_plan-clause-ok
+returns-in-Ok-hold_plan-clause-ok g c bytes held = answered g c bytes held
+
+pub returns-in-Ok-hold_plan-clause-err : goal.returns-in-Ok-hold_plan-clause-err
+returns-in-Ok-hold_plan-clause-err g c bytes held = failed g c bytes held

@@ -9,7 +9,7 @@ returns-in-Ok-clause-answer g c =
     let of = c.in-Ok.ensures in
     answered of.known
     (replaced_into c.args.paths.now.out.now (g.D.Disk.files c.args.disk.now) (g.D.Disk.files c.replaced.new.disk)
-    (writes c.args.command.now c.args.geometry.now k agrees c.answer.new.pages.items) (HasWork c.args.command.now c.args.geometry.now k agrees)
+    (writes c.args.command.now (g.T.BlockSource.agrees c.answer.new.pages.contents) c.answer.new.pages.made c.args.geometry.now k agrees) (HasWork c.args.command.now (g.T.BlockSource.agrees c.answer.new.pages.contents) c.args.geometry.now k agrees)
     c.answer.new.writer.bytes.items c.in-Ok.outcome c.args.faults.unwritten c.replaced.result
     (rw (c.new-held.ensures, ← c.requires.files) at of.answer) of.done c.requires.unwritten
     (rw c.bytes.ensures at c.replaced.ensures.answer))

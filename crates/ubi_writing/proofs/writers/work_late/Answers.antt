@@ -6,8 +6,8 @@ pub returns-clause-answer : goal.returns-clause-answer
 returns-clause-answer g c =
     let k = g.S.BlockSource.known c.args.source.now in
     let agrees = g.S.BlockSource.agrees c.answer-answer.new.source in
-    let answers = writes c.args.command.now c.args.geometry.now k agrees c.answer-answer.new.pages.items in
-    let work = HasWork c.args.command.now c.args.geometry.now k agrees in
+    let answers = writes c.args.command.now (g.T.BlockSource.agrees c.answer-answer.new.pages.contents) c.answer-answer.new.pages.made c.args.geometry.now k agrees in
+    let work = HasWork c.args.command.now (g.T.BlockSource.agrees c.answer-answer.new.pages.contents) c.args.geometry.now k agrees in
     let file = c.ended.new.late.file in
     let empty = fresh g.K.Target.files in
     let parts = c.into_parts-disk.ensures in

@@ -9,7 +9,7 @@ returns-in-AtPlaces-clause-answer g c d dump is =
     let h = rw c.in-AtPlaces.is at is in
     IfOk-weaker c.work_into-work.result _ _
     (λ o work. at_places d dump paths.image.now
-    (λ s k agrees. WritesInto paths.out.now before e (writes c.args.command.now s k agrees c.work_into-work.new.pages.items) (HasWork c.args.command.now s k agrees))
+    (λ s k agrees. WritesInto paths.out.now before e (writes c.args.command.now (g.T.BlockSource.agrees c.work_into-work.new.pages.contents) c.work_into-work.new.pages.made s k agrees) (HasWork c.args.command.now (g.T.BlockSource.agrees c.work_into-work.new.pages.contents) s k agrees))
     c.in-AtPlaces.file.geometry h.0 _ _ _ o h.1 h.2 h.3 (keeps_promise _ _ _ c.work_into-work.new.source.told) work)
     c.work_into-work.ensures.answer
 
@@ -21,7 +21,7 @@ returns-in-Whole-clause-answer g c d dump is =
     let h = rw c.in-Whole.is at is in
     IfOk-weaker c.work_into-work-in-Whole.result _ _
     (λ o work. by_bytes d dump paths.image.now
-    (λ s k agrees. WritesInto paths.out.now before e (writes c.args.command.now s k agrees c.work_into-work-in-Whole.new.pages.items) (HasWork c.args.command.now s k agrees))
+    (λ s k agrees. WritesInto paths.out.now before e (writes c.args.command.now (g.T.BlockSource.agrees c.work_into-work-in-Whole.new.pages.contents) c.work_into-work-in-Whole.new.pages.made s k agrees) (HasWork c.args.command.now (g.T.BlockSource.agrees c.work_into-work-in-Whole.new.pages.contents) s k agrees))
     c.in-Whole.file.geometry h.0 c.in-Whole.file.bytes.items _ _ o h.1 h.2 h.3 (c.new-source.ensures ∙ c.as_slice.ensures.value)
     c.work_into-work-in-Whole.ensures.narrows work)
     c.work_into-work-in-Whole.ensures.answer

@@ -1,7 +1,7 @@
 use Rattle.ubi_change.proofs.Prelude.{◌≡◌, ◌+◌, List, ℕ, ap, sym, ◌∙◌, take, arith, take_all, fold_more, block_cut, block_step, Step}
-use Rattle.ubi_change.proofs.BlockSteps.{step_elsewhere, step_here}
-use Rattle.ubi_change.proofs.image_after.apply_in.Goals as goal
-use Rattle.ubi_change.proofs.image_after.apply_in.Goals.{then-eraseblock-p, else-eraseblock-p}
+use Rattle.ubi_change.proofs.OnBlock.{step_elsewhere, step_here}
+use Rattle.ubi_change.proofs.block_steps.apply_all.Goals as goal
+use Rattle.ubi_change.proofs.block_steps.apply_all.Goals.{then-eraseblock-p, else-eraseblock-p}
 
 pub loop-step-preserved : goal.loop-step-preserved
 loop-step-preserved c =
