@@ -337,8 +337,7 @@ static WRITERS: [Failing; 13] = [
         ],
         output: Contents::Pebs(&[FIRST, SECOND, A, B, C, FREE, FREE, ORPHAN], &[]),
     },
-    // The contents are read before the image is, and after it was opened. Two files without places may be one pipe here, which gives its
-    // bytes once.
+    // The contents are read at places, after the image is. Two files without places may be one pipe here, which gives its bytes once.
     Failing {
         image: Contents::Pebs(&[FIRST, SECOND, A, B, C, FREE, FREE, FREE, ORPHAN], &[]),
         line: "update a.img --write root=new.bin --out b.img --stop 0",
@@ -347,8 +346,7 @@ static WRITERS: [Failing; 13] = [
             (Broken::Short(100), (UPDATED, 0), 4608),
             (Broken::Places, UNREAD_NEW, 0),
             (Broken::OpenRead, UNREAD, 0),
-            (Broken::Read(ErrorKind::Other, 64), UNREAD_NEW, 0),
-            (Broken::Read(ErrorKind::Other, 65), UNREAD, 0),
+            (Broken::Read(ErrorKind::Other, 64), UNREAD, 0),
             (Broken::Read(ErrorKind::Other, 4223), UNREAD, 0),
             (Broken::Read(ErrorKind::Other, 4224), UNREAD, 4096),
             (Broken::Cut, UNREAD, 0),

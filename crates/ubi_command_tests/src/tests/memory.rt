@@ -24,7 +24,7 @@ use ubi_probe::texts::bytes_of;
 use ubi_reading::{Comparison, Format, run_check, run_geometry, run_list, run_show};
 use ubi_scan::MemorySource;
 use ubi_writing::{
-    Ask, AskedEdits, VolumeKey, run_change, run_compose, run_extract, run_normalise, run_rename,
+    Ask, Pages, VolumeKey, run_change, run_compose, run_extract, run_normalise, run_rename,
     run_update_from,
 };
 
@@ -110,19 +110,17 @@ fn is_normalised(rt: &impl Abort, alloc: Global, geometry: &Geometry, image: &[u
     is_written(rt, answer, "blocks 5\n", &written, image)
 }
 
-/// Whether `root` was replaced by a volume of no byte, which takes no eraseblock. If not, memory ran out, and nothing was written.
+/// Whether `root` was replaced by a volume of no byte, which takes no eraseblock. If not, memory ran out: before the image was written, and
+/// nothing was; or while it was, and not all was.
 fn is_updated(rt: &impl Abort, alloc: Global, geometry: &Geometry, image: &[u8]) -> bool {
-    let (mut written, mut pages) = ([0; 3584], Vec::new(alloc));
-    let asked = AskedEdits {
-        asks: &[Ask::Contents("root=none.img", 0, 0)],
-        contents: &[],
-    };
+    let mut written = [0; 3584];
+    let mut pages = Pages::of(alloc, MemorySource::new(&[]));
     let answer = run_update_from(
         alloc,
         geometry,
         &mut MemorySource::new(image),
         &Avoided::new(&[], false),
-        &asked,
+        &[Ask::Contents("root=none.img", 0, 0)],
         None,
         &mut written.as_mut_slice(),
         &mut pages,
@@ -133,6 +131,10 @@ fn is_updated(rt: &impl Abort, alloc: Global, geometry: &Geometry, image: &[u8])
             assert!(rt; text.starts_with(b"volume 1 replaces 0 lebs=0 name=root\n"));
             assert!(rt; text.ends_with(RENAMED.as_bytes()));
             true
+        }
+        Err(ToolError::Write) => {
+            assert!(rt; written.ends_with(&[0; 512]));
+            false
         }
         Err(error) => {
             assert_eq!(rt; error, ToolError::Memory);

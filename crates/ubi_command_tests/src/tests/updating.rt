@@ -14,7 +14,7 @@ use ubi_probe::texts::bytes_of;
 use ubi_probe::{Failure, ProbeSource, ProbeWriter};
 use ubi_reading::{Format, Reading};
 use ubi_scan::{BlockSource, MemorySource};
-use ubi_writing::{Ask, AskedEdits, VolumeKey, run_extract, run_update_from};
+use ubi_writing::{Ask, Pages, VolumeKey, run_extract, run_update_from};
 
 /// Bytes that each stand a number of times.
 type Runs = &'static [(&'static [u8], usize)];
@@ -41,7 +41,33 @@ const LISTED: [bool; 10] = [
     false, false, false, false, false, false, false, false, false, true,
 ];
 
-/// What an update of a source answers, and the pages, with the eraseblock 9 listed.
+/// What an update of a source answers with contents of another, and the pages, with the eraseblock 9 listed.
+fn answer_with<S: BlockSource, T: BlockSource + Drop>(
+    alloc: Global,
+    geometry: &Geometry,
+    source: &mut S,
+    asks: &[Ask<'_>],
+    contents: T,
+    stop: Option<u32>,
+    writer: &mut ProbeWriter,
+) -> Result<(Outcome, Vec<u8>), ToolError> {
+    let mut pages = Pages::of(alloc, contents);
+    let answer = run_update_from(
+        alloc,
+        geometry,
+        source,
+        &Avoided::new(&LISTED, false),
+        asks,
+        stop,
+        writer,
+        &mut pages,
+    )?;
+    let mut programmed = ProbeWriter::new(alloc, 400_000, 4000, Failure::Nothing)?;
+    pages.write_to(&mut programmed)?;
+    Ok((answer, Vec::from_slice(alloc, programmed.taken())?))
+}
+
+/// The same with contents in memory.
 fn answer_over<S: BlockSource>(
     alloc: Global,
     geometry: &Geometry,
@@ -50,18 +76,8 @@ fn answer_over<S: BlockSource>(
     stop: Option<u32>,
     writer: &mut ProbeWriter,
 ) -> Result<(Outcome, Vec<u8>), ToolError> {
-    let mut pages = Vec::new(alloc);
-    let answer = run_update_from(
-        alloc,
-        geometry,
-        source,
-        &Avoided::new(&LISTED, false),
-        &AskedEdits { asks, contents },
-        stop,
-        writer,
-        &mut pages,
-    )?;
-    Ok((answer, pages))
+    let contents = MemorySource::new(contents);
+    answer_with(alloc, geometry, source, asks, contents, stop, writer)
 }
 
 /// What an update of an image answers.
@@ -510,6 +526,76 @@ fn tells_reads_that_fail(rt: HostRuntime) -> Result<(), Fail> {
         }
     }
     assert!(rt; failed > 40 && failed < 199, "{failed} reads");
+    Ok(())
+}
+
+/// What an update answers if the read of contents with this number fails, counted from 1, and what it wrote.
+fn updated_without(
+    alloc: Global,
+    geometry: &Geometry,
+    image: &[u8],
+    (asks, contents): (&[Ask<'_>], &[u8]),
+    fail_at: u64,
+) -> Result<(Result<Outcome, ToolError>, ProbeWriter), Fail> {
+    let mut source = MemorySource::new(image);
+    let contents = ProbeSource::new(alloc, geometry, contents, fail_at)?;
+    let mut writer = ProbeWriter::new(alloc, image.len(), 4000, Failure::Nothing)?;
+    match answer_with(
+        alloc,
+        geometry,
+        &mut source,
+        asks,
+        contents,
+        None,
+        &mut writer,
+    ) {
+        Ok((answer, _)) => Ok((Ok(answer), writer)),
+        Err(error) => Ok((Err(error), writer)),
+    }
+}
+
+/// The bytes of a volume of two logical eraseblocks are read four times: for the plan, for its lines, for the image, and for the pages.
+/// If one can't be read before the image is written, its file is named, and nothing is written.
+#[test]
+fn tells_contents_that_fail(rt: HostRuntime) -> Result<(), Fail> {
+    let alloc = rt.alloc();
+    let (geometry, case) = (small()?, &PLANS[0].case);
+    let image = image_of(alloc, &geometry, case.pebs)?;
+    let contents = bytes_of(alloc, case.contents)?;
+    let (image, asked) = (image.as_slice(), (case.asks, contents.as_slice()));
+    let whole = updated_of(alloc, &geometry, image, asked, None)?;
+    for (fail_at, written) in [
+        (1, Some(0)),
+        (2, Some(0)),
+        (3, Some(0)),
+        (4, Some(0)),
+        // The eraseblocks 5 and 6 get the contents, and both copies of the table follow.
+        (5, Some(2560)),
+        (6, Some(3072)),
+        (7, Some(5120)),
+        (8, Some(5120)),
+        (9, None),
+    ] {
+        let (answer, writer) = updated_without(alloc, &geometry, image, asked, fail_at)?;
+        let told = match answer {
+            Ok(outcome) if outcome.status == 1 => {
+                assert!(rt; outcome.text.as_slice() == b"cannot read new.img\n".as_slice());
+                fail_at <= 4
+            }
+            Ok(_) => fail_at == 9,
+            Err(error) => error == ToolError::Write && fail_at > 4 && fail_at < 9,
+        };
+        assert!(rt; told, "at the read {fail_at}");
+        let taken = writer.taken();
+        assert!(rt;
+            taken.len() == written.unwrap_or(image.len()),
+            "at the read {fail_at}"
+        );
+        assert!(rt;
+            whole.writer.taken().starts_with(taken),
+            "at the read {fail_at}"
+        );
+    }
     Ok(())
 }
 

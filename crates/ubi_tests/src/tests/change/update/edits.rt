@@ -77,7 +77,9 @@ pub fn planned(
     for k in 0..plan.group_count() {
         let mut bytes = MemorySource::new(contents);
         let mut buffer = Vec::from_elem(alloc, 0u8, geometry.peb_size() as usize)?;
-        let steps = plan.group(alloc, geometry, k, &mut bytes, buffer.as_mut_slice())?;
+        let Ok(steps) = plan.group(alloc, geometry, k, &mut bytes, buffer.as_mut_slice()) else {
+            return Err(UpdateError::Contents(k));
+        };
         match groups.push(steps) {
             Ok(()) => {}
             Err(full) => return Err(AllocError::from(full).into()),

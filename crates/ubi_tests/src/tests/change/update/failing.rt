@@ -3,7 +3,7 @@
 use super::edits::{Asked, Given, edits_of};
 use std::alloc::Global;
 use std::test::Fail;
-use ubi_change::{Avoided, UpdateError, plan_update_from};
+use ubi_change::{Avoided, ContentsError, UpdateError, plan_update_from};
 use ubi_probe::ProbeSource;
 use ubi_probe::pebs::{FIRST_BOOT, FREE, Peb, SECOND_BOOT, TEXT_0, TEXT_1, small, small_image};
 use ubi_probe::records::{BOOT_OF_2, DATA};
@@ -92,8 +92,8 @@ static READS: [Option<u32>; 28] = [
 
 /// Contents that can't be read: those of volume 1, two logical eraseblocks.
 static CONTENT_READS: [Option<UpdateError>; 3] = [
-    Some(UpdateError::Contents(1)),
-    Some(UpdateError::Contents(1)),
+    Some(UpdateError::Contents(0)),
+    Some(UpdateError::Contents(0)),
     None,
 ];
 
@@ -111,7 +111,7 @@ fn names_the_read_that_fails(rt: HostRuntime) -> Result<(), Fail> {
 }
 
 /// What the groups of the plan are answered where each read of the contents fails.
-fn group_errors(alloc: Global) -> Result<Vec<Option<UpdateError>>, Fail> {
+fn group_errors(alloc: Global) -> Result<Vec<Option<ContentsError>>, Fail> {
     let geometry = small()?;
     let image = small_image(alloc, &PEBS)?;
     let mut source = MemorySource::new(image.as_slice());
@@ -134,15 +134,15 @@ fn group_errors(alloc: Global) -> Result<Vec<Option<UpdateError>>, Fail> {
         let mut broken = ProbeSource::new(alloc, &geometry, CONTENTS, 1)?;
         let mut buffer = Vec::from_elem(alloc, 0u8, geometry.peb_size() as usize)?;
         let steps = plan.group(alloc, &geometry, k, &mut broken, buffer.as_mut_slice());
-        errors.push(steps.err().map(UpdateError::from))?;
+        errors.push(steps.err())?;
     }
     Ok(errors)
 }
 
 /// The groups of two pieces of volume 1 read them, and those of the copies of the table read nothing.
-static GROUPS: [Option<UpdateError>; 4] = [
-    Some(UpdateError::Contents(1)),
-    Some(UpdateError::Contents(1)),
+static GROUPS: [Option<ContentsError>; 4] = [
+    Some(ContentsError::Read(1)),
+    Some(ContentsError::Read(1)),
     None,
     None,
 ];

@@ -67,7 +67,9 @@ fn planned(
     for k in 0..plan.group_count() {
         let mut contents = FileSource::of(Ruled, SIZE);
         let mut buffer = Vec::from_elem(alloc, 0u8, geometry.peb_size() as usize)?;
-        let steps = plan.group(alloc, geometry, k, &mut contents, buffer.as_mut_slice())?;
+        let Ok(steps) = plan.group(alloc, geometry, k, &mut contents, buffer.as_mut_slice()) else {
+            return Err(UpdateError::Contents(k));
+        };
         match groups.push(steps) {
             Ok(()) => {}
             Err(full) => return Err(AllocError::from(full).into()),
