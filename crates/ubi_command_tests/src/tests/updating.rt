@@ -577,13 +577,13 @@ fn tells_contents_that_fail(rt: HostRuntime) -> Result<(), Fail> {
         (9, None),
     ] {
         let (answer, writer) = updated_without(alloc, &geometry, image, asked, fail_at)?;
-        let told = match answer {
+        let told = match &answer {
             Ok(outcome) if outcome.status == 1 => {
                 assert!(rt; outcome.text.as_slice() == b"cannot read new.img\n".as_slice());
                 fail_at <= 4
             }
             Ok(_) => fail_at == 9,
-            Err(error) => error == ToolError::Write && fail_at > 4 && fail_at < 9,
+            Err(error) => *error == ToolError::Write && fail_at > 4 && fail_at < 9,
         };
         assert!(rt; told, "at the read {fail_at}");
         let taken = writer.taken();
