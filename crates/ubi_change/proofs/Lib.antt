@@ -60,6 +60,7 @@ pub mod OnlyRenames
 pub mod OrphanWritten
 pub mod Orphaned
 pub mod OrphansWritten
+pub mod Outlined
 pub mod PageBytes
 pub mod PagePlaces
 pub mod PagesRise
@@ -68,7 +69,9 @@ pub mod PlacedParts
 pub mod PlanBeside
 pub mod PlanFits
 pub mod PlanFrugal
+pub mod PlanGroups
 pub mod PlanKept
+pub mod PlanLaid
 pub mod PlanMade
 pub mod PlanPremises
 pub mod PlanRises

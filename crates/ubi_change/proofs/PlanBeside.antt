@@ -1,6 +1,5 @@
 -- A plan works on no listed eraseblock: what is taken isn't listed, and what holds a copy isn't Blank.
-use Rattle.ubi_change.proofs.Prelude.{◌≡◌, ℕ, zero, suc, Bool, false, List, [], ◌∷◌, get_or, refl, ap, sym, ◌∙◌, arith, None, Option, Some, find, option_map, option_or, slice_get, slice_index, slice_get-get_or, get_or_from_slice_get, none_passes, Sizes, Image, eraseblocks, of_blocks, layout, found_wins, IsSurvey, Seen, AttachValue, records_of, avoiding, Avoided, ReadBlank, is_listed, states_avoiding, takeable, Site, AreHolders, first_taken, site_at, UpdatePlan, IsBeside, listed_in, listed_site, slice_get_within, none_found}
-use Rattle.std.specs.Prelude.{All}
+use Rattle.ubi_change.proofs.Prelude.{◌≡◌, ℕ, zero, suc, Bool, false, List, [], ◌∷◌, get_or, refl, ap, ◌∙◌, arith, None, Option, Some, find, option_map, option_or, slice_get, slice_index, slice_get-get_or, none_passes, Sizes, Image, eraseblocks, of_blocks, layout, found_wins, IsSurvey, Seen, AttachValue, records_of, avoiding, Avoided, ReadBlank, is_listed, states_avoiding, takeable, Site, AreHolders, first_taken, site_at, UpdatePlan, IsBeside, listed_in, listed_site, none_found, All}
 use Rattle.std.specs.FinMap as finite
 use Rattle.ubi_change.proofs.AvoidedKept.{taken_may, winner_may}
 use Rattle.ubi_change.proofs.Choosing.{may_be_taken}
@@ -53,12 +52,6 @@ module _ (marks : List Bool) where
 
     pub never_in : IsBeside marks p → (x : ℕ) → listed_in marks p ≡ Some x → ⊥
     never_in h x e = let f = none_is h in absurd (cc)
-
--- one of those that are taken
-pub beside_at : (marks : List Bool) (ts : List Site) (k : ℕ) (t : Site) → All (λ t. is_listed marks t.pnum ≡ false) ts → slice_get ts k ≡ Some t
-    → is_listed marks t.pnum ≡ false
-beside_at marks ts k t none e =
-    ap (λ (t : Site). is_listed marks t.pnum) (sym (get_or_from_slice_get ts k t t e)) ∙ none k t (slice_get_within ts k t e)
 
 -- the eraseblocks of an image that holds still
 module _ (image : Image) (av : Avoided) (seen : Seen) (is : IsSurvey image seen) (blank : of_blocks ReadBlank image av) where

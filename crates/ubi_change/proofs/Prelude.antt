@@ -26,7 +26,7 @@ pub use Rattle.std.specs.Int.Bits.{and_self}
 pub use Rattle.std.specs.List.{AllByRecursion, concat, cons_option, enumerate_from, position_from, position_or_len, range_with_len, sum_by}
 pub use Rattle.std.specs.Option.{option_map_or, option_or}
 pub use Rattle.std.specs.Ordering.{eq_by_cmp, nat_cmp}
-pub use Rattle.std.specs.Prelude.{Contains, Err, IfSome, IsSome, MatchOption, None, Ok, OnOk, Option, Result, Some, bit_and, count_by, filter, filter_map, find, flat_map, fold, if◌then◌else◌, is_none, is_some, max, min, nat_eq, nat_lt, option_and_then, option_copied, option_map, slice_get, slice_index, sum, unwrap_or, ⊤, ◌&&◌, ◌==◌, ◌||◌}
+pub use Rattle.std.specs.Prelude.{All, Contains, Err, IfSome, IsSome, MatchOption, None, Ok, OnOk, Option, Result, Some, bit_and, count_by, filter, filter_map, find, flat_map, fold, if◌then◌else◌, is_none, is_some, max, min, nat_eq, nat_lt, option_and_then, option_copied, option_map, slice_get, slice_index, sum, unwrap_or, ⊤, ◌&&◌, ◌==◌, ◌||◌}
 pub use Rattle.std.specs.Result.{is_ok}
 pub use Rattle.std.specs.Simd.{first_chunks}
 pub use Rattle.ubi_laid.proofs.AllVolumes.{apart_blocks, fine_blocks, its_volume, own_like, plain_blocks}
@@ -41,8 +41,9 @@ pub use Rattle.ubi_laid.specs.Laid.{AreApart, CanBeLaid, Laid, laid_blocks, stat
 pub use Rattle.ubi_laid.specs.LaidIn.{AreLaidIn, IsLaidAt, IsNoneOf}
 pub use Rattle.ubi_laid.specs.Laws.{EachIsVolume}
 pub use Rattle.ubi_laid.specs.Parts.{content_of, pieces_of, text_of}
-pub use Rattle.ubi_laid.specs.Pieces.{LiesIn, built_piece, is_left_out, kept_piece, kept_pieces, laid_piece, laid_text, part_header, piece_text}
+pub use Rattle.ubi_laid.specs.Pieces.{LiesIn, built_piece, checked_header, is_left_out, kept_piece, kept_pieces, laid_piece, laid_text, part_header, piece_text}
 pub use Rattle.ubi_laid.specs.declared.part.Part.{Part}
+pub use Rattle.ubi_laid.specs.declared.pieces.Origin.{Origin}
 pub use Rattle.ubi_laid.specs.declared.pieces.Piece.{Piece}
 pub use Rattle.ubi_media.proofs.ByteLists.{bytes-append, bytes-blank, bytes-drop, bytes-take, bytes_each}
 pub use Rattle.ubi_media.proofs.Cases.{below_or_last, below_same_or_above, within_or_past, zero_or_more}
@@ -132,7 +133,7 @@ pub use Rattle.ubi_volume.specs.Means.{HoldContents, IsPiece, LebReads, Means, S
 pub use Rattle.ubi_volume.specs.Meant.{Fits, IsMeaning, IsVolume, KeepsNoBlank, Meant, VolumeMap, pieces, records_of}
 pub use Rattle.ubi_volume.specs.Places.{ArePlacesError, case_of}
 pub use Rattle.ubi_volume.specs.Survey.{IsSurvey, IsSurveyOf, Seen, TellsCase}
-pub use Rattle.ubi_volume.specs.Wrote.{All, First, IsWroteError, NotAll, Wanted, Wrote}
+pub use Rattle.ubi_volume.specs.Wrote.{First, IsWroteError, NotAll, Wanted, Wrote}
 pub use Rattle.ubi_volume.specs.declared.attached.BlockState.{BlockState}
 pub use Rattle.ubi_volume.specs.declared.content.Content.{Content}
 pub use Rattle.ubi_volume.specs.declared.content.Volume.{Volume}
@@ -163,7 +164,7 @@ pub use Rattle.ubi_change.specs.Sites.{BothFit, FitsIn, copy_on, is_sole_on, lay
 pub use Rattle.ubi_change.specs.Steps.{after_text, block_after, block_cut, block_step, blocks_after, step_done, target}
 pub use Rattle.ubi_change.specs.Takeable.{able, ec_at, is_clean, is_sole_carrier, is_takeable, is_unused, is_worn, stays, takeable}
 pub use Rattle.ubi_change.specs.Tears.{IsHarmless, MayBeHarmed, MayBeLeft, NoChance, OnlyClears, SurvivesHarm, SurvivesTears, TearsCover}
-pub use Rattle.ubi_change.specs.UpdatePlan.{FitsUpdate, IsBeside, IsPlanOf, contents_after_update, copy_steps, groups_from, header_at, in_order, lay_steps, plan_groups, table_groups}
+pub use Rattle.ubi_change.specs.UpdatePlan.{FitsUpdate, IsBeside, IsLaidFrom, IsOutline, IsPlanOf, contents_after_update, copy_steps, groups_from, header_at, in_order, lay_steps, plan_groups, table_groups}
 pub use Rattle.ubi_change.specs.UpdatePlanned.{IsUpdateCause, IsUpdateError, IsUpdateFor, StopsIfRenames}
 pub use Rattle.ubi_change.specs.UpdateRefused.{IsRename, RecordsStand, UpdateStands, asked_records, update_rank}
 pub use Rattle.ubi_change.specs.Weak.{is_weak, is_whole, pages_needed, pages_of, torn, weak_pages}
@@ -193,6 +194,7 @@ pub use Rattle.ubi_change.specs.inner.Judging.{IsFirstJudged, IsJudged, IsMade, 
 pub use Rattle.ubi_change.specs.inner.Known.{AreWholes, IsKnown, is_whole_case}
 pub use Rattle.ubi_change.specs.inner.Laying.{IsContentsError, IsPartReadable, IsPartUnread}
 pub use Rattle.ubi_change.specs.inner.Making.{AreSites, AreStepsOf, FitsPrepared, IsPrepared, IsSitesRefusal, IsTarget, IsTooFew, IsUnplanned, change_error, change_needs, image_causes, own_causes, shown, steps_on, target_header}
+pub use Rattle.ubi_change.specs.inner.Outline.{AreNumbered, lay_lines, page_lines, release_lines, renew_lines}
 pub use Rattle.ubi_change.specs.inner.Ready.{IsReady, IsSitesError, IsUnready}
 pub use Rattle.ubi_change.specs.inner.Renaming.{AreHolders, AreHoldersOf, rename_cause, rename_error}
 pub use Rattle.ubi_change.specs.inner.Sites.{IsSiteAt, ready_on, site_at}

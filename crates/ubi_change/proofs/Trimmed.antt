@@ -44,7 +44,7 @@ module _ (s : Sizes) (g : IsGeometry s) (text : List ℕ) (few : length text ≤
       let l = long in
       omega arith
 
-  length-trimmed : length (trimmed s text) ≡ needed
+  pub length-trimmed : length (trimmed s text) ≡ needed
   length-trimmed = length-take-le needed whole (let l = long in let k = below in omega arith)
 
   pub trimmed_paged : length (trimmed s text) % s.page ≡ 0

@@ -1,5 +1,6 @@
 -- What is written of an image after the steps, eraseblock by eraseblock.
-use Rattle.ubi_change.proofs.Prelude.{◌≡◌, ℕ, ◌+◌, ◌<◌, List, [], ◌∷◌, ◌++◌, append-nil, length, take, drop, slice_range, ap, sym, ◌∙◌, arith, length-set, Option, fold, concat, take_all, take_more, concat-append, Sizes, block, Agreed, IsSource, Source, blocks_in, blocks_of, StreamError, count_blocks, All, First, IsWroteError, NotAll, Wanted, Wrote, Appends-nil, AllWithin, refl, part_is, error_where, wrote_where, Splits, error_behind, error_front, wrote_as, wrote_more, wrote_none, blocks_after, after_text, step_done, target, block_after, block_cut, block_text, front_text, Step}
+use Rattle.ubi_change.proofs.Prelude.{◌≡◌, ℕ, ◌+◌, ◌<◌, List, [], ◌∷◌, ◌++◌, append-nil, length, take, drop, slice_range, ap, sym, ◌∙◌, arith, length-set, Option, fold, concat, take_all, take_more, concat-append, Sizes, block, Agreed, IsSource, Source, blocks_in, blocks_of, StreamError, count_blocks, First, IsWroteError, NotAll, Wanted, Wrote, Appends-nil, AllWithin, refl, part_is, error_where, wrote_where, Splits, error_behind, error_front, wrote_as, wrote_more, wrote_none, blocks_after, after_text, step_done, target, block_after, block_cut, block_text, front_text, Step}
+use Rattle.ubi_volume.specs.Wrote.{All}
 use Rattle.std.proofs.Common.{take-append-drop}
 use Rattle.ubi_change.proofs.OnBlock.{block_done}
 use Rattle.ubi_change.proofs.CutBlocks.{cut_sized}

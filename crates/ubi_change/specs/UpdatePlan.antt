@@ -1,5 +1,5 @@
 -- The groups of steps of a plan of edits: one for each LEB that is written, and one for each copy of the volume table.
-use Rattle.std.specs.Prelude.{◌≡◌, ℕ, ◌+◌, ◌/◌, ◌%◌, ◌^◌, ◌<◌, ◌≤◌, ◌==◌, All, Bool, count_by, false, List, [], ◌∷◌, flat_map, length, Result, Err, Some, slice_get}
+use Rattle.std.specs.Prelude.{◌≡◌, ℕ, ◌+◌, ◌/◌, ◌%◌, ◌^◌, ◌<◌, ◌≤◌, ◌==◌, All, Bool, count_by, false, List, [], ◌∷◌, flat_map, length, map, Result, Err, Some, slice_get}
 use Rattle.std.specs.List.{AllByRecursion}
 use Rattle.ubi_media.specs.Fields.{AreBytes}
 use Rattle.ubi_media.specs.Geometry.{IsGeometry, Sizes, leb_size}
@@ -11,7 +11,8 @@ use Rattle.ubi_scan.specs.Source.{Source, blocks_in, failed}
 use Rattle.ubi_laid.specs.Pieces.{LiesIn, checked_header}
 use Rattle.ubi_laid.specs.declared.pieces.Piece.{Piece}
 use Rattle.ubi_change.specs.CommitPlan.{trimmed}
-use Rattle.ubi_change.specs.Laying.{IsReadOfPiece, piece_bytes}
+use Rattle.ubi_change.specs.Laying.{IsReadOfPiece, all_layings, piece_bytes}
+use Rattle.ubi_change.specs.Pages.{line_of}
 use Rattle.ubi_change.specs.RenamePlan.{layout_header}
 use Rattle.ubi_change.specs.Sites.{BothFit, FitsIn, copy_on, lay_on}
 use Rattle.ubi_change.specs.declared.copies.Holders.{Holders}
@@ -75,6 +76,14 @@ pub record FitsUpdate (s : Sizes) (size : ℕ) (p : UpdatePlan) : Type 0 where
   pub fit : length p.pages.items ≤ leb_size s
   pub bytes : AreBytes p.pages.items
   pub few : p.surveyed.scan.top_sqnum + (length p.layings.items + 2) ≤ 0xFFFFFFFFFFFFFFFF
+
+-- of each volume that a plan writes it has what there is to be written, if the source of contents holds these bytes
+abbrev pub IsLaidFrom : Sizes → List ℕ → UpdatePlan → Type 0
+IsLaidFrom s contents p = p.layings.items ≡ all_layings s contents p.parts.items
+
+-- these are the steps of the k-th group without the bytes that they program, if the source of contents holds these bytes
+abbrev pub IsOutline : Sizes → List ℕ → UpdatePlan → ℕ → List Step → Type 0
+IsOutline s contents p k steps = (group : List Step) × (slice_get (plan_groups s p contents) k ≡ Some group) × (steps ≡ map line_of group)
 
 -- a source has whole eraseblocks, as many as a plan knows of
 pub record IsPlanOf (s : Sizes) (k : Source) (p : UpdatePlan) : Type 0 where

@@ -10,3 +10,4 @@ pub mod Laying
 pub mod Known
 pub mod Ready
 pub mod Updating
+pub mod Outline

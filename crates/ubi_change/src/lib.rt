@@ -43,6 +43,7 @@ mod judging;
 mod known;
 pub mod laws;
 mod laying;
+mod outline;
 mod pages;
 mod placing;
 mod plan_steps;

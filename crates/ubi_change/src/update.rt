@@ -1,13 +1,12 @@
 //! The plan of edits, and its steps.
 
-ghost use Rattle.std.specs.Prelude.{◌≡◌, ℕ, ◌+◌, ◌<◌, Bool, IfErr, IfOk, List, Some, length, slice_get};
-ghost use Rattle.ubi_change.specs.Avoided.{AllBeside};
+ghost use Rattle.std.specs.Prelude.{◌≡◌, ℕ, ◌+◌, ◌<◌, IfErr, IfOk, List, Some, length, slice_get};
 ghost use Rattle.ubi_change.specs.Fitting.{AllWithin};
 ghost use Rattle.ubi_change.specs.Laying.{after_contents};
 ghost use Rattle.ubi_change.specs.UpdatePlan.{copy_steps, in_order, leb_count, plan_groups};
 ghost use Rattle.ubi_change.specs.declared.sites.Site.{Site};
 ghost use Rattle.ubi_change.specs.Sites.{FitsIn};
-ghost use Rattle.ubi_change.specs.UpdatePlan.{FitsUpdate, IsBeside, IsGroupError};
+ghost use Rattle.ubi_change.specs.UpdatePlan.{FitsUpdate, IsGroupError};
 ghost use Rattle.ubi_change.specs.inner.Updating.{listed_in};
 ghost use Rattle.ubi_scan.specs.Source.{Narrows, WhereHeld};
 
@@ -63,7 +62,6 @@ fn lay_group<T: BlockSource>(
     ensures narrows { Narrows (T.agrees contents.old) (T.agrees contents.new) }
     ensures steps { IfOk result (λ steps. WhereHeld (T.agrees contents.new) (λ bytes. slice_get (plan_groups geometry.now plan.now bytes) k ≡ Some steps.items)) }
     ensures within { IfOk result (λ steps. AllWithin geometry.now (length plan.now.surveyed.states) steps.items) }
-    ensures beside { IfOk result (λ steps. (marks : List Bool) → IsBeside marks plan.now → AllBeside marks steps.items) }
     ensures refused { IfErr result (IsGroupError geometry.now plan.now k (T.failed_at contents.new)) }
 {
     let scan = plan.surveyed.scan();
@@ -191,7 +189,6 @@ impl UpdatePlan {
         ensures narrows { Narrows (T.agrees contents.old) (T.agrees contents.new) }
         ensures steps { IfOk result (λ steps. WhereHeld (T.agrees contents.new) (λ bytes. slice_get (plan_groups geometry.now self.now bytes) k ≡ Some steps.items)) }
         ensures within { IfOk result (λ steps. AllWithin geometry.now (length self.now.surveyed.states) steps.items) }
-        ensures beside { IfOk result (λ steps. (marks : List Bool) → IsBeside marks self.now → AllBeside marks steps.items) }
         ensures refused { IfErr result (IsGroupError geometry.now self.now k (T.failed_at contents.new)) }
     {
         let written = self.layings.len();
@@ -222,7 +219,6 @@ impl UpdatePlan {
         ensures narrows { Narrows (T.agrees contents.old) (T.agrees contents.new) }
         ensures steps { IfOk result (λ steps. WhereHeld (T.agrees contents.new) (λ bytes. steps.items ≡ in_order (plan_groups geometry.now self.now bytes))) }
         ensures within { IfOk result (λ steps. AllWithin geometry.now (length self.now.surveyed.states) steps.items) }
-        ensures beside { IfOk result (λ steps. (marks : List Bool) → IsBeside marks self.now → AllBeside marks steps.items) }
         ensures refused { IfErr result (λ e. (k : ℕ) × IsGroupError geometry.now self.now k (T.failed_at contents.new) e) }
     {
         let mut steps = Vec::new(alloc);

@@ -5,9 +5,9 @@ ghost use Rattle.ubi_change.specs.EditsAsked.{first_beyond, is_beyond};
 ghost use Rattle.ubi_change.specs.UpdatePlan.{NamesUnread, after_update, contents_after_update};
 ghost use Rattle.ubi_change.specs.UpdatePlanned.{IsPlannedUpdate, IsUpdateError, StopsIfRenames};
 ghost use Rattle.ubi_change.specs.inner.Making.{IsNoWrite};
-ghost use Rattle.ubi_change.specs.UpdatePlan.{FitsUpdate, IsBeside, IsPlanOf};
+ghost use Rattle.ubi_change.specs.UpdatePlan.{FitsUpdate, IsBeside, IsLaidFrom, IsPlanOf};
 ghost use Rattle.ubi_change.specs.inner.Updating.{IsBased, IsUnbased, update_error};
-ghost use Rattle.ubi_scan.specs.Source.{Narrows};
+ghost use Rattle.ubi_scan.specs.Source.{Narrows, WhereHeld};
 
 use crate::avoided::Avoided;
 use crate::edit::Edit;
@@ -124,6 +124,7 @@ pub fn plan_update_from<S: BlockSource, T: BlockSource>(
     ensures source { IfOk result (IsPlanOf geometry.now (S.known source.old)) }
     ensures fits { IfOk result (FitsUpdate geometry.now (T.known contents.old).size) }
     ensures beside { IfOk result (IsBeside avoided.now.marks) }
+    ensures laid { IfOk result (λ plan. WhereHeld (T.agrees contents.new) (λ bytes. IsLaidFrom geometry.now bytes plan)) }
     ensures plan { IfOk result (IsPlannedUpdate geometry.now (S.agrees source.new) (T.agrees contents.new) avoided.now edits.now) }
     ensures refused { IfErr result (IsUpdateError geometry.now (S.known source.old) (S.agrees source.new) (T.known contents.old).size (T.failed_at contents.new) (T.agrees contents.new) avoided.now edits.now) }
     ensures named { IfErr result (NamesUnread geometry.now (S.failed_at source.new)) }

@@ -1,16 +1,16 @@
 -- All steps of a plan, for what the source of contents may hold.
-use Rattle.ubi_writing.proofs.Prelude.{IsHeldPlan, IsReadyFor, Made, Option, ap₂, made_steps, pages_made, programmed, steps_done, take, ◌≡◌, ◌∙◌, ℕ, List, length, ap, subst, Sizes, image_of, Agreed, Source, WhereHeld, AllWithin, Avoided, Step, AllBeside, all_layings, asked_parts, Laying, Part, of_blocks, IsBeside, IsPlanOf, in_order, plan_groups, ArePlannedSteps, IsPlannedUpdate, IsUpdateFor, Edit, UpdatePlan, AreLinesOf, all_replaced, written_lines}
+use Rattle.ubi_writing.proofs.Prelude.{IsHeldPlan, IsReadyFor, Made, Option, ap₂, made_steps, pages_made, programmed, steps_done, take, ◌≡◌, ◌∙◌, ℕ, List, length, ap, subst, Sizes, image_of, Agreed, Source, WhereHeld, AllWithin, Avoided, Step, AllBeside, all_layings, asked_parts, Laying, Part, of_blocks, IsPlanOf, in_order, plan_groups, ArePlannedSteps, IsPlannedUpdate, IsUpdateFor, Edit, UpdatePlan, AreLinesOf, all_replaced, written_lines}
 use Rattle.ubi_writing.specs.declared.pages.Made.TheVariants as made
 
 module _ (s : Sizes) (k : Source) (agrees agreed : Agreed) (av : Avoided) (contents : List ℕ) (es : List Edit) (p : UpdatePlan)
     (planned : IsPlannedUpdate s agrees agreed av es p) (holds : agreed contents) where
-  pub steps_planned : IsPlanOf s k p → IsBeside av.marks p → (steps : List Step) → steps ≡ in_order (plan_groups s p contents)
-      → AllWithin s (length p.surveyed.states) steps → (IsBeside av.marks p → AllBeside av.marks steps)
+  pub steps_planned : IsPlanOf s k p → (steps : List Step) → steps ≡ in_order (plan_groups s p contents)
+      → AllWithin s (length p.surveyed.states) steps → AllBeside av.marks steps
       → ArePlannedSteps s k agrees av contents es steps
-  steps_planned of apart steps are within beside = record {
+  steps_planned of steps are within beside = record {
     whole = of.whole;
     within = subst (λ n. AllWithin s n steps) of.count within;
-    beside = beside apart;
+    beside = beside;
     held = λ bytes agree.
         (let is : IsUpdateFor (image_of s bytes) av contents es p = planned bytes agree contents holds in
         record {

@@ -4,7 +4,7 @@ pub use Rattle.std.proofs.KnownBytes.{Appends-trans, Keeps-refl}
 pub use Rattle.std.proofs.Math.Nat.{mul-le-mul_left}
 pub use Rattle.std.proofs.lemmas.Bool.Decides.{nat_tests}
 pub use Rattle.std.proofs.lemmas.Grind.{flat_map-append}
-pub use Rattle.std.proofs.lemmas.List.{at_drop_more, length-append, length-take-le, map-append, take_all, take_more}
+pub use Rattle.std.proofs.lemmas.List.{at_drop_more, length-append, length-map, length-take-le, map-append, take_all, take_more}
 pub use Rattle.std.proofs.lemmas.List.Elements.{All-cons, All-contains_itself, All-head, All-map, All-nil, All-tail, filter_map-append}
 pub use Rattle.std.proofs.lemmas.List.Folds.{list_all_more}
 pub use Rattle.std.proofs.lemmas.List.Sums.{fold-append, fold_more, sum_by-append}
@@ -23,9 +23,10 @@ pub use Rattle.std.specs.Result.{result_map_both}
 pub use Rattle.std.specs.declared.alloc.AllocError.{AllocError}
 pub use Rattle.std.specs.declared.alloc.Global.{Global}
 pub use Rattle.std.specs.declared.vec.Vec.{Vec}
-pub use Rattle.ubi_change.proofs.AllGroups.{all_beside_append, all_within_append, groups_count, in_order_more}
+pub use Rattle.ubi_change.proofs.AllGroups.{groups_count, in_order_more}
 pub use Rattle.ubi_change.proofs.CutBlocks.{first_of_both, first_within}
 pub use Rattle.ubi_change.proofs.CutSizes.{blocks-cut, length-cut}
+pub use Rattle.ubi_change.proofs.PlanGroups.{groups_beside, groups_within}
 pub use Rattle.ubi_change.specs.Avoided.{AllBeside, Avoided, avoiding, nothing}
 pub use Rattle.ubi_change.specs.CommitPlanned.{SurvivesCommit}
 pub use Rattle.ubi_change.specs.Cuts.{changed, turn}
@@ -33,14 +34,14 @@ pub use Rattle.ubi_change.specs.Edited.{edited_in}
 pub use Rattle.ubi_change.specs.EditsAsked.{all_asked, first_beyond}
 pub use Rattle.ubi_change.specs.Fitting.{AllWithin}
 pub use Rattle.ubi_change.specs.Laying.{StaysOpen, after_contents, all_layings}
-pub use Rattle.ubi_change.specs.Pages.{programmed}
+pub use Rattle.ubi_change.specs.Pages.{line_of, programmed}
 pub use Rattle.ubi_change.specs.Planned.{IsChangeError, PlanFactsOfSource}
 pub use Rattle.ubi_change.specs.RenamePlan.{renamed_pages, table_pages}
 pub use Rattle.ubi_change.specs.RenamePlanned.{IsPlannedRename, IsRenameError}
 pub use Rattle.ubi_change.specs.Renamed.{renamed}
 pub use Rattle.ubi_change.specs.Steps.{after_text, blocks_after, step_done}
-pub use Rattle.ubi_change.specs.UpdatePlan.{FitsUpdate, IsBeside, IsPlanOf, in_order, plan_groups}
-pub use Rattle.ubi_change.specs.UpdatePlanned.{ArePlannedSteps, AreUpdateSteps, IsPlannedUpdate, IsUpdateCause, IsUpdateError, IsUpdateErrorIn, IsUpdateFor}
+pub use Rattle.ubi_change.specs.UpdatePlan.{IsLaidFrom, IsPlanOf, in_order, plan_groups}
+pub use Rattle.ubi_change.specs.UpdatePlanned.{ArePlannedSteps, AreUpdateSteps, IsAskedAt, IsPlannedUpdate, IsUpdateCause, IsUpdateError, IsUpdateErrorIn, IsUpdateFor}
 pub use Rattle.ubi_change.specs.UpdateRefused.{asked_parts}
 pub use Rattle.ubi_change.specs.declared.edit.Edit.{Edit}
 pub use Rattle.ubi_change.specs.declared.errors.ContentsError.{ContentsError}
@@ -145,7 +146,7 @@ pub use Rattle.ubi_writing.specs.declared.unpack.VolumeFile.{VolumeFile}
 pub use Rattle.ubi_writing.specs.declared.volume_key.VolumeKey.{VolumeKey}
 pub use Rattle.ubi_writing.specs.declared.writers.Writing.{Writing}
 pub use Rattle.ubi_writing.specs.inner.Built.{AreAnswers, IsNotBegun, IsToldOf}
-pub use Rattle.ubi_writing.specs.inner.Editing.{AreCounted, AreNoEdits, IsHeldPlan, IsUnheld}
+pub use Rattle.ubi_writing.specs.inner.Editing.{AreCounted, AreNoEdits, IsHeldPlan}
 pub use Rattle.ubi_writing.specs.inner.Extracting.{HasFirst, IsExtractFault}
 pub use Rattle.ubi_writing.specs.inner.Filling.{IsContentsFile, IsFilledBy, bytes_in}
 pub use Rattle.ubi_writing.specs.inner.Folder.{AreFilesOf, Ends, IsFileOf, config_in}

@@ -1,5 +1,5 @@
 -- What an update of a source answers, for what the source of contents may hold: what its file means.
-use Rattle.ubi_writing.proofs.Prelude.{IsUnheld, IsUpdateCause, IsUpdateError, IsWholeSize, UpdateRefusal, ap, first_beyond, length, ◌∙◌, not_both, ◌≡◌, ℕ, ◌++◌, inl, inr, Global, Keeps-refl, List, Vec, sym, take, subst, IfErr, IfOk, Option, Result, Ok, Err, Sizes, image_of, Agreed, Narrows, Source, WhereHeld, All, Wrote, Avoided, programmed, Step, turn, Gives, says, AreCut, IsWriteFault, First, NotAll, after_text, same_Some, plan_lines, steps_done, Outcome, ToolError, avoiding, SurvivesCommit, edited_in, all_asked, table_pages, ArePlannedSteps, AreUpdateSteps, IsUpdateErrorIn, UpdateError, AreNoEdits, Edit, of_blocks, records_of, AreEditsOf, AreLinesOf, ArePlanned, CutIsEdited, IsUpdateFault, UpdatesFrom, Ask, HasUpdate}
+use Rattle.ubi_writing.proofs.Prelude.{IsAskedAt, IsUpdateCause, IsUpdateError, IsWholeSize, UpdateRefusal, ap, first_beyond, length, ◌∙◌, not_both, ◌≡◌, ℕ, ◌++◌, inl, inr, Global, Keeps-refl, List, Vec, sym, take, subst, IfErr, IfOk, Option, Result, Ok, Err, Sizes, image_of, Agreed, Narrows, Source, WhereHeld, All, Wrote, Avoided, programmed, Step, turn, Gives, says, AreCut, IsWriteFault, First, NotAll, after_text, same_Some, plan_lines, steps_done, Outcome, ToolError, avoiding, SurvivesCommit, edited_in, all_asked, table_pages, ArePlannedSteps, AreUpdateSteps, IsUpdateErrorIn, UpdateError, AreNoEdits, Edit, of_blocks, records_of, AreEditsOf, AreLinesOf, ArePlanned, CutIsEdited, IsUpdateFault, UpdatesFrom, Ask, HasUpdate}
 use Rattle.ubi_writing.specs.inner.Editing.{IsToldOf}
 use Rattle.ubi_writing.specs.declared.update.NoEdits.TheVariants as no_edits
 use Rattle.ubi_writing.specs.Update as update
@@ -64,23 +64,12 @@ module _ (av : Avoided) (asks : List Ask) (contents : List ℕ) (stop : Option �
   no_edits_told k agrees pages old o text (inr none) gives = update.unasked_from text.items none gives (Keeps-refl _)
 
   -- where contents can't be read
-  pub unread_told : (k : Source) (agrees : Agreed) (pages : List ℕ) (old : Option (List ℕ)) (i : ℕ) (r : Result Outcome ToolError)
-      → IfOk r (IsToldOf asks (error.Contents i)) → IfOk r (UpdatesFrom av asks contents stop s k agrees pages old old)
-  unread_told k agrees pages old i (Ok o) (line, is, gives) =
-      update.unread_from i (subst (λ (xs : List ℕ). Gives o (says xs 1)) (sym (same_Some _ line is)) gives) (Keeps-refl _)
-  unread_told k agrees pages old i (Err x) h = tt
-
-  -- where their plan isn't held
-  pub unheld_told : (k : Source) (agrees : Agreed) (pages : List ℕ) (old : Option (List ℕ)) (e : UpdateError) → IsUnheld e
-      → (r : Result Outcome ToolError) → IfOk r (IsToldOf asks e) → IfOk r (UpdatesFrom av asks contents stop s k agrees pages old old)
-  unheld_told k agrees pages old (error.Contents i) un r h = unread_told k agrees pages old i r h
-  unheld_told k agrees pages old (error.Refused c) un (Ok o) h =
-      let told : IsToldOf asks (error.Refused refusal.Memory) o = subst (λ (d : UpdateRefusal). IsToldOf asks (error.Refused d) o) un h in
-      absurd (let bad = told.1 in cc)
-  unheld_told k agrees pages old (error.Refused c) un (Err x) h = tt
-  unheld_told k agrees pages old (error.Read p) un r h = absurd un
-  unheld_told k agrees pages old (error.NotBlank p) un r h = absurd un
-  unheld_told k agrees pages old (error.Beyond i) un r h = absurd un
+  pub unread_told : (k : Source) (agrees : Agreed) (pages : List ℕ) (old : Option (List ℕ)) (es : List Edit) (i at : ℕ)
+      → WhereHeld agrees (λ bytes. AreEditsOf (image_of s bytes) asks es) → WhereHeld agrees (λ bytes. IsAskedAt (image_of s bytes) es i at)
+      → (r : Result Outcome ToolError) → IfOk r (IsToldOf asks (error.Contents i)) → IfOk r (UpdatesFrom av asks contents stop s k agrees pages old old)
+  unread_told k agrees pages old es i at are asked (Ok o) (line, is, gives) =
+      update.unread_from es i at are asked (subst (λ (xs : List ℕ). Gives o (says xs 1)) (sym (same_Some _ line is)) gives) (Keeps-refl _)
+  unread_told k agrees pages old es i at are asked (Err x) h = tt
 
   -- and where they aren't planned
   pub unplanned_told : (k : Source) (agrees : Agreed) (pages : List ℕ) (old : Option (List ℕ)) (es : List Edit) (e : UpdateError)
@@ -116,7 +105,7 @@ module _ (av : Avoided) (asks : List Ask) (contents : List ℕ) (stop : Option �
     pub refused_told : (pages : List ℕ) (old : Option (List ℕ)) (e : UpdateError) → WhereHeld agrees (λ bytes. AreEditsOf (image_of s bytes) asks es)
         → IsUpdateError s k agrees size at agreed av es e
         → (r : Result Outcome ToolError) → IfOk r (IsToldOf asks e) → IfOk r (UpdatesFrom av asks contents stop s k agrees pages old old)
-    refused_told pages old (error.Contents i) are h r told = unread_told k agrees pages old i r told
+    refused_told pages old (error.Contents i) are h r told = unread_told k agrees pages old es i at are h r told
     refused_told pages old (error.Refused c) are h r told = unplanned_told k agrees pages old es (error.Refused c) are (refused_in c h) r told
     refused_told pages old (error.Read p) are h r told = unplanned_told k agrees pages old es (error.Read p) are h r told
     refused_told pages old (error.NotBlank p) are h r told = unplanned_told k agrees pages old es (error.NotBlank p) are h r told
@@ -132,5 +121,5 @@ module _ (av : Avoided) (asks : List Ask) (contents : List ℕ) (stop : Option �
   edits_done k agrees pages old now (Ok o) (update.unasked_from line none said kept) = λ zero. absurd (not_both o zero said.status)
   edits_done k agrees pages old now (Ok o) (update.unplanned_from es e line are cause is said kept) =
       λ zero. absurd (not_both o zero said.status)
-  edits_done k agrees pages old now (Ok o) (update.unread_from i said kept) = λ zero. absurd (not_both o zero said.status)
+  edits_done k agrees pages old now (Ok o) (update.unread_from es i at are asked said kept) = λ zero. absurd (not_both o zero said.status)
   edits_done k agrees pages old now (Err e) h = tt

@@ -12,7 +12,7 @@ use Rattle.ubi_change.specs.ErrorTexts.{edit_fault_text, update_error_text, upda
 use Rattle.ubi_change.specs.Laying.{all_layings}
 use Rattle.ubi_change.specs.Pages.{programmed}
 use Rattle.ubi_change.specs.RenamePlan.{table_pages}
-use Rattle.ubi_change.specs.UpdatePlanned.{ArePlannedSteps, IsUpdateErrorIn}
+use Rattle.ubi_change.specs.UpdatePlanned.{ArePlannedSteps, IsAskedAt, IsUpdateErrorIn}
 use Rattle.ubi_change.specs.UpdateRefused.{asked_parts}
 use Rattle.ubi_change.specs.declared.edit.Edit.{Edit}
 use Rattle.ubi_change.specs.declared.edit.Edit.TheVariants as edit
@@ -169,7 +169,9 @@ module _ (av : Avoided) (asks : List Ask) (contents : List ℕ) (stop : Option �
     unplanned_from : {o : Outcome} (es : List Edit) (e : UpdateError) (line : List ℕ)
         → WhereHeld agrees (λ bytes. AreEditsOf (image_of s bytes) asks es) → IsUpdateErrorIn s k agrees av contents es e
         → error_line asks e ≡ Some line → Gives o (says line 1) → Keeps old now → UpdatesFrom pages old now o
-    unread_from : {o : Outcome} (i : ℕ) → Gives o (says (unread_contents_line asks i) 1) → Keeps old now → UpdatesFrom pages old now o
+    unread_from : {o : Outcome} (es : List Edit) (i at : ℕ) → WhereHeld agrees (λ bytes. AreEditsOf (image_of s bytes) asks es)
+        → WhereHeld agrees (λ bytes. IsAskedAt (image_of s bytes) es i at) → Gives o (says (unread_contents_line asks i) 1) → Keeps old now
+        → UpdatesFrom pages old now o
 
   -- why there is no answer: memory ran out, and the writer received nothing; or a read or a write failed, and it received
   -- the first of what the plan leaves

@@ -589,7 +589,7 @@ fn remark_contents<D: Disk + Eprint, F: PlacedFile + Drop>(
 }
 
 /// Edits whole volumes of one file in one commit, and writes the result to another. What is to be their contents is read from further files,
-/// a logical eraseblock at a time: once for the plan, once for its lines, once for the image, and once for the pages.
+/// a logical eraseblock at a time: once for the plan, once for the image, and once for the pages.
 pub fn update_file<D: Disk + Eprint>(
     disk: &mut D,
     alloc: Global,

@@ -1,12 +1,12 @@
 //! Edits of whole volumes that are asked for by name: their plan, and the image after its first steps.
 
 ghost use Rattle.std.specs.List.{flat_map};
-ghost use Rattle.std.specs.Prelude.{◌≡◌, ◌<◌, ◌+◌, ◌++◌, ◌∷◌, [], IfErr, IfOk, IfSome, List, OnOk, Some, codes, length, slice_get};
+ghost use Rattle.std.specs.Prelude.{◌≡◌, ◌<◌, ◌+◌, ◌++◌, ◌∷◌, [], ℕ, IfErr, IfOk, IfSome, List, OnOk, Some, codes, length, slice_get};
 ghost use Rattle.ubi_scan.specs.Image.{IsWholeSize, image_of};
 ghost use Rattle.ubi_scan.specs.Source.{Narrows, WhereHeld};
 ghost use Rattle.ubi_change.specs.Laying.{StaysOpen};
 ghost use Rattle.ubi_change.specs.Steps.{after_text};
-ghost use Rattle.ubi_change.specs.UpdatePlan.{FitsUpdate, plan_groups};
+ghost use Rattle.ubi_change.specs.UpdatePlan.{FitsUpdate, IsLaidFrom, in_order, plan_groups};
 ghost use Rattle.ubi_change.specs.declared.step.Step.{Step};
 ghost use Rattle.ubi_volume.specs.Wrote.{All, Wrote};
 ghost use Rattle.ubi_files.specs.Answer.{Gives, says};
@@ -15,7 +15,7 @@ ghost use Rattle.ubi_files.specs.Lines.{refused_line};
 ghost use Rattle.ubi_writing.specs.Pages.{IsReadyFor, IsSound, made_steps, pages_made};
 ghost use Rattle.ubi_writing.specs.Plan.{IsWriteFault, step_line, steps_done};
 ghost use Rattle.ubi_writing.specs.Update.{AreEditsOf, IsUpdateFault, UpdatesFrom, all_replaced, asked_words, contents_path, no_edit_line, replaced_by, replaced_words, unfit_text, unread_contents_line, update_line, volume_line, written_lines};
-ghost use Rattle.ubi_writing.specs.inner.Editing.{AreCounted, AreNoEdits, IsFaultOf, IsHeldPlan, IsToldOf, IsUnheld, IsUnreadImage, WritesNothing, after_edits};
+ghost use Rattle.ubi_writing.specs.inner.Editing.{AreCounted, AreNoEdits, IsFaultOf, IsHeldPlan, IsToldOf, IsUnreadImage, WritesNothing, after_edits};
 ghost use Rattle.ubi_files.specs.declared.outcome.ToolError.{ToolError};
 ghost use Rattle.ubi_writing.specs.declared.asks.Ask.{Ask};
 ghost use Rattle.ubi_writing.specs.declared.pages.Made.{Made};
@@ -28,8 +28,7 @@ use std::alloc::{AllocError, Global};
 use std::fmt;
 use std::io::Write;
 use ubi_change::{
-    Avoided, ContentsError, Edit, Step, UpdateError, UpdatePlan, UpdateRefusal, plan_update_from,
-    write_after,
+    Avoided, Edit, UpdateError, UpdatePlan, UpdateRefusal, plan_update_from, write_after,
 };
 use ubi_dumps::put_shown;
 use ubi_files::{
@@ -318,28 +317,25 @@ fn unplanned(alloc: Global, asks: &[Ask<'_>], error: UpdateError) -> Result<Outc
     }
 }
 
-/// The lines of steps, and how many steps there are, in all and in each group.
+/// How many steps a plan of edits has, in all and in each group.
 #[derive(Drop)]
 struct Counted {
-    lines: Vec<u8>,
     counts: Vec<usize>,
     total: usize,
 }
 
 impl Counted {
-    /// Adds a group of steps.
+    /// Adds a group with so many steps.
     ///
     /// # Errors
     ///
     /// Memory ran out.
-    fn add(&mut self, group: &[Step]) -> Result<(), AllocError>
-        ensures lines { OnOk result (self.new.lines.items ≡ self.old.lines.items ++ flat_map step_line group.now) }
-        ensures counts { OnOk result (self.new.counts.items ≡ self.old.counts.items ++ (length group.now ∷ [])) }
-        ensures total { OnOk result (self.new.total ≡ self.old.total + length group.now) }
+    fn add(&mut self, count: usize) -> Result<(), AllocError>
+        ensures counts { OnOk result (self.new.counts.items ≡ self.old.counts.items ++ (count ∷ [])) }
+        ensures total { OnOk result (self.new.total ≡ self.old.total + count) }
     {
-        put_steps(&mut self.lines, group)?;
-        self.counts.push(group.len())?;
-        let Some(total) = self.total.checked_add(group.len()) else {
+        self.counts.push(count)?;
+        let Some(total) = self.total.checked_add(count) else {
             return Err(AllocError);
         };
         self.total = total;
@@ -347,36 +343,47 @@ impl Counted {
     }
 }
 
-/// Counts the steps of a plan. The contents are read again; the buffer has the size of an eraseblock.
+/// Counts the steps of a plan.
 ///
 /// # Errors
 ///
-/// `Read` if a read failed. `Memory` if memory ran out.
-fn count_steps<T: BlockSource>(
-    alloc: Global,
-    geometry: &Geometry,
-    plan: &UpdatePlan,
-    contents: &mut T,
-    buffer: &mut [u8],
-) -> Result<Counted, ContentsError>
-    requires fits { FitsUpdate geometry.now (T.known contents.old).size plan.now }
-    requires room { length buffer.old ≡ geometry.now.peb_size }
-    ensures contents { StaysOpen (T.known contents.old) (T.known contents.new) }
-    ensures narrows { Narrows (T.agrees contents.old) (T.agrees contents.new) }
-    ensures counted { IfOk result (λ counted. WhereHeld (T.agrees contents.new) (λ bytes. AreCounted geometry.now plan.now (plan_groups geometry.now plan.now bytes) counted)) }
+/// Memory ran out.
+fn count_steps(alloc: Global, geometry: &Geometry, plan: &UpdatePlan) -> Result<Counted, AllocError>
+    requires { (n : ℕ) × FitsUpdate geometry.now n plan.now }
+    ensures counted { IfOk result (λ counted. (bytes : List ℕ) → IsLaidFrom geometry.now bytes plan.now → AreCounted (plan_groups geometry.now plan.now bytes) counted) }
     ensures groups { IfOk result (λ counted. length counted.counts.items ≡ length plan.now.layings.items + 2) }
-    ensures room { length buffer.new ≡ geometry.now.peb_size }
 {
     let mut counted = Counted {
-        lines: Vec::new(alloc),
         counts: Vec::new(alloc),
         total: 0,
     };
     for k in 0..plan.group_count() {
-        let group = plan.group(alloc, geometry, k, contents, buffer)?;
-        counted.add(group.as_slice())?;
+        let group = plan.outline(alloc, geometry, k)?;
+        counted.add(group.len())?;
     }
     Ok(counted)
+}
+
+/// Adds the lines of the steps of a plan.
+///
+/// # Errors
+///
+/// Memory ran out.
+fn put_plan(
+    alloc: Global,
+    text: &mut Vec<u8>,
+    geometry: &Geometry,
+    plan: &UpdatePlan,
+) -> Result<(), AllocError>
+    requires { (n : ℕ) × FitsUpdate geometry.now n plan.now }
+    ensures { OnOk result ((bytes : List ℕ) → IsLaidFrom geometry.now bytes plan.now
+        → text.new.items ≡ text.old.items ++ flat_map step_line (in_order (plan_groups geometry.now plan.now bytes))) }
+{
+    for k in 0..plan.group_count() {
+        let group = plan.outline(alloc, geometry, k)?;
+        put_steps(text, group.as_slice())?;
+    }
+    Ok(())
 }
 
 /// How many of some steps are done: as many as are asked for, or all if there are no more, or if no number is given.
@@ -389,19 +396,11 @@ fn done_of(total: usize, stop: Option<u32>) -> usize
     }
 }
 
-/// The volume that is written which has a slot, counted from 0.
-fn place_of(plan: &UpdatePlan, id: u32) -> usize {
-    plan.parts()
-        .iter()
-        .position(|part| part.id == id)
-        .unwrap_or(0)
-}
-
 /// Makes the pages those of a plan whose first steps are carried out, and answers with the given lines and then those of all steps.
 ///
 /// # Errors
 ///
-/// `Contents` if a read of contents failed, or `Memory`.
+/// Memory ran out.
 fn hold_plan<T: BlockSource>(
     alloc: Global,
     geometry: &Geometry,
@@ -409,38 +408,21 @@ fn hold_plan<T: BlockSource>(
     lines: Vec<u8>,
     stop: Option<u32>,
     pages: &mut Pages<T>,
-) -> Result<Vec<u8>, UpdateError>
+) -> Result<Vec<u8>, AllocError>
     requires fits { FitsUpdate geometry.now (T.known pages.old.contents).size plan }
+    requires laid { WhereHeld (T.agrees pages.old.contents) (λ bytes. IsLaidFrom geometry.now bytes plan) }
     requires nothing { pages.old.made ≡ Made.Nothing }
-    ensures contents { StaysOpen (T.known pages.old.contents) (T.known pages.new.contents) }
-    ensures narrows { Narrows (T.agrees pages.old.contents) (T.agrees pages.new.contents) }
+    ensures contents { pages.new.contents ≡ pages.old.contents }
     ensures ready { OnOk result (IsReadyFor geometry.now (T.known pages.new.contents).size (T.agrees pages.new.contents) (length pages.new.buffer.items) pages.new.made) }
     ensures sound { IsSound (T.known pages.new.contents).size (T.agrees pages.new.contents) (length pages.new.buffer.items) pages.new.made }
     ensures held { IfOk result (λ text. IsHeldPlan geometry.now plan stop (T.agrees pages.new.contents) lines.items pages.new.made text.items) }
-    ensures refused { IfErr result IsUnheld }
 {
-    let mut buffer = Vec::from_elem(alloc, 0u8, geometry.peb_size() as usize)?;
-    let counted = count_steps(
-        alloc,
-        geometry,
-        &plan,
-        &mut pages.contents,
-        buffer.as_mut_slice(),
-    );
-    let Counted {
-        lines: more,
-        counts,
-        total,
-    } = match counted {
-        Ok(counted) => counted,
-        Err(ContentsError::Read(id)) => return Err(UpdateError::Contents(place_of(&plan, id))),
-        Err(ContentsError::Memory) => return Err(UpdateError::Refused(UpdateRefusal::Memory)),
-    };
+    let Counted { counts, total } = count_steps(alloc, geometry, &plan)?;
     let mut text = lines;
     put_number(&mut text, "steps ", total as u64)?;
     put_word(&mut text, "\n")?;
-    text.extend_from_slice(more.as_slice())?;
-    pages.buffer = buffer;
+    put_plan(alloc, &mut text, geometry, &plan)?;
+    pages.buffer = Vec::from_elem(alloc, 0u8, geometry.peb_size() as usize)?;
     pages.made = Made::Edits(MadeEdits {
         geometry: *geometry,
         plan,
@@ -490,7 +472,7 @@ fn write_planned<S: BlockSource, T: BlockSource, W: Write>(
 /// Plans edits of whole volumes of a source in one commit. The plan touches none of the eraseblocks that are to be avoided. It answers
 /// with a line for each volume that is written, and the lines of all steps; it writes the image after the first `stop` of them (after
 /// all, if there are no more or `stop` is left out), and makes `pages` the pages that these program. The contents are read from the source
-/// of the pages: once for the plan, once for the lines, and once for the image, an eraseblock at a time.
+/// of the pages: once for the plan, and once for the image, an eraseblock at a time.
 ///
 /// If nothing can be planned, it answers with the line of the first cause, and nothing is written. What is written is accepted as an
 /// image whatever `stop` is, and means the old, or what the edits make of it.
@@ -536,8 +518,6 @@ pub fn run_update_from<S: BlockSource, T: BlockSource, W: Write>(
         Err(error) => return unplanned(alloc, asks, error),
     };
     let lines = written_lines(alloc, &plan, edits)?;
-    match hold_plan(alloc, geometry, plan, lines, stop, pages) {
-        Ok(text) => write_planned(alloc, geometry, source, text, writer, pages),
-        Err(error) => unplanned(alloc, asks, error),
-    }
+    let text = hold_plan(alloc, geometry, plan, lines, stop, pages)?;
+    write_planned(alloc, geometry, source, text, writer, pages)
 }

@@ -1,14 +1,10 @@
 -- How an update comes to its edits and its plan.
-use Rattle.std.specs.Prelude.{◌≡◌, ◌⊎◌, ◌++◌, Bool, List, ℕ, Option, Result, Err, length, map}
-use Rattle.std.specs.List.{flat_map}
+use Rattle.std.specs.Prelude.{◌≡◌, ◌⊎◌, ◌++◌, List, ℕ, Option, Result, Err, length, map}
 use Rattle.ubi_media.specs.Geometry.{Sizes}
 use Rattle.ubi_media.specs.declared.refusal.Refusal.{Refusal}
 use Rattle.ubi_change.specs.declared.errors.UpdateError.{UpdateError}
 use Rattle.ubi_change.specs.declared.errors.UpdateError.TheVariants as error
-use Rattle.ubi_change.specs.declared.errors.UpdateRefusal.TheVariants as refusal
-use Rattle.ubi_change.specs.Fitting.{AllWithin}
-use Rattle.ubi_change.specs.Avoided.{AllBeside}
-use Rattle.ubi_change.specs.UpdatePlan.{IsBeside, in_order, plan_groups}
+use Rattle.ubi_change.specs.UpdatePlan.{in_order, plan_groups}
 use Rattle.ubi_change.specs.declared.step.Step.{Step}
 use Rattle.ubi_change.specs.declared.update.UpdatePlan.{UpdatePlan}
 use Rattle.ubi_scan.specs.Image.{image_of}
@@ -22,7 +18,7 @@ use Rattle.ubi_files.specs.declared.outcome.Outcome.{Outcome}
 use Rattle.ubi_files.specs.declared.outcome.ToolError.{ToolError}
 use Rattle.ubi_files.specs.declared.outcome.ToolError.TheVariants as tool
 use Rattle.ubi_writing.specs.Update.{IsNoEditOf, error_line}
-use Rattle.ubi_writing.specs.Plan.{plan_lines, step_line, steps_done}
+use Rattle.ubi_writing.specs.Plan.{plan_lines, steps_done}
 use Rattle.ubi_writing.specs.declared.asks.Ask.{Ask}
 use Rattle.ubi_writing.specs.declared.pages.Made.{Made}
 use Rattle.ubi_writing.specs.declared.pages.Made.TheVariants as made
@@ -67,14 +63,10 @@ abbrev pub IsFaultOf : UpdateError → ToolError → Type 0
 IsFaultOf (error.Read p) e = e ≡ tool.Read
 IsFaultOf _ e = e ≡ tool.Memory
 
--- the steps of groups of a plan, one after the other, were counted: these are their lines, how many there are in each group, and in all;
--- and each works within an eraseblock, and beside those that the plan doesn't work on
-pub record AreCounted (s : Sizes) (p : UpdatePlan) (groups : List (List Step)) (c : Counted) : Type 0 where
-  pub lines : c.lines.items ≡ flat_map step_line (in_order groups)
+-- the steps of groups, one after the other, were counted: how many there are in each group, and in all
+pub record AreCounted (groups : List (List Step)) (c : Counted) : Type 0 where
   pub counts : c.counts.items ≡ map length groups
   pub total : c.total ≡ length (in_order groups)
-  pub within : AllWithin s (length p.surveyed.states) (in_order groups)
-  pub beside : (marks : List Bool) → IsBeside marks p → AllBeside marks (in_order groups)
 
 -- the first steps of a plan are made when they are needed, and the lines of the plan follow other lines
 pub record IsHeldPlan (s : Sizes) (p : UpdatePlan) (stop : Option ℕ) (agrees : Agreed) (lines : List ℕ) (m : Made) (text : List ℕ) : Type 0 where
@@ -84,11 +76,3 @@ pub record IsHeldPlan (s : Sizes) (p : UpdatePlan) (stop : Option ℕ) (agrees :
   pub plan : edits.plan ≡ p
   pub done : WhereHeld agrees (λ bytes. edits.stop ≡ steps_done (in_order (plan_groups s p bytes)) stop)
   pub said : WhereHeld agrees (λ bytes. text ≡ lines ++ plan_lines (in_order (plan_groups s p bytes)))
-  pub within : WhereHeld agrees (λ bytes. AllWithin s (length p.surveyed.states) (in_order (plan_groups s p bytes)))
-  pub beside : (marks : List Bool) → IsBeside marks p → WhereHeld agrees (λ bytes. AllBeside marks (in_order (plan_groups s p bytes)))
-
--- contents couldn't be read, or memory ran out
-abbrev pub IsUnheld : UpdateError → Type 0
-IsUnheld (error.Contents i) = Unit {0}
-IsUnheld (error.Refused c) = c ≡ refusal.Memory
-IsUnheld _ = ⊥

@@ -1,4 +1,5 @@
-use Rattle.ubi_change.proofs.Prelude.{◌≡◌, ◌/◌, ◌<◌, List, ℕ, refl, subst, ◌∙◌, arith, err_from_is_err_and, IsSource, Narrows, Source, blocks_in, source_narrowed, All, IsWroteError, Wrote, wrote_narrowed, block_text, front_text}
+use Rattle.ubi_change.proofs.Prelude.{◌≡◌, ◌/◌, ◌<◌, List, ℕ, refl, subst, ◌∙◌, arith, err_from_is_err_and, IsSource, Narrows, Source, blocks_in, source_narrowed, IsWroteError, Wrote, wrote_narrowed, block_text, front_text}
+use Rattle.ubi_volume.specs.Wrote.{All}
 use Rattle.ubi_change.proofs.WrittenAfter.{failed_at, wrote_first, wrote_last, wrote_next}
 use Rattle.ubi_change.proofs.image_after.write_after.Goals as goal
 

@@ -1,4 +1,5 @@
-use Rattle.ubi_change.proofs.Prelude.{◌≡◌, ◌*◌, Narrows, StaysOpen, WhereHeld, blocks_in, All, Wrote, front_text}
+use Rattle.ubi_change.proofs.Prelude.{◌≡◌, ◌*◌, Narrows, StaysOpen, WhereHeld, blocks_in, Wrote, front_text}
+use Rattle.ubi_volume.specs.Wrote.{All}
 use Rattle.ubi_change.proofs.image_after.write_after.Given as goal
 
 abbrev pub invariant-loop-p : goal.invariant-loop-p

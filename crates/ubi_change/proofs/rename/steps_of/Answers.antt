@@ -1,5 +1,6 @@
-use Rattle.ubi_change.proofs.Prelude.{◌≡◌, List, [], ◌∷◌, ◌∙◌, subst, err_from_is_err_and, holds, still, image_of, AllWithin, Narrows, length, IsUpdateFor, IsUpdateError, StopsIfRenames, UpdateError, Edit}
+use Rattle.ubi_change.proofs.Prelude.{◌≡◌, List, [], ◌∷◌, ◌∙◌, subst, sym, AllBeside, err_from_is_err_and, holds, still, image_of, AllWithin, Narrows, length, IsUpdateFor, IsUpdateError, StopsIfRenames, UpdateError, Edit}
 use Rattle.ubi_change.specs.declared.edit.Edit.TheVariants as edit
+use Rattle.ubi_change.proofs.PlanGroups.{groups_beside}
 use Rattle.ubi_change.proofs.RenameStopped.{stopped_is}
 use Rattle.ubi_change.proofs.RenameUpdated.{rename_facts}
 use Rattle.ubi_change.proofs.rename.steps_of.Goals as goal
@@ -34,7 +35,7 @@ returns-in-Ok-clause-plan g c =
     record {
       whole = planned.source.whole;
       within = subst (λ n. AllWithin s n steps) planned.source.count made.within;
-      beside = made.beside av.marks planned.beside;
+      beside = subst (AllBeside av.marks) (sym (made.steps [] last)) (groups_beside s c.in_ok-plan.plan [] av.marks planned.beside);
       held = λ bytes holding. rename_facts (image_of s bytes) av c.args.id c.args.name.now [] c.in_ok-plan.plan
           (subst (λ (es : List Edit). IsUpdateFor (image_of s bytes) av [] es c.in_ok-plan.plan) es (planned.plan bytes holding [] first)) steps
           (made.steps [] last) planned.fits.bytes;

@@ -1,18 +1,15 @@
-use Rattle.ubi_change.proofs.Prelude.{◌≡◌, ◌+◌, arith, length, ◌++◌, List, sym, ap, ap₂, subst, ◌∙◌, text_held, Piece, VidHeader, Found, trimmed, AllBeside, AllWithin, false, is_listed, header_at, FitsIn, lay_on, Site, Step}
+use Rattle.ubi_change.proofs.Prelude.{◌≡◌, ◌+◌, arith, length, ◌++◌, List, sym, ap, ap₂, subst, ◌∙◌, text_held, Piece, VidHeader, Found, trimmed, AllWithin, header_at, FitsIn, lay_on, Step}
 use Rattle.ubi_change.proofs.update.lay_group.Goals as goal
 use Rattle.ubi_change.proofs.StepPages.{lay_all_within}
-use Rattle.ubi_change.proofs.StepsOn.{each_on, lay_each}
 use Rattle.ubi_change.proofs.GroupPlaces.{group_laid}
 use Rattle.ubi_change.proofs.PlacedParts.{all_here}
 
--- src/update.rt:73:5
 pub push_laid-requires-clause-short : goal.push_laid-requires-clause-short
 push_laid-requires-clause-short g c =
     let s = c.requires.fits.sound.peb_to in
     let l = c.trimmed_text-text.ensures.short in
     omega arith
 
--- src/update.rt:47:1
 pub returns-clause-steps : goal.returns-clause-steps
 returns-clause-steps g c bytes held =
     let s = c.args.geometry.now in
@@ -31,16 +28,6 @@ returns-clause-steps g c bytes held =
     (c.trimmed_text-text.ensures.text ∙ ap (trimmed s) (text_held s q.origin q.len c.read_piece.new.buffer bytes here))
     (c.in_ok-push_laid.ensures ∙ ap₂ (λ (xs : List Step) (f : Found). xs ++ lay_on s f c.index-2.result.now header c.trimmed_text-text.result.now) c.new-steps.ensures.items c.scan-scan.ensures)
 
-pub returns-clause-beside : goal.returns-clause-beside
-returns-clause-beside g c marks beside =
-    let s = c.args.geometry.now in
-    let away = subst (λ (t : Site). is_listed marks t.pnum ≡ false) (sym c.index-2.ensures)
-    (beside.sites c.args.k c.index-2.result.now (let e = c.requires.fits.enough in let i = c.requires.inside in omega (arith, e, i))) in
-    subst (AllBeside marks) (sym (c.in_ok-push_laid.ensures ∙ ap (λ (xs : List Step). xs ++ lay_on s c.scan-scan.result.now c.index-2.result.now (record c.header_of.result { sqnum = c.top_sqnum.result + 1 + c.args.k }) c.trimmed_text-text.result.now) c.new-steps.ensures.items))
-    (each_on (λ p. is_listed marks p ≡ false) _
-    (lay_each (λ p. is_listed marks p ≡ false) s c.scan-scan.result.now c.index-2.result.now _ c.trimmed_text-text.result.now away))
-
--- src/update.rt:47:1
 pub returns-clause-within : goal.returns-clause-within
 returns-clause-within g c =
     let s = c.args.geometry.now in

@@ -1,4 +1,4 @@
-use Rattle.ubi_change.proofs.Prelude.{List, Part, ◌≡◌, err_from_is_err_and, ◌+◌, ◌<◌, ◌^◌, refl, length, None, AllByRecursion, sym, ap, subst, ◌∙◌, arith, Source, states_avoiding, blocks_in, blocks_of, BothFit, FitsIn, FitsUpdate, IsPlanOf, IsUpdateFor, image_of, first_taken, first_beyond, all_layings, IsPartReadable, UpdatePlan, IsContentsError, IsSitesError, UpdateError}
+use Rattle.ubi_change.proofs.Prelude.{List, Part, ◌≡◌, err_from_is_err_and, ◌+◌, ◌<◌, ◌^◌, refl, length, None, AllByRecursion, sym, ap, subst, ◌∙◌, arith, Source, states_avoiding, blocks_in, blocks_of, BothFit, FitsIn, FitsUpdate, IsPlanOf, IsUpdateFor, image_of, first_taken, first_beyond, all_layings, IsPartReadable, UpdatePlan, IsContentsError, IsSitesError, UpdateError, IsLaidFrom}
 use Rattle.ubi_change.proofs.PlanBeside.{beside_is, never_in}
 use Rattle.ubi_change.proofs.Touchable.{none_beyond}
 use Rattle.ubi_change.proofs.UpdateKept.{contents_known, contents_unread_is, sites_are, sites_known, unbased_is, unbased_known, update_beside, update_is}
@@ -40,6 +40,12 @@ returns-clause-fits g c =
       bytes = is.pages.bytes;
       few = let f = taken.few in omega (arith, f, count);
     })
+
+pub returns-clause-laid : goal.returns-clause-laid
+returns-clause-laid g c bytes agreed =
+    let s = c.args.geometry.now in
+    subst (IsLaidFrom s bytes) (sym c.of-plan.ensures)
+    (c.in_ok-layings.ensures.layings bytes agreed ∙ ap (all_layings s bytes) c.as_slice.ensures.value)
 
 pub returns-clause-source : goal.returns-clause-source
 returns-clause-source g c =

@@ -1,59 +1,49 @@
-use Rattle.ubi_writing.proofs.Prelude.{◌≡◌, ◌∙◌, ◌++◌, ℕ, drop, take, refl, sym, FitsUpdate, IsSoundPlan, in_order, plan_groups, subst, length, MadeEdits, first_within}
-use Rattle.ubi_writing.proofs.MadeGroups.{room_kept, said_lines}
+use Rattle.ubi_writing.proofs.Prelude.{◌∙◌, IsSoundPlan, MadeEdits, first_within, groups_within, in_order, length, plan_groups, refl, sym}
+use Rattle.ubi_writing.proofs.MadeGroups.{said_lines}
 use Rattle.ubi_writing.proofs.update.hold_plan.Given as given
 use Rattle.ubi_writing.proofs.update.hold_plan.Goals as goal
 
-made : (g : given.Over) (c : goal.After-drop-more-2 g) → MadeEdits
-made g c = record { geometry = c.args.geometry.now; plan = c.args.plan; counts = c.in-Ok.counted.counts; stop = c.done_of.result }
+module _ (g : given.Over) (c : goal.Joined-pages g) where
+  abbrev made : MadeEdits
+  made = record { geometry = c.args.geometry.now; plan = c.args.plan; counts = c.in_ok-counts.field-0.counts; stop = c.done_of.result }
 
-sound : (g : given.Over) (c : goal.After-drop-more-2 g) (room : ℕ) → room ≡ c.args.geometry.now.peb_size
-    → IsSoundPlan (g.T.BlockSource.known c.count_steps-counted.new.contents).size (g.T.BlockSource.agrees c.count_steps-counted.new.contents) room (made g c)
-unfolding made
-sound g c room is =
-    let s = c.args.geometry.now in
-    let p = c.args.plan in
-    let counted = c.in-Ok.ensures in
-    record {
-      fits = subst (λ n. FitsUpdate s n p) (sym counted.contents.size) c.requires.fits;
-      counted = counted.groups;
-      counts = λ bytes held. (counted.counted bytes held).counts;
-      within = λ bytes held. (
-        length p.surveyed.states,
-        first_within s (length p.surveyed.states) (in_order (plan_groups s p bytes)) c.done_of.result (counted.counted bytes held).within,
-      );
-      room = is;
-    }
-
-has_room : (g : given.Over) (c : goal.After-drop-more-2 g)
-    → length (take c.in_ok-buffer.buffer.len (c.count_steps-counted.new.buffer ++ drop (length c.count_steps-counted.new.buffer) c.in_ok-buffer.buffer.items))
-    ≡ c.args.geometry.now.peb_size
-has_room g c =
-    let size = c.peb_size.ensures.value in
-    room_kept c.in_ok-buffer.buffer.len c.count_steps-counted.new.buffer c.in_ok-buffer.buffer.items c.in_ok-buffer.buffer.ok.0
-    (c.in-Ok.ensures.room ∙ sym size ∙ sym c.in_ok-buffer.ensures.len) ∙ c.in_ok-buffer.ensures.len ∙ size
+  sound : IsSoundPlan (g.T.BlockSource.known c.args.pages.now.contents).size (g.T.BlockSource.agrees c.args.pages.now.contents)
+      (length c.in_ok-pages.field-0.items) made
+  sound =
+      let s = c.args.geometry.now in
+      let p = c.args.plan in
+      let n = length p.surveyed.states in
+      record {
+        fits = c.requires.fits;
+        counted = c.in_ok-counts.ensures.groups;
+        counts = λ bytes held. (c.in_ok-counts.ensures.counted bytes (c.requires.laid bytes held)).counts;
+        within = λ bytes held. (
+          n,
+          first_within s n (in_order (plan_groups s p bytes)) c.done_of.result
+              (groups_within s _ p c.requires.fits bytes (c.requires.laid bytes held)),
+        );
+        room = sym c.in_ok-pages.field-0.ok.0 ∙ c.in_ok-pages.ensures.len ∙ c.peb_size.ensures.value;
+      }
 
 pub returns-clause-sound : goal.returns-clause-sound
-unfolding made
-returns-clause-sound g c = sound g c _ (has_room g c)
+returns-clause-sound g c = sound g c
 
 pub returns-clause-ready : goal.returns-clause-ready
-unfolding made
-returns-clause-ready g c = (refl, sound g c _ (has_room g c))
+returns-clause-ready g c = (refl, sound g c)
 
 pub returns-clause-held : goal.returns-clause-held
 returns-clause-held g c =
-    let counted = c.in-Ok.ensures in
+    let s = c.args.geometry.now in
+    let p = c.args.plan in
     record {
-      edits = record { geometry = c.args.geometry.now; plan = c.args.plan; counts = c.in-Ok.counted.counts; stop = c.done_of.result };
+      edits = made g c;
       is = refl;
       sizes = refl;
       plan = refl;
-      done = λ bytes held. c.done_of.ensures (in_order (plan_groups c.args.geometry.now c.args.plan bytes)) (counted.counted bytes held).total;
+      done = λ bytes held. c.done_of.ensures (in_order (plan_groups s p bytes)) (c.in_ok-counts.ensures.counted bytes (c.requires.laid bytes held)).total;
       said = λ bytes held.
-          (let is = counted.counted bytes held in
-          said_lines c.args.lines.items c.put_number.new.text.items c.put_word.new.text.items c.extend_from_slice.new.self.items
-          c.in-Ok.counted.lines.items c.in-Ok.counted.total (in_order (plan_groups c.args.geometry.now c.args.plan bytes)) c.in_ok-put_number.ensures
-          c.in_ok-put_word.ensures (rw c.as_slice.ensures.value at c.in_ok-extend_from_slice.ensures.items) is.lines is.total);
-      within = λ bytes held. (counted.counted bytes held).within;
-      beside = λ marks apart bytes held. (counted.counted bytes held).beside marks apart;
+          (let laid = c.requires.laid bytes held in
+          said_lines c.args.lines.items c.put_number.new.text.items c.put_word.new.text.items c.put_plan.new.text.items c.in_ok-counts.field-0.total
+          (in_order (plan_groups s p bytes)) c.in_ok-put_number.ensures c.in_ok-put_word.ensures (c.in_ok-put_plan.ensures bytes laid)
+          (c.in_ok-counts.ensures.counted bytes laid).total);
     }

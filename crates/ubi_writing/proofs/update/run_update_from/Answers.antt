@@ -1,7 +1,7 @@
-use Rattle.ubi_writing.proofs.Prelude.{◌≡◌, ◌∙◌, ℕ, List, Step, subst, sym, take, IfErr, IfOk, Agreed, Source, All, Wrote, after_text, image_of, in_order, plan_groups, steps_done, AreCut, ArePlanned, ArePlannedSteps, AreEditsOf, Edit, IsUpdateError, IsUpdateFault, IsWriteFault, UpdatesFrom, made_steps, pages_made, refl}
+use Rattle.ubi_writing.proofs.Prelude.{◌≡◌, ◌∙◌, ℕ, List, Step, subst, sym, take, IfErr, IfOk, Agreed, Source, All, Wrote, after_text, image_of, in_order, plan_groups, steps_done, AreCut, ArePlanned, ArePlannedSteps, AreEditsOf, Edit, IsUpdateError, IsUpdateFault, IsWriteFault, UpdatesFrom, made_steps, pages_made, refl, groups_beside, groups_within}
 use Rattle.ubi_writing.proofs.Cut.{is_cut}
 use Rattle.ubi_writing.proofs.PlannedAll.{held_firsts, held_pages, lines_planned, steps_planned}
-use Rattle.ubi_writing.proofs.Updated.{no_edits_told, planned_later, refused_told, unheld_told, update_cut, update_done}
+use Rattle.ubi_writing.proofs.Updated.{no_edits_told, planned_later, refused_told, update_cut, update_done}
 use Rattle.ubi_writing.proofs.update.run_update_from.Given as given
 use Rattle.ubi_writing.proofs.update.run_update_from.Goals as goal
 
@@ -27,19 +27,14 @@ returns-in-Err-clause-ok g c bytes held =
     (subst (λ (k : Source). IsUpdateError s k now size at agreed c.args.avoided.now es c.in-Err.error) c.in-Ok.ensures.known c.in-Err.ensures.refused)
     c.unplanned.result c.unplanned.ensures.ok
 
-pub returns-clause-ok : goal.returns-clause-ok
-returns-clause-ok g c bytes held =
-    unheld_told c.args.avoided.now c.args.asks.now bytes c.args.stop c.args.geometry.now (g.S.BlockSource.known c.args.source.now) _ _ _
-    c.in-Err-hold_plan.error c.in-Err-hold_plan.ensures.refused c.unplanned-in-Err-hold_plan.result c.unplanned-in-Err-hold_plan.ensures.ok
-
-module _ (g : given.Over) (c : goal.After-drop-edits-in-Ok-hold_plan g) (bytes : List ℕ)
+module _ (g : given.Over) (c : goal.After-drop-edits-2 g) (bytes : List ℕ)
     (held : g.T.BlockSource.agrees c.write_planned.new.pages.contents bytes) where
   -- the contents agree with what was read of them before
   held_then : g.T.BlockSource.agrees c.hold_plan.new.pages.contents bytes
   held_then = c.write_planned.ensures.agrees bytes held
 
   held_first : g.T.BlockSource.agrees c.plan_update_from.new.contents bytes
-  held_first = c.in-Ok-hold_plan.ensures.narrows bytes held_then
+  held_first = rw c.in_ok-text.ensures.contents at held_then
 
   abbrev steps : List Step
   steps = in_order (plan_groups c.args.geometry.now c.in-Ok-plan_update_from.plan bytes)
@@ -61,12 +56,12 @@ module _ (g : given.Over) (c : goal.After-drop-edits-in-Ok-hold_plan g) (bytes :
       let es = c.as_slice-edits.result.now in
       let before = g.S.BlockSource.agrees c.plan_update_from.new.source in
       let plan = c.in-Ok-plan_update_from.ensures in
-      let h = c.in-Ok-hold_plan.ensures.held in
+      let p = c.in-Ok-plan_update_from.plan in
       planned_later av c.args.asks.now bytes c.args.stop s known before agrees es steps c.write_planned.ensures.narrows
       (subst (λ (k : Source). ArePlannedSteps s k before av bytes es steps) c.in-Ok.ensures.known
       (steps_planned s (g.S.BlockSource.known c.edits_from.new.source) before (g.T.BlockSource.agrees c.plan_update_from.new.contents) av bytes es
-      c.in-Ok-plan_update_from.plan plan.plan held_first plan.source plan.beside steps refl (h.within bytes held_then)
-      (λ apart. h.beside av.marks apart bytes held_then)))
+      p plan.plan held_first plan.source steps refl (groups_within s _ p plan.fits bytes (plan.laid bytes held_first))
+      (groups_beside s p bytes av.marks plan.beside)))
 
   planned : ArePlanned c.args.avoided.now c.args.asks.now bytes c.args.geometry.now known agrees c.as_slice-edits.result.now steps
   planned = record {
@@ -86,7 +81,7 @@ module _ (g : given.Over) (c : goal.After-drop-edits-in-Ok-hold_plan g) (bytes :
   firsts = take (steps_done steps c.args.stop) steps
 
   made_firsts : made_steps c.hold_plan.new.pages.made bytes ≡ firsts
-  made_firsts = held_firsts _ _ _ _ _ _ _ c.in-Ok-hold_plan.ensures.held bytes held_then
+  made_firsts = held_firsts _ _ _ _ _ _ _ c.in_ok-text.ensures.held bytes held_then
 
   answered : IfOk c.write_planned.result (UpdatesFrom c.args.avoided.now c.args.asks.now bytes c.args.stop c.args.geometry.now known agrees
       (pages_made c.write_planned.new.pages.made bytes) (g.W.Write.contents c.args.writer.now) (g.W.Write.contents c.write_planned.new.writer))
@@ -100,9 +95,9 @@ module _ (g : given.Over) (c : goal.After-drop-edits-in-Ok-hold_plan g) (bytes :
       (λ image held. lines_planned s (g.S.BlockSource.known c.edits_from.new.source) (g.S.BlockSource.agrees c.plan_update_from.new.source)
       (g.T.BlockSource.agrees c.plan_update_from.new.contents) c.args.avoided.now bytes c.as_slice-edits.result.now c.in-Ok-plan_update_from.plan plan.plan
       held_first c.in_ok-lines.lines.items c.in_ok-lines.ensures image (c.write_planned.ensures.narrows image held))
-      c.write_planned.result (pages_made c.write_planned.new.pages.made bytes) old now c.in-Ok-hold_plan.text.items
-      (c.in-Ok-hold_plan.ensures.held.said bytes held_then) c.write_planned.ensures.answer
-      (held_pages _ _ _ _ _ _ _ c.in-Ok-hold_plan.ensures.held bytes held_then c.write_planned.new.pages.made _ _ _ c.write_planned.ensures.ready
+      c.write_planned.result (pages_made c.write_planned.new.pages.made bytes) old now c.in_ok-text.text.items
+      (c.in_ok-text.ensures.held.said bytes held_then) c.write_planned.ensures.answer
+      (held_pages _ _ _ _ _ _ _ c.in_ok-text.ensures.held bytes held_then c.write_planned.new.pages.made _ _ _ c.write_planned.ensures.ready
       c.write_planned.ensures.same) cut
       (subst (λ (k : Source). IfOk c.write_planned.result (λ _. Wrote agrees old now (after_text s firsts) All 0 k.size)) known_then
       (subst (λ (xs : List Step). IfOk c.write_planned.result (λ _. Wrote agrees old now (after_text s xs) All 0 (g.S.BlockSource.known c.plan_update_from.new.source).size))
@@ -118,8 +113,8 @@ module _ (g : given.Over) (c : goal.After-drop-edits-in-Ok-hold_plan g) (bytes :
       (subst (λ (xs : List Step). IfErr c.write_planned.result (IsWriteFault agrees (after_text s xs) old now)) made_firsts
       (c.write_planned.ensures.err bytes held))
 
-pub returns-in-Ok-hold_plan-clause-ok : goal.returns-in-Ok-hold_plan-clause-ok
-returns-in-Ok-hold_plan-clause-ok g c bytes held = answered g c bytes held
+pub returns-clause-ok : goal.returns-clause-ok
+returns-clause-ok g c bytes held = answered g c bytes held
 
-pub returns-in-Ok-hold_plan-clause-err : goal.returns-in-Ok-hold_plan-clause-err
-returns-in-Ok-hold_plan-clause-err g c bytes held = failed g c bytes held
+pub returns-clause-err : goal.returns-clause-err
+returns-clause-err g c bytes held = failed g c bytes held

@@ -1,7 +1,5 @@
-use Rattle.ubi_change.proofs.Prelude.{◌≡◌, ◌+◌, arith, Some, get_or, slice_get, sym, ap, ◌∙◌, Site, Step, List, false, subst, length, get_or_from_slice_get, copy_steps, plan_groups, AllBeside, is_listed}
+use Rattle.ubi_change.proofs.Prelude.{◌≡◌, ◌+◌, arith, Some, get_or, slice_get, sym, ap, ◌∙◌, Site, length, get_or_from_slice_get, copy_steps, plan_groups}
 use Rattle.ubi_change.proofs.GroupPlaces.{first_at, second_at}
-use Rattle.ubi_change.proofs.PlanBeside.{beside_at}
-use Rattle.ubi_change.proofs.StepsOn.{copy_each, each_on}
 use Rattle.ubi_change.proofs.update.UpdatePlan.group.Goals as goal
 
 pub returns-in_ok-copy_group-clause-steps : goal.returns-in_ok-copy_group-clause-steps
@@ -32,25 +30,3 @@ returns-in_ok-copy_group-2-clause-steps g c bytes held =
     second_at s p.surveyed.scan bytes p.pages.items p.holders ls ts c.args.k t here c.requires.fits.enough
     ∙ ap (λ (x : Site). Some (copy_steps s p.surveyed.scan p.pages.items 1 c.args.k x p.holders.second)) (get_or_from_slice_get ts c.args.k t t made.1)
     ∙ ap Some (sym made.2)
-
-pub returns-in_ok-copy_group-clause-beside : goal.returns-in_ok-copy_group-clause-beside
-returns-in_ok-copy_group-clause-beside g c marks beside =
-    let s = c.args.geometry.now in
-    let p = c.args.self.now in
-    let made = c.in_ok-copy_group.ensures.steps in
-    let t : Site = made.0 in
-    subst (λ (steps : List Step). AllBeside marks steps) (sym made.2)
-    (each_on (λ p. is_listed marks p ≡ false) _
-    (copy_each (λ p. is_listed marks p ≡ false) s p.surveyed.scan t _ p.pages.items p.holders.first p.holders.first.ec
-    (beside_at marks p.sites.items c.args.k t beside.sites made.1) beside.first))
-
-pub returns-in_ok-copy_group-2-clause-beside : goal.returns-in_ok-copy_group-2-clause-beside
-returns-in_ok-copy_group-2-clause-beside g c marks beside =
-    let s = c.args.geometry.now in
-    let p = c.args.self.now in
-    let made = c.in_ok-copy_group-2.ensures.steps in
-    let t : Site = made.0 in
-    subst (λ (steps : List Step). AllBeside marks steps) (sym made.2)
-    (each_on (λ p. is_listed marks p ≡ false) _
-    (copy_each (λ p. is_listed marks p ≡ false) s p.surveyed.scan t _ p.pages.items p.holders.second p.holders.second.ec
-    (beside_at marks p.sites.items c.args.k t beside.sites made.1) beside.second))

@@ -1,5 +1,5 @@
-use Rattle.ubi_change.proofs.Prelude.{◌≡◌, ◌<◌, ◌+◌, ◌++◌, ap, sym, ◌∙◌, subst, arith, List, length, AllBeside, AllWithin, plan_groups, Step}
-use Rattle.ubi_change.proofs.AllGroups.{all_beside_append, all_within_append, groups_count, in_order_all, in_order_more}
+use Rattle.ubi_change.proofs.Prelude.{◌≡◌, ◌<◌, ◌+◌, ◌++◌, ap, sym, ◌∙◌, subst, arith, List, length, AllWithin, plan_groups, Step}
+use Rattle.ubi_change.proofs.AllGroups.{all_within_append, groups_count, in_order_all, in_order_more}
 use Rattle.ubi_change.proofs.update.UpdatePlan.steps.Goals as goal
 
 pub loop-k-preserved : goal.loop-k-preserved
@@ -22,8 +22,6 @@ loop-k-preserved g c =
           let inside : k < length gs = omega (arith, c.loop-k-test.true, c.group_count-k-end.ensures, count) in
           more ∙ ap (λ (xs : List Step). xs ++ group) (c.loop-k.invariant.steps bytes (made.narrows bytes held))
           ∙ in_order_more gs k group inside (made.steps bytes held));
-      beside = λ marks is. subst (AllBeside marks) (sym more)
-          (all_beside_append marks before group (c.loop-k.invariant.beside marks is) (made.beside marks is));
       within = subst (λ (xs : List Step). AllWithin s n xs) (sym more) (all_within_append s n before group c.loop-k.invariant.within made.within);
     }
 
