@@ -79,6 +79,50 @@ class Step:
     data: bytes | None = None
 
 
+@dataclass(frozen=True)
+class Rename:
+    """An edit: the volume `name` gets the name `new`. Here and in the other edits names are bytes, or strings as `list`
+    shows names, and `name` is that of a volume in the image."""
+
+    name: str | bytes
+    new: str | bytes
+
+    def _line(self):
+        return b"rename " + _name(self.name) + b"=" + _shown(self.new), None
+
+
+@dataclass(frozen=True)
+class Resize:
+    """An edit: the volume `name` gets room for `size` bytes, which is a number, or a string such as '64KiB'."""
+
+    name: str | bytes
+    size: int | str
+
+    def _line(self):
+        return b"resize " + _name(self.name) + b"=" + str(self.size).encode("ascii"), None
+
+
+@dataclass(frozen=True)
+class Remove:
+    """An edit: the volume `name` is removed."""
+
+    name: str | bytes
+
+    def _line(self):
+        return b"remove " + _shown(self.name), None
+
+
+@dataclass(frozen=True)
+class Write:
+    """An edit: the contents of the volume `name` are `data`, an object whose bytes lie in one piece."""
+
+    name: str | bytes
+    data: bytes
+
+    def _line(self):
+        return b"write %s=%d" % (_name(self.name), memoryview(self.data).nbytes), self.data
+
+
 class _Buffer(ctypes.Structure):
     """A Py_buffer of CPython."""
 
@@ -119,6 +163,30 @@ def _checked(sizes):
     return sizes
 
 
+def _shown(name):
+    """A name as the calls take it: one that is bytes is shown byte by byte."""
+    return name.encode("ascii") if isinstance(name, str) else "".join(rf"\x{byte:02x}" for byte in name).encode()
+
+
+def _name(name):
+    """The same for the name of a volume that ends at the first `=` of a line."""
+    return _shown(name).replace(b"=", rb"\x3d")
+
+
+def _text_of(edits):
+    """The lines that ask for edits, and the contents that they write."""
+    lines, contents = [], []
+    for edit in edits:
+        if not isinstance(edit, (Rename, Resize, Remove, Write)):
+            raise TypeError(f"{edit!r} is no edit")
+        line, data = edit._line()
+        if b"\n" in line:
+            raise ValueError(f"{edit!r} has a line feed")
+        lines.append(line + b"\n")
+        contents += [] if data is None else [data]
+    return b"".join(lines), contents[0] if len(contents) == 1 else b"".join(contents)
+
+
 def _spared_of(bad, keep_blank):
     """What a plan spares, as C takes it."""
     numbers = [_number(block) for block in bad]
@@ -137,6 +205,7 @@ _CALLS = {
     **dict.fromkeys(("same", "diff"), _SIZES + _IMAGE + _IMAGE + _ROOM),
     "change": _SIZES + _IMAGE + _SPARED + _NUMBER + _NUMBER + _IMAGE + _ROOM + _ROOM,
     "rename": _SIZES + _IMAGE + _SPARED + _NUMBER + _IMAGE + _ROOM + _ROOM,
+    "update": _SIZES + _IMAGE + _SPARED + _IMAGE + _IMAGE + _ROOM + _ROOM,
 }
 
 
@@ -255,22 +324,32 @@ class Library:
         """The steps that give the logical eraseblock `lnum` of the dynamic volume `number` new bytes: a list of Step.
         `bad` has the numbers of the chip's bad eraseblocks: no step works on one of them, and each reads 0xFF. If
         `keep_blank` is true, no step works on an eraseblock that is blank throughout either."""
-        return self._plan("change", sizes, image, _spared_of(bad, keep_blank), [number, lnum], data)
+        return self._plan("change", sizes, image, _spared_of(bad, keep_blank), [number, lnum], [data])[1]
 
     def rename(self, sizes, image, number, name, bad=(), keep_blank=False):
         """The steps that give the volume `number` a new name, which is bytes, or a string as `list` shows names: a list
         of Step. `bad` and `keep_blank` are those of `change`."""
-        word = name.encode("ascii") if isinstance(name, str) else "".join(rf"\x{byte:02x}" for byte in name).encode()
-        return self._plan("rename", sizes, image, _spared_of(bad, keep_blank), [number], word)
+        return self._plan("rename", sizes, image, _spared_of(bad, keep_blank), [number], [_shown(name)])[1]
 
-    def _plan(self, name, sizes, image, spared, numbers, data):
-        rooms = [_Room(ROOM), _Room(2 * _checked(sizes).peb_size)]
-        lines, pages = self._answer(name, sizes, [image], numbers, [data], rooms, spared)
-        steps = []
-        for line in lines.decode("ascii").splitlines()[1:]:
+    def update(self, sizes, image, edits, bad=(), keep_blank=False):
+        """The plan of edits of whole volumes, which are done all in one step and in this order: Rename, Resize, Remove
+        and Write. Returns a list of the lines of the volumes that are written, such as
+        'volume 2 replaces 0 lebs=3 name=kernel', and a list of Step. `bad` and `keep_blank` are those of `change`."""
+        text, contents = _text_of(edits)
+        return self._plan("update", sizes, image, _spared_of(bad, keep_blank), [], [text, contents])
+
+    def _plan(self, name, sizes, image, spared, numbers, given):
+        """The lines before the steps of a plan, and the steps."""
+        written = memoryview(given[-1]).nbytes
+        rooms = [_Room(ROOM + written // 16), _Room(2 * (_checked(sizes).peb_size + written))]
+        answer, pages = self._answer(name, sizes, [image], numbers, given, rooms, spared)
+        lines = answer.decode("ascii").splitlines()
+        first = next(place for place, line in enumerate(lines) if line.startswith("steps "))
+        steps, at = [], 0
+        for line in lines[first + 1:]:
             places = [int(place) for place in re.findall(r"=(\d+)", line)]
             if line.startswith("program"):
-                at = sum(step.page is not None for step in steps) * sizes.page
                 places.append(pages[at:at + sizes.page])
+                at += sizes.page
             steps.append(Step(*places))
-        return steps
+        return lines[:first], steps

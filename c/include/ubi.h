@@ -101,6 +101,24 @@ uint32_t ubi_rename(const struct ubi_sizes *sizes, const uint8_t *image, size_t 
     bool keep_blank, uint32_t id, const uint8_t *name, size_t name_len, uint8_t *out, size_t out_len, size_t *len, uint8_t *pages,
     size_t pages_room, size_t *pages_len);
 
+/* The plan that edits whole volumes, all in one step, likewise: the image means what it meant, or what all edits make of it. edits is a
+ * text with a line for each, done in this order:
+ *
+ *   rename NAME=NEW     the volume NAME gets the name NEW
+ *   resize NAME=SIZE    it gets room for SIZE bytes, as 64KiB or 0x10000
+ *   remove NAME         it is removed
+ *   write NAME=LENGTH   its contents are the next LENGTH bytes of contents, a number in decimal digits
+ *
+ * Each line ends with a line feed, which may be left out after the last. Names are those that the volumes have in the image, written as
+ * ubi_list shows them, and NAME ends at the first '='. A text without lines is allowed: the volume table is written again.
+ *
+ * A line for each volume that is written comes first in out, such as "volume 2 replaces 0 lebs=3 name=kernel", and then "steps N" and the
+ * lines of the steps. UBI_REFUSED and "refused E1 BadEdit line=N" if line N, counted from 1, is none of these or wants more contents than
+ * are left, or if contents are left after line N - 1, the last; this is judged before the image. */
+uint32_t ubi_update(const struct ubi_sizes *sizes, const uint8_t *image, size_t image_len, const uint32_t *bad, size_t bads,
+    bool keep_blank, const uint8_t *edits, size_t edits_len, const uint8_t *contents, size_t contents_len, uint8_t *out, size_t out_len,
+    size_t *len, uint8_t *pages, size_t pages_room, size_t *pages_len);
+
 #ifdef __cplusplus
 }
 #endif

@@ -1,12 +1,12 @@
 /* Makes the calls of ubi.h that its input asks for, and writes their answers: for c_calls.py.
  *
- * Each line of the input is CALL ROOM PAGES_ROOM PEB PAGE VID DATA PEBS A B X Y BAD KEEP REFUSED: the call, the numbers
- * of bytes of out and pages, the sizes, two files (or '-'), two numbers, the bad eraseblocks as 3,9 (or '-'), whether
- * blank ones are kept, and which allocation is refused, or 0. For each it writes a line STATUS LEN KEPT PAGES_LEN
- * NANOSECONDS: KEPT is 1 if everything that was passed is as it was, except what the call may write, and the last is how
- * long the call took. Then it writes the first bytes of out and of pages: those of the answer that fit, or all of them if
- * memory ran out. Each buffer has exactly as many bytes as its length says, so that a checker of memory sees any other
- * byte that is touched. A file that is named twice is passed as one.
+ * Each line of the input is CALL ROOM PAGES_ROOM PEB PAGE VID DATA PEBS A B C X Y BAD KEEP REFUSED: the call, the
+ * numbers of bytes of out and pages, the sizes, three files (or '-'), two numbers, the bad eraseblocks as 3,9 (or '-'),
+ * whether blank ones are kept, and which allocation is refused, or 0. For each it writes a line STATUS LEN KEPT
+ * PAGES_LEN NANOSECONDS: KEPT is 1 if everything that was passed is as it was, except what the call may write, and the
+ * last is how long the call took. Then it writes the first bytes of out and of pages: those of the answer that fit, or
+ * all of them if memory ran out. Each buffer has exactly as many bytes as its length says, so that a checker of memory
+ * sees any other byte that is touched. If B is A, both are passed as one.
  *
  * It is linked with -Wl,--wrap=malloc,--wrap=realloc, so that allocations can be refused. */
 #include "ubi.h"
@@ -110,16 +110,17 @@ static int is_rest_kept(const uint8_t *data, size_t from, size_t len) {
 }
 
 int main(void) {
-    char call[32], a_path[4096], b_path[4096], bad_list[4096];
+    char call[32], a_path[4096], b_path[4096], c_path[4096], bad_list[4096];
     size_t out_len, pages_room;
     struct ubi_sizes s;
     uint32_t x, y;
     unsigned keep, refused;
-    while (scanf("%31s %zu %zu %u %u %u %u %u %4095s %4095s %u %u %4095s %u %u", call, &out_len, &pages_room,
-                 &s.peb_size, &s.page, &s.vid_offset, &s.data_offset, &s.pebs, a_path, b_path, &x, &y, bad_list, &keep,
-                 &refused) == 15) {
+    while (scanf("%31s %zu %zu %u %u %u %u %u %4095s %4095s %4095s %u %u %4095s %u %u", call, &out_len, &pages_room,
+                 &s.peb_size, &s.page, &s.vid_offset, &s.data_offset, &s.pebs, a_path, b_path, c_path, &x, &y, bad_list,
+                 &keep, &refused) == 16) {
         int is_one = !strcmp(a_path, b_path);
-        struct bytes a = load(a_path), b = is_one ? a : load(b_path), bad = numbers_in(bad_list);
+        struct bytes a = load(a_path), b = is_one ? a : load(b_path), c = load(c_path),
+                     bad = numbers_in(bad_list);
         const uint32_t *blocks = (const uint32_t *)(void *)bad.data;
         size_t bads = bad.len / sizeof *blocks;
         struct ubi_sizes before = s;
@@ -143,11 +144,14 @@ int main(void) {
         if (!strcmp(call, "rename"))
             status = ubi_rename(&s, a.data, a.len, blocks, bads, keep, x, b.data, b.len, out, out_len, &len, pages,
                                 pages_room, &pages_len);
+        if (!strcmp(call, "update"))
+            status = ubi_update(&s, a.data, a.len, blocks, bads, keep, b.data, b.len, c.data, c.len, out, out_len, &len,
+                                pages, pages_room, &pages_len);
         allocations = 0;
         uint64_t took = now() - start;
         size_t here = status == UBI_NO_MEMORY ? out_len : filled(len, out_len);
         size_t there = status == UBI_NO_MEMORY ? pages_room : filled(pages_len, pages_room);
-        int kept = is_kept(a) & (is_one || is_kept(b)) & is_kept(bad) & !memcmp(&s, &before, sizeof s)
+        int kept = is_kept(a) & (is_one || is_kept(b)) & is_kept(c) & is_kept(bad) & !memcmp(&s, &before, sizeof s)
             & is_rest_kept(out, here, out_len) & is_rest_kept(pages, there, pages_room);
         printf("%u %zu %d %zu %llu\n", status, len, kept, pages_len, (unsigned long long)took);
         fwrite(out, 1, here, stdout);

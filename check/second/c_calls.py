@@ -1,22 +1,27 @@
 #!/usr/bin/env python3
-"""Compares the answers of the calls for C and Python with those of the program, for the images of the repository and
-for random ones.
+"""Compares the answers of the calls for C and Python with those of the program, for the images of the repository and for
+random ones.
 
-usage: c_calls.py [--seed N] [--count N] [--large N] [--plans N] [--starved N] [--first N] [--dir FOLDER]
-                  [--tool PROGRAM] [--built FOLDER] [--asan]
+usage: c_calls.py [--seed N] [--count N] [--large N] [--plans N] [--updates N] [--large-updates N] [--starved N]
+                  [--first N] [--dir FOLDER] [--tool PROGRAM] [--built FOLDER] [--asan]
 
 The images are those of fuzz.py and the second ones those of diff.py: accepted and refused, with all kinds of volumes
 and states; and those in crates/ubi_tool/data. For each it runs `geometry`, `check`, `list`, `show`, `extract`,
-`normalise`, `same`, `diff`, `change` and `rename`, also with numbers that are no geometry, and with volumes, LEBs and
-eraseblocks that don't exist. c_caller.c makes the calls for each, and so does c/ubi.py: the status has to be the
-program's exit status, the bytes those that it prints or writes to its output, and the pages those of its --pages. Each
-call of C is made with exactly the room that its answer needs, with one byte more and one less, with none and with one
-byte: the answer's length must be the same, its first bytes must be in the buffer, and no other byte may be written, nor
-any that is passed. For some images each allocation of each call is refused in turn: it has to answer that memory ran
-out, with nothing or only first bytes written. If an image is refused, Python has to raise the cause.
+`normalise`, `same`, `diff`, `change`, `rename` and `update`, also with numbers that are no geometry, and with volumes,
+LEBs and eraseblocks that don't exist. c_caller.c makes the calls for each, and so does c/ubi.py: the status has to be
+the program's exit status, the bytes those that it prints or writes to its output, and the pages those of its --pages.
+Each call of C is made with exactly the room that its answer needs, with one byte more and one less, with none and with
+one byte: the answer's length must be the same, its first bytes must be in the buffer, and no other byte may be written,
+nor any that is passed. For some images each allocation of each call is refused in turn: it has to answer that memory
+ran out, with nothing or only first bytes written. If an image is refused, Python has to raise the cause.
 
 For --plans images it looks at plans alone, around bad eraseblocks: those of members, of the table, of nothing and ones
 that the image doesn't have, with blank eraseblocks kept or not. The program gets them by --bad and --blank.
+
+For --updates images, and --large-updates with large eraseblocks, it looks at updates alone, with the images and the
+edits of updates.py. The lines that ask for edits stand in the order in which the program does them, or in any other;
+then update_rules.py says what is right. Many texts are wrong: a line of each kind, contents that are too short, or left
+over.
 
 The shared object has to export the calls and nothing else. Python has to raise TypeError for what are no sizes, and
 MemoryError where a copy of the image doesn't fit in memory.
@@ -24,26 +29,33 @@ MemoryError where a copy of the image doesn't fit in memory.
 It also reads volumes of more than 2^31 and of more than 2^32 bytes, the former by Python, which takes 5 GB of memory.
 Then it runs c/examples/volumes.c and volumes.py on an image, which have to print and write the same as the program.
 
-By default there are 200 images of the seed 1, five with large eraseblocks, 500 for plans, and five for which
-allocations are refused. The library is the one that c/build.sh has put into c/out, or the one in the folder that
---built names. With --asan c_caller.c is compiled with the checkers of addresses and of undefined behaviour, and linked
-with the archive. Without --tool the program is built first, unless it is built already. The last line is 'N passed, M
-failed', and the exit status is 0 if none failed; an image that failed can be made again by giving its number to
---first.
+By default there are 200 images of the seed 1, five with large eraseblocks, 500 for plans, 200 and two for updates, and
+five for which allocations are refused. The library is the one that c/build.sh has put into c/out, or the one in the
+folder that --built names. With --asan c_caller.c is compiled with the checkers of addresses and of undefined behaviour,
+and linked with the archive. Without --tool the program is built first, unless it is built already. The last line is 'N
+passed, M failed', and the exit status is 0 if none failed; an image that failed can be made again by giving its number
+to --first.
 """
 import argparse
+import collections
 import ctypes
 import dataclasses
 import os
 import random
+import re
 import subprocess
 import sys
 import tempfile
 from pathlib import Path
 
+import rules
+import text_rules
+import update_rules
+import updates
 from diff import Changer
 from fuzz import REAL_SIZES, SIZES, Failure, Maker, Mutator, built, finish, run_cases, taken_file
 from rules import Geometry, Image, Refused, shown
+from update_rules import Word
 
 ROOT = Path(__file__).resolve().parents[2]
 sys.path.insert(0, str(ROOT / "c"))
@@ -57,6 +69,15 @@ NO_SIZES = (
 CHIP = ("--peb", "131072", "--page", "2048")
 # What c_caller.c fills buffers with.
 FILLER = b"\xA5"
+# The edits of a text, in the order in which the program does those of its options.
+EDITS = ("rename", "resize", "remove", "write")
+# Lines that ask for no edit.
+NO_EDITS = (
+    b"", b"rename", b"rename ", b"rename a", b"resize", b"resize a", b"remove", b"write", b"write a", b"write a=",
+    b"write a=+1", b"write a=-1", b"write a=0x1", b"write a= 1", b"write a=1 ", b"write a=1KiB", b"write a=1=1",
+    b"write a=\xD9\xA3", b"Rename a=b", b"rename\ta=b", b" remove a", b"removed a", b"create a=1", b"remove \xFF",
+    b"rename a=\xC3", b"\xFF", b"\x00", b"write a=" + b"9" * 40, b"write a=18446744073709551616",
+)
 # The checkers of addresses and of undefined behaviour.
 CHECKERS = ("-fsanitize=address,undefined", "-fno-sanitize-recover=all", "-g")
 
@@ -79,6 +100,61 @@ class Spared:
 NOTHING_SPARED = Spared()
 
 
+def text_of(words):
+    """The text that asks for the edits of some words, and the contents that they write."""
+    contents = b"".join(word.value for word in words if word.option == "write")
+    given = [len(word.value) if word.option == "write" else word.value for word in words]
+    lines = [f"{word.option} {word.name}{'' if value is None else f'={value}'}\n" for word, value in zip(words, given)]
+    return "".join(lines).encode(), contents
+
+
+def spoiled(rng, text, contents):
+    """A text and contents, with something else in one of them; most are wrong then, but not all."""
+    lines = text.splitlines(True)
+    place = rng.randrange(len(lines) + 1)
+    line = rng.choice(NO_EDITS) + b"\n"
+    length, cut = len(contents), rng.choice((1, len(contents) // 2))
+    return rng.choice((
+        (b"".join(lines[:place] + [line] + lines[place:]), contents),
+        (b"".join(lines[:place] + [line] + lines[place + 1:]), contents),
+        (text + line[:-1], contents), (text + b"\n", contents), (b"\n" + text, contents), (text[:-1], contents),
+        (text.replace(b"\n", b"\r\n"), contents), (b"", contents), (b"", b""),
+        (text, contents + bytes(rng.choice((1, 700)))), (text, contents[:max(length - cut, 0)]),
+        (re.sub(rb"(write .*=)", rb"\g<1>00", text), contents), (text[:rng.randrange(len(text) + 1)], contents),
+    ))
+
+
+def read_text(text, contents):
+    """The words of a text of edits, as docs/C.md says; or the number of the line that is wrong."""
+    lines, words, taken = text.split(b"\n"), [], 0
+    for number, line in enumerate(lines if lines[-1] else lines[:-1], 1):
+        try:
+            option, space, word = line.decode().partition(" ")
+        except UnicodeDecodeError:
+            return number
+        name, sign, value = word.partition("=")
+        if option == "remove" and space:
+            words.append(Word(option, word))
+        elif option in ("rename", "resize") and sign:
+            words.append(Word(option, name, value))
+        elif option == "write" and re.fullmatch("[0-9]+", value) and taken + int(value) <= len(contents):
+            words.append(Word(option, name, contents[taken:taken + int(value)]))
+            taken += int(value)
+        else:
+            return number
+    return words if taken == len(contents) else len(words) + 1
+
+
+def edit_of(word, as_bytes):
+    """The edit of Python that a word asks for; names are given AS_BYTES, or as they are shown."""
+    name = text_rules.name_of(word.name.encode()) if as_bytes else word.name
+    if word.option == "rename":
+        return ubi.Rename(name, text_rules.name_of(word.value.encode()) if as_bytes else word.value)
+    if word.option == "resize":
+        return ubi.Resize(name, int(word.value) if word.value.isdecimal() and word.value.isascii() else word.value)
+    return ubi.Remove(name) if word.option == "remove" else ubi.Write(name, word.value)
+
+
 def sizes_of(geometry):
     return (geometry.peb, geometry.page, geometry.vid, geometry.data, geometry.pebs)
 
@@ -96,7 +172,7 @@ class Caller:
     def call(self, name, sizes, room, pages_room, paths, numbers, spared, refused=0):
         """The status, the length, the bytes, whether nothing else was written, and the length of the pages and their
         bytes, of a call in which the allocation with the number REFUSED is refused."""
-        words = [name, room, pages_room, *sizes, *(list(paths) + ["-"])[:2], *(list(numbers) + [0, 0])[:2]]
+        words = [name, room, pages_room, *sizes, *(list(paths) + ["-", "-"])[:3], *(list(numbers) + [0, 0])[:2]]
         words += [",".join(map(str, spared.bad)) or "-", int(spared.keeps_blank), refused]
         self.running.stdin.write((" ".join(map(str, words)) + "\n").encode())
         self.running.stdin.flush()
@@ -130,6 +206,8 @@ class Case:
     # Whether allocations are refused, and how many were.
     is_starved: bool = False
     refusals: int = 0
+    # What was answered for updates.
+    came_up: collections.Counter = dataclasses.field(default_factory=collections.Counter)
 
     def put(self, name, data):
         path = f"{self.folder}/{name}"
@@ -209,26 +287,31 @@ class Case:
             return lines == ["same"]
         if name == "diff":
             return lines[:-1]
-        if name in ("change", "rename"):
-            rest, steps = pages, []
-            for line in lines[1:]:
+        if name in ("change", "rename", "update"):
+            rest, steps, first = pages, [], [line.startswith("steps ") for line in lines].index(True)
+            for line in lines[first + 1:]:
                 numbers = [int(word.partition("=")[2]) for word in line.split() if "=" in word]
                 if line.startswith("program"):
                     numbers.append(rest[:self.geometry.page])
                     rest = rest[self.geometry.page:]
                 steps.append(ubi.Step(*numbers))
-            return steps
+            return (lines[:first], steps) if name == "update" else steps
         return answer.decode()
 
     def look_call(self, name, words, paths, numbers, call, sizes=None, out=False, pages=False, spared=NOTHING_SPARED):
         """Compares the calls of both languages with the program."""
         sizes = sizes or sizes_of(self.geometry)
         right = self.program(words + spared.words(), sizes, out, pages)
+        self.look_right(name, paths, numbers, right, call, sizes, spared)
+        return right[0] == 0
+
+    def look_right(self, name, paths, numbers, right, call, sizes, spared):
+        """Compares the calls of both languages with what is right; without a CALL those of C alone."""
         self.look_c(name, sizes, paths, numbers, right, spared)
         if self.is_starved:
             self.refusals += self.look_refused(name, sizes, paths, numbers, right, spared)
-        self.look_python(name, right, lambda: call(ubi.Sizes(*sizes)))
-        return right[0] == 0
+        if call:
+            self.look_python(name, right, lambda: call(ubi.Sizes(*sizes)))
 
     def look_geometry(self, path):
         right = self.program(["geometry", path], ())
@@ -293,6 +376,53 @@ class Case:
         self.look_call("rename", words, [path, self.put("name", word.encode())], [named],
             lambda sizes: library.rename(sizes, image, named, given, **spared.given()), pages=True, spared=spared)
 
+    def updated(self, path, words, sizes, spared):
+        """What has to be answered for the edits of some words: what the program answers, if it does them in this order;
+        otherwise what update_rules.py says."""
+        order = [EDITS.index(word.option) for word in words]
+        if order == sorted(order) and not any("\0" in word.name + str(word.value) for word in words):
+            writing = [(k, word.value) for k, word in enumerate(words) if word.option == "write"]
+            written = {k: self.put(f"contents{k}", contents) for k, contents in writing}
+            given = [written.get(k, word.value) for k, word in enumerate(words)]
+            asked = [f"--{word.option}={word.name}{'' if value is None else f'={value}'}"
+                for word, value in zip(words, given)]
+            return self.program(["update", path, *asked, *spared.words()], sizes, pages=True)
+        try:
+            image = Image(self.geometry, self.image, lambda block: block in spared.bad)
+            image = image.keeping_blank() if spared.keeps_blank else image
+            edited = update_rules.Edited(image, [update_rules.edit_of(image, word) for word in words])
+            cause = next(update_rules.causes(image, edited), None)
+            if cause:
+                raise Refused(cause)
+        except Refused as refused:
+            return 1, f"refused {refused}\n".encode(), b""
+        update = update_rules.Update(image, edited)
+        return 0, "".join(update.lines()).encode(), rules.pages_of(update.steps)
+
+    def look_update(self, path, words, spared=NOTHING_SPARED, sizes=None):
+        """Compares an update, by a text for the edits of some words, mostly in the program's order; and by one that is
+        spoiled."""
+        rng, image, library, given = self.rng, self.image, self.library, spared.given()
+        words = [word for word in words if word.option in EDITS]
+        if rng.random() < 0.7:
+            words.sort(key=lambda word: EDITS.index(word.option))
+        for is_spoiled in (False, True):
+            text, contents = text_of(words)
+            if is_spoiled:
+                text, contents = spoiled(rng, text, contents)
+            asked, under, edits = read_text(text, contents), sizes or sizes_of(self.geometry), None
+            if isinstance(asked, int) and sizes is None:
+                right = 1, f"refused E1 BadEdit line={asked}\n".encode(), b""
+            else:
+                right = self.updated(path, words if isinstance(asked, int) else asked, under, spared)
+            if text.isascii() and not isinstance(asked, int) and asked == words:
+                edits = [edit_of(word, right[0] == 0 and rng.random() < 0.3) for word in words]
+            paths = [path, self.put("edits", text), self.put("contents", contents)]
+            call = edits is not None and (lambda sizes, edits=edits: library.update(sizes, image, edits, **given))
+            self.look_right("update", paths, [], right, call, under, spared)
+            said = right[1].decode().partition(" name=")[0].split()
+            self.came_up[" ".join(word for word in said[1:] if "=" not in word) if right[0] else "planned"] += 1
+
     def look(self):
         """Compares each call. Returns whether the image is accepted."""
         rng, image, other, library = self.rng, self.image, self.other, self.library
@@ -319,7 +449,11 @@ class Case:
                 self.look_call(name, [name, *files], files, [],
                     lambda sizes, n=name, a=one, b=two: getattr(library, n)(sizes, a, b))
         self.look_plans(path, meaning)
+        nothing = [Word("rename", "none", "\\"), Word("remove", "none")]
+        edits = updates.Asker(rng, meaning).words() if meaning else nothing
+        self.look_update(path, edits)
         wrong = rng.choice(NO_SIZES)
+        self.look_update(path, edits, sizes=wrong)
         self.look_call("check", check, [path], [], lambda sizes: library.check(sizes, image), sizes=wrong)
         self.look_call("normalise", normalise, [path], [],
             lambda sizes: library.normalise(sizes, image), sizes=wrong, out=True)
@@ -332,27 +466,38 @@ class Case:
 
 
 def look_random(rng, tool, folder, caller, library, sizes, is_starved=False):
-    """Compares the calls on a random image and on one that is like it. Returns whether it is accepted, and how many
-    allocations were refused."""
+    """Compares the calls on a random image and on one that is like it. Returns whether it is accepted, how many
+    allocations were refused, and what came up in updates."""
     maker = Maker(rng, sizes)
     image = Mutator(rng, maker.geometry, (0, 0, 1, 2)).mutate(maker.blocks)
     other = Changer(rng, maker.geometry, maker).right(list(maker.blocks))
     if rng.random() < 0.05:
         image = image[:rng.randrange(len(image) + 1)]
     case = Case(rng, tool, folder, caller, library, maker.geometry, image, other, is_starved)
-    return case.look(), case.refusals
+    return case.look(), case.refusals, case.came_up
 
 
 def look_spared(rng, tool, folder, caller, library):
-    """Compares plans for a random image with bad eraseblocks. Returns whether the image is accepted, and that no
-    allocation was refused."""
+    """Compares plans for a random image with bad eraseblocks. Returns whether the image is accepted, that no allocation
+    was refused, and that no update came up."""
     maker = Maker(rng, SIZES)
     image = Mutator(rng, maker.geometry, (0, 0, 0, 1)).mutate(maker.blocks)
     case = Case(rng, tool, folder, caller, library, maker.geometry, image, image)
     path, meaning = case.put("image", image), case.meaning()
     for _ in range(2):
         case.look_plans(path, meaning, case.spared())
-    return meaning is not None, 0
+    return meaning is not None, 0, case.came_up
+
+
+def look_updates(rng, tool, folder, caller, library, maker, asker):
+    """Compares updates of an image that updates.py draws. Returns whether it is accepted, that no allocation was
+    refused, and what came up."""
+    drawn = updates.Drawn(rng, None, folder, maker, asker)
+    case = Case(rng, tool, folder, caller, library, maker.geometry, drawn.data, drawn.data)
+    blocks = len(drawn.data) // maker.geometry.peb + 1
+    spared = Spared(tuple(block for block in range(blocks) if drawn.is_bad(block)), drawn.keeps_blank)
+    case.look_update(case.put("image", drawn.data), drawn.words, spared)
+    return case.meaning() is not None, 0, case.came_up
 
 
 def look_data(rng, tool, folder, caller, library):
@@ -392,13 +537,22 @@ def look_wrong(library):
     image, sizes = bytes(1024), ubi.Sizes(512, 64, 64, 128, 8)
     for wrong in (None, 0, image, ctypes.c_uint32(5), (512, 64, 64, 128, 8)):
         for name, rest in (("check", ()), ("list", ()), ("show", (0,)), ("map", ()), ("read", (0,)), ("normalise", ()),
-                ("same", (image,)), ("diff", (image,)), ("change", (0, 0, image)), ("rename", (0, "a"))):
+                ("same", (image,)), ("diff", (image,)), ("change", (0, 0, image)), ("rename", (0, "a")),
+                ("update", ([],))):
             if raised(lambda: getattr(library, name)(wrong, image, *rest)) != "TypeError":
                 raise Failure(f"{name} of Python takes {wrong!r} for sizes")
     for number in (-1, 2**32):
         if raised(lambda: library.rename(sizes, image, 0, "a", bad=[number])) != "ValueError":
             raise Failure(f"Python takes {number} for an eraseblock")
+    for edit in (None, "remove a", ubi.Step(0)):
+        if raised(lambda: library.update(sizes, image, [edit])) != "TypeError":
+            raise Failure(f"Python takes {edit!r} for an edit")
+    for edit in (ubi.Remove("a\nremove b"), ubi.Rename("a", "b\n"), ubi.Resize("a", "1\n")):
+        if raised(lambda: library.update(sizes, image, [edit])) != "ValueError":
+            raise Failure(f"Python takes {edit!r}")
     for data in (None, 5, "text"):
+        if raised(lambda: library.update(sizes, image, [ubi.Write("a", data)])) != "TypeError":
+            raise Failure(f"Python takes {data!r} for contents")
         if raised(lambda: library.list(sizes, data)) != "TypeError":
             raise Failure(f"Python takes {data!r} for an image")
 
@@ -479,7 +633,8 @@ def look_examples(tool, folder, made, checkers):
 
 def options():
     words = argparse.ArgumentParser(description=__doc__, formatter_class=argparse.RawDescriptionHelpFormatter)
-    for name, number in (("seed", 1), ("count", 200), ("large", 5), ("plans", 500), ("starved", 5), ("first", 0)):
+    for name, number in (("seed", 1), ("count", 200), ("large", 5), ("plans", 500), ("updates", 200),
+            ("large-updates", 2), ("starved", 5), ("first", 0)):
         words.add_argument(f"--{name}", type=int, default=number)
     words.add_argument("--dir", default="/tmp")
     words.add_argument("--tool")
@@ -498,13 +653,19 @@ def main():
         def looking(*more):
             return lambda rng, place: look_random(rng, tool, place, caller, library, *more)
 
+        def updating(maker, sizes, asker):
+            return lambda rng, place: look_updates(rng, tool, place, caller, library, maker(rng, sizes), asker)
+
         answers, failed = run_cases(words, {
             "": (looking(SIZES), words.count),
             "large ": (looking(REAL_SIZES), words.large),
             "plans ": (lambda rng, place: look_spared(rng, tool, place, caller, library), words.plans),
+            "updates ": (updating(updates.UpdateMaker, updates.SIZES, updates.Asker), words.updates),
+            "large updates ": (updating(updates.LargeMaker, REAL_SIZES, updates.LargeAsker), words.large_updates),
             "starved ": (looking(SIZES, True), words.starved),
         })
         accepted, refusals = (sum(answer[k] for answer in answers) for k in range(2))
+        came_up = sum((answer[2] for answer in answers), collections.Counter())
         rng = random.Random(words.seed)
         looks = {
             "the images of the repository": lambda: look_data(rng, tool, folder, caller, library),
@@ -521,6 +682,8 @@ def main():
             except Failure as failure:
                 print(f"{name}: {failure}", flush=True)
                 failed += 1
+    for what, count in sorted(came_up.items()):
+        print(f"{count:>6} {what}")
     print(f"{accepted} accepted, {refusals} allocations refused")
     finish(len(answers), failed)
 

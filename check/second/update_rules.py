@@ -32,20 +32,36 @@ class Word:
 
 
 @dataclasses.dataclass(frozen=True)
-class Edit:
-    """What a word stands for: the number of the volume, and what it gets: a name, a number of eraseblocks or contents;
-    nothing if it is removed."""
+class Section:
+    """A section of a config: the record that it gives its volume, the bytes of its image file, and its `vol_size`, if
+    it has one."""
 
-    word: Word
-    number: int
-    gets: bytes | int | None
+    record: Record
+    data: bytes
+    size: int | None
+    option = "config"
+
+    @property
+    def name(self):
+        return rules.shown(self.record.name)
+
+
+@dataclasses.dataclass(frozen=True)
+class Edit:
+    """What a word or a section stands for: the number of the volume, which a new one doesn't have yet, and what it
+    gets: a name, a number of eraseblocks, contents or a section; nothing if it is removed."""
+
+    word: Word | Section
+    number: int | None
+    gets: bytes | int | Section | None
 
 
 @dataclasses.dataclass(frozen=True)
 class Written:
-    """A volume that is written: the number of the one that it replaces, its record, and the bytes that are given."""
+    """A volume that is written: the number of the one that it replaces, if it replaces one, its record, and the bytes
+    that are given."""
 
-    replaces: int
+    replaces: int | None
     record: Record
     data: bytes
 
@@ -89,11 +105,6 @@ def new_size(image, record, size):
     return min(-(-size // record.usable(image.geometry)), TOP_RESERVED)
 
 
-def read_data(image, data):
-    """What is read of the bytes of a file: all of them, or one more than the device has."""
-    return data[: image.geometry.pebs * image.geometry.peb + 1]
-
-
 def edit_of(image, word):
     """The edit that a word stands for, by the table of the image."""
     number, gets = given(word, number_of(image, word), "U1 NoVolume"), None
@@ -102,13 +113,31 @@ def edit_of(image, word):
     if word.option == "resize":
         gets = new_size(image, image.records[number], given(word, size_of(word.value), "U9 BadSize"))
     if word.option == "write":
-        gets = read_data(image, word.value)
+        gets = word.value
     return Edit(word, number, gets)
 
 
+def named_after(image, edits, name):
+    """The number of the volume that has a name after some edits, none of which removes it; None if none has it."""
+    names = {number: record.name for number, record in image.records.items()}
+    for edit in edits:
+        if edit.word.option == "rename":
+            names[edit.number] = edit.gets
+    removed = {edit.number for edit in edits if edit.word.option == "remove"}
+    return next((number for number in sorted(names) if number not in removed and names[number] == name), None)
+
+
 def edits_of(image, words):
-    """The edits of some words, in the order in which they are done. The first word that stands for none is refused."""
-    return [edit_of(image, word) for option in OPTIONS for word in words if word.option == option]
+    """The edits of some words and sections, in the order in which they are done. The first word that stands for none
+    is refused."""
+    edits = [edit_of(image, word) for option in OPTIONS for word in words if word.option == option]
+    for section in sections_of(words):
+        edits.append(Edit(section, named_after(image, edits, section.record.name), section))
+    return edits
+
+
+def sections_of(words):
+    return [word for word in words if word.option == "config"]
 
 
 # What the edits make of the image.
@@ -148,9 +177,12 @@ class Edited:
     def __init__(self, image, edits):
         self.image, self.geometry = image, image.geometry
         self.kept, self.written = dict(image.records), []
-        of_option = {"rename": self.rename, "resize": self.resize, "remove": self.remove, "write": self.write}
+        of_option = {
+            "rename": self.rename, "resize": self.resize, "remove": self.remove, "write": self.write,
+            "config": self.put,
+        }
         for edit in edits:
-            if edit.number not in self.kept:
+            if edit.number is not None and edit.number not in self.kept:
                 raise Refused(f"U1 NoVolume name={edit.word.name}")
             of_option[edit.word.option](edit)
 
@@ -169,11 +201,17 @@ class Edited:
         del self.kept[edit.number]
 
     def write(self, edit):
-        record = dataclasses.replace(self.kept.pop(edit.number), marker=0)
+        self.put_volume(edit, dataclasses.replace(self.kept.pop(edit.number), marker=0), edit.gets)
+
+    def put(self, edit):
+        self.kept.pop(edit.number, None)
+        self.put_volume(edit, edit.gets.record, edit.gets.data)
+
+    def put_volume(self, edit, record, data):
         self.judge_record(edit, record)
-        if len(edit.gets) > record.reserved * record.usable(self.geometry):
+        if len(data) > record.reserved * record.usable(self.geometry):
             raise Refused(f"U3 TooLarge name={edit.word.name}")
-        self.written.append(Written(edit.number, record, edit.gets))
+        self.written.append(Written(edit.number, record, data))
 
     def judge_record(self, edit, record):
         fault = record_fault(self.geometry, record)
@@ -314,7 +352,8 @@ class Update(rules.Plan):
         """The lines that are printed."""
         for slot, volume in self.edited.placed().items():
             lebs, name = len(self.lebs[slot]), rules.shown(volume.record.name)
-            yield f"volume {slot} replaces {volume.replaces} lebs={lebs} name={name}\n"
+            replaced = "new" if volume.replaces is None else f"replaces {volume.replaces}"
+            yield f"volume {slot} {replaced} lebs={lebs} name={name}\n"
         yield from rules.plan_lines(self.steps)
 
 

@@ -12,7 +12,8 @@ eraseblocks.
 
 Up to four words ask for edits, spelled in all ways of docs/FORMAT.md. Most lists can be planned: volumes are written,
 renamed, sized and removed, also in one list; they swap their names, or take that of one that is removed. The others
-are spoiled, for each cause in turn.
+are spoiled, for each cause in turn. In three of ten a config gives one or two volumes more, which are new or replace
+others.
 
 The printed text, the status, the pages and the image after each number of steps have to be those of the rules. A
 refusal leaves the files as they were. rules.py judges each cut: it has to be accepted, and to mean the old before the
@@ -184,7 +185,31 @@ class Asker:
         words = self.right()
         for _ in range(rng.choice((0, 0, 0, 0, 0, 0, 1, 1, 1, 2))):
             words = rng.choice(self.spoilers)(rng.choice((words, words[:1])))
-        return rng.sample(words, len(words))[:4]
+        return rng.sample(words, len(words))[:4] + (self.sections(words) if rng.random() < 0.3 else [])
+
+    # Sections of a config.
+
+    def sections(self, words):
+        """One or two sections: mostly no more than there are fresh slots left, and with names that differ."""
+        rng, image = self.rng, self.image
+        left = len(update_rules.fresh_slots(image)) - sum(word.option == "write" for word in words)
+        plain = [name for name in (record.name for record in image.records.values()) if name.isalnum()]
+        plain += [name for name in (update_rules.name_of(word.value) for word in words if word.option == "rename")
+                  if name and name.isalnum()]
+        names = [rng.choice(plain) if plain and rng.random() < 0.6 else b"new%d" % rng.randrange(9) for _ in range(2)]
+        count = rng.choice((1, 1, 2)) if rng.random() < 0.1 else min(max(left, 1), rng.choice((1, 1, 2)))
+        return [self.section(name) for name in dict.fromkeys(names[:count])]
+
+    def section(self, name):
+        """A section of a small volume."""
+        rng, kind = self.rng, self.rng.choice((1, 1, 2))
+        flags = rng.choice((0, 0, 0, 0, 1) if kind == 1 else (0, 0, 2))
+        record = Record(1, 1, kind, 0, name, flags)
+        usable = record.usable(self.geometry)
+        data = self.contents(usable, rng.choice((1, 1, 2, 3))) or (b"" if kind == 2 else b"d")
+        size = rng.choice((None, max(1, len(data)), len(data) + rng.randrange(1, usable)))
+        reserved = max(1, -(-(len(data) if size is None else size) // usable))
+        return update_rules.Section(dataclasses.replace(record, reserved=reserved), data, size)
 
     # Words that mostly can be planned.
 
@@ -460,15 +485,17 @@ def kinds_of(update, words):
     """What comes up in a plan: which edits a volume gets, what is written and sized, which names and eraseblocks are
     taken, and a table whose last page is blank."""
     image, edits = update.image, update_rules.edits_of(update.image, words)
-    for number in sorted({edit.number for edit in edits}):
+    if any(edit.number is None for edit in edits):
+        yield "config, a new one"
+    for number in sorted({edit.number for edit in edits if edit.number is not None}):
         yield " and ".join(edit.word.option for edit in edits if edit.number == number)
     for slot, volume in update.edited.placed().items():
-        content, count = image.contents[volume.replaces], len(update.lebs[slot])
+        content, count = image.contents.get(volume.replaces, "new"), len(update.lebs[slot])
         yield f"write a {KINDS[volume.record.kind]} one: {('no LEB', 'one LEB', 'more LEBs')[min(count, 2)]}"
         yield f"write one that is {content if isinstance(content, str) else 'whole'}"
     for edit in edits:
-        old = image.records[edit.number].reserved
         if edit.word.option == "resize":
+            old = image.records[edit.number].reserved
             yield f"resize to {'more' if edit.gets > old else 'less' if edit.gets < old else 'the same'}"
     owners = {record.name: number for number, record in image.records.items()}
     if any(edit.word.option == "rename" and owners.get(edit.gets, edit.number) != edit.number for edit in edits):
@@ -510,10 +537,23 @@ class Case(Runner):
         self.keeps_blank, self.with_pages = False, True
 
     def ask(self, words, data):
-        """Takes words for an image, and writes the files that they name."""
+        """Takes words and sections for an image, and writes the files that they name."""
         self.words, self.lister = words, Lister(self.rng, self.geometry, data)
         written = {k: word.value for k, word in enumerate(words) if word.option == "write"}
         self.files = {k: self.put(f"contents{k}", contents) for k, contents in written.items()}
+        sections = update_rules.sections_of(words)
+        self.config = self.put("volumes.ini", self.config_text(sections)) if sections else None
+
+    def config_text(self, sections):
+        """A config with some sections, whose image files it writes."""
+        lines = []
+        for k, section in enumerate(sections):
+            self.put(f"image{k}", section.data)
+            lines += [f"[volume{k}]", "mode=ubi", f"image=image{k}", f"vol_id={k}"]
+            lines += [f"vol_name={section.record.name.decode()}", f"vol_type={KINDS[section.record.kind]}"]
+            lines += [] if section.size is None else [f"vol_size={section.size}"]
+            lines += {0: [], 1: ["vol_flags=autoresize"], 2: ["vol_flags=skip-check"]}[section.record.flags]
+        return "".join(f"{line}\n" for line in lines).encode()
 
     def read(self, data):
         image = super().read(data)
@@ -594,7 +634,9 @@ class Case(Runner):
     def update_words(self, path, *more, files=None, bad=None):
         """The words of the command; other FILES may be given, and another option that names the BAD eraseblocks."""
         rng, files = self.rng, files or self.files
-        edits = [part for k, word in enumerate(self.words) for part in self.option(word, files.get(k))]
+        words = [(k, word) for k, word in enumerate(self.words) if word.option != "config"]
+        edits = [part for k, word in words for part in self.option(word, files.get(k))]
+        edits += either(rng, "--config", self.config) if self.config else []
         keep = either(rng, "--blank", "keep") if self.keeps_blank else []
         pages = either(rng, "--pages", self.pages) if self.with_pages else []
         others = [*(bad or self.bad), *keep, "--out", self.out, *self.geometry.words(), *pages, *more]

@@ -13,7 +13,7 @@ ghost use Rattle.ubi_reading.specs.declared.comparison.Comparison.TheVariants as
 ghost use Rattle.ubi_reading.specs.declared.format.Format.TheVariants as format;
 ghost use Rattle.ubi_calls.specs.Calls.{Fills, FillsBoth, Streams, Under, printed};
 ghost use Rattle.ubi_calls.specs.Contents.{Normal, ReadsContents};
-ghost use Rattle.ubi_calls.specs.Edits.{PlansChange, PlansRename, image_without, spared};
+ghost use Rattle.ubi_calls.specs.Edits.{PlansChange, PlansRename, PlansUpdate, image_without, spared};
 
 use std::alloc::Global;
 use ubi_calls::DeviceSizes;
@@ -185,5 +185,28 @@ pub extern "C" fn ubi_rename(
 {
     ubi_calls::rename(
         alloc, sizes, image, bad, keep_blank, id, name, out, len, pages, pages_len,
+    )
+}
+
+/// The plan of edits of whole volumes in one commit, likewise: those for which the lines of a text ask, and the contents that they write,
+/// one after the other.
+#[unsafe(no_mangle)]
+pub extern "C" fn ubi_update(
+    alloc: Global,
+    sizes: &DeviceSizes,
+    image: &[u8],
+    bad: &[u32],
+    keep_blank: bool,
+    edits: &[u8],
+    contents: &[u8],
+    out: &mut [u8],
+    len: &mut usize,
+    pages: &mut [u8],
+    pages_len: &mut usize,
+) -> u32
+    ensures { FillsBoth (λ programmed. Under sizes.now (λ s. PlansUpdate (image_without s bad.now image.now) (spared s bad.now keep_blank) edits.now contents.now programmed)) out.old out.new len.new pages.old pages.new pages_len.new result }
+{
+    ubi_calls::update(
+        alloc, sizes, image, bad, keep_blank, edits, contents, out, len, pages, pages_len,
     )
 }

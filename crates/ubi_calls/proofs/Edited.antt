@@ -1,5 +1,6 @@
 -- What is answered for edits over memory, and what is handed over of their plans.
-use Rattle.ubi_calls.proofs.Prelude.{[], Bool, List, Some, ap, arith, length, subst, sym, take, ℕ, ◌==◌, ◌∙◌, ◌≡◌, ◌≢◌, ne_eqb, take_all, IfOk-at_ok, IfOk-weaker, Err, IfOk, None, Ok, Option, Result, if◌then◌else◌, AllocError, Sizes, first_broken, GeometryError, Gives, says, geometry_line, image_of, Narrows, holds, memory, still, programmed, Step, Outcome, ToolError, ChangesFrom, RenamesFrom, FillsBoth, MayTell, Under, bad_limit, both, neither, named_sizes, DeviceSizes, PlansChange, PlansRename, HandsPlan, given_pages, Avoided, IsNotBlank, ReadBlank, of_blocks}
+use Rattle.ubi_calls.proofs.Prelude.{[], Bool, List, ap, arith, length, subst, sym, take, ℕ, ◌==◌, ◌∙◌, ◌≡◌, ◌≢◌, ne_eqb, take_all, IfOk-at_ok, IfOk-weaker, Err, IfOk, None, Ok, Option, Result, if◌then◌else◌, AllocError, Sizes, first_broken, GeometryError, Gives, says, geometry_line, image_of, Narrows, holds, memory, still, programmed, Step, Outcome, ToolError, ChangesFrom, RenamesFrom, FillsBoth, MayTell, Under, bad_limit, both, neither, named_sizes, DeviceSizes, PlansChange, PlansRename, HandsPlan, given_pages, Avoided, IsNotBlank, ReadBlank, of_blocks}
+use Rattle.std.proofs.Common.{Some}
 use Rattle.ubi_change.proofs.Unplanned as planning
 use Rattle.ubi_change.proofs.Unrenamed as renaming
 use Rattle.ubi_writing.specs.Change as change
@@ -8,7 +9,7 @@ use Rattle.ubi_calls.proofs.ToldOutcomes.{at_sizes}
 use Rattle.ubi_calls.specs.Edits as edits
 
 -- where the status is 0 the pages are given
-given : (status : ℕ) (pages : List ℕ) (steps : List Step) → status ≡ 0 → pages ≡ programmed (take (length steps) steps)
+pub given : (status : ℕ) (pages : List ℕ) (steps : List Step) → status ≡ 0 → pages ≡ programmed (take (length steps) steps)
     → given_pages status pages ≡ programmed steps
 given status pages steps zero are =
     ap (λ (b : Bool). if b then pages else []) (ap (λ k. k == 0) zero) ∙ are ∙ ap programmed (take_all (length steps) steps (omega arith))
@@ -21,7 +22,7 @@ none_given status pages bad = ap (λ (b : Bool). if b then pages else []) (ne_eq
 module _ (s : Sizes) (image start left pages : List ℕ) (same : start ≡ image) (narrows : Narrows (holds start) (holds left))
     (old new : Option (List ℕ)) (av : Avoided) (blank : of_blocks ReadBlank (image_of s image) av) where
   -- so none of them is a cause
-  none_listed : (p : ℕ) → of_blocks IsNotBlank (image_of s start) av p → ⊥
+  pub none_listed : (p : ℕ) → of_blocks IsNotBlank (image_of s start) av p → ⊥
   none_listed p h =
       let is = subst (λ (b : List ℕ). of_blocks IsNotBlank (image_of s b) av p) same h in is.2 (blank p is.1 is.0)
 

@@ -1,5 +1,6 @@
 -- What a buffer that was filled from its beginning holds, and what is answered about it.
-use Rattle.ubi_calls.proofs.Prelude.{[], List, Some, ap, ap₂, append-nil, arith, drop, length, refl, subst, sym, take, ℕ, ◌++◌, ◌∙◌, ◌≡◌, ◌≢◌, ◌≤◌, drop_all, length-take, take-append-drop, take_all, Err, IfErr, Ok, Result, Outcome, ToolError, Streams, MayTell, ended, filled, no_memory, put_into, uncounted, Leaves, IsUnwritten, Writes, said, wrote}
+use Rattle.ubi_calls.proofs.Prelude.{[], List, ap, ap₂, append-nil, arith, drop, length, refl, subst, sym, take, ℕ, ◌++◌, ◌∙◌, ◌≡◌, ◌≢◌, ◌≤◌, drop_all, length-take, take-append-drop, take_all, Err, IfErr, Ok, Result, Outcome, ToolError, Streams, MayTell, ended, filled, no_memory, put_into, uncounted, Leaves, IsUnwritten, Writes, said, wrote}
+use Rattle.std.proofs.Common.{Some}
 use Rattle.ubi_files.specs.declared.outcome.ToolError.TheVariants as tool
 
 module _ (before out : List ℕ) (n : ℕ) (within : n ≤ length out) (room : length out ≡ length before)

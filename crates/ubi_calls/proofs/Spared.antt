@@ -1,5 +1,6 @@
 -- A plan for a chip is one for the image in which the bad eraseblocks read 0xFF.
-use Rattle.ubi_calls.proofs.Prelude.{◌≡◌, ◌∙◌, ℕ, List, ap, length, subst, sym, Sizes, Image, image_of, Avoided, masked, nil_from_length, masked_none, marks_by_number, image_without, spared, edit_plan, spared_plan, Edit, Spared}
+use Rattle.ubi_calls.proofs.Prelude.{◌≡◌, ◌∙◌, ℕ, List, ap, length, subst, sym, Sizes, Image, image_of, Avoided, masked, nil_from_length, masked_none, marks_by_number, image_without, spared, edit_plan, spared_plan, Spared}
+use Rattle.ubi_calls.specs.declared.plans.Edit.{Edit}
 
 -- without bad eraseblocks the image is as it is
 pub unmarked : (s : Sizes) (bad bytes : List ℕ) → length (marks_by_number s.pebs bad) ≡ 0 → image_of s bytes ≡ image_without s bad bytes

@@ -1,6 +1,5 @@
 -- What outcomes answer, under numbers, and what is handed over of them.
-use Rattle.ubi_calls.proofs.Prelude.{List, refl, subst, ℕ, ◌≡◌, IfOk-weaker, Err, IfOk, None, Ok, Result, AllocError, Sizes, first_broken, GeometryError, Gives, says, geometry_line, Outcome, Fills, Streams, MayTell, Under, bad_limit, ended, filled, no_memory, printed, named_sizes, uncounted, under, DeviceSizes, HandsOver}
-use Rattle.std.specs.Prelude.{Some}
+use Rattle.ubi_calls.proofs.Prelude.{List, refl, subst, ℕ, ◌≡◌, IfOk-weaker, Err, IfOk, None, Ok, Result, AllocError, Sizes, first_broken, GeometryError, Gives, says, geometry_line, Outcome, Fills, Streams, MayTell, Under, bad_limit, ended, filled, no_memory, printed, named_sizes, uncounted, under, DeviceSizes, HandsOver, Some}
 
 -- the outcome of work has what is told
 abbrev pub Tells : MayTell → Result Outcome AllocError → Type 0

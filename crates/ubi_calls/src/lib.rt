@@ -7,6 +7,7 @@
 
 mod answer;
 mod buffer;
+mod edit_lines;
 mod lines;
 mod numbers;
 mod plans;
@@ -15,5 +16,5 @@ mod streams;
 pub use answer::NO_MEMORY;
 pub use lines::{check, diff, geometry, list, map, same, show};
 pub use numbers::DeviceSizes;
-pub use plans::{change, rename};
+pub use plans::{change, rename, update};
 pub use streams::{normalise, read};

@@ -1,21 +1,24 @@
 //! The calls that plan an edit: the lines of its steps, and the pages that these program.
 
-ghost use Rattle.std.specs.Prelude.{◌≡◌, ◌≢◌, [], IfErr, IfOk, Ok};
+ghost use Rattle.std.specs.Prelude.{◌≡◌, ◌≢◌, ◌++◌, [], IfErr, IfOk, List, Ok, codes, length, true, ℕ};
+ghost use Rattle.ubi_files.specs.Answer.{Gives, says};
 ghost use Rattle.ubi_scan.specs.Image.{image_of, of_blocks};
 ghost use Rattle.ubi_change.specs.Avoided.{ReadBlank};
 ghost use Rattle.ubi_calls.specs.Calls.{FillsBoth, Under};
-ghost use Rattle.ubi_calls.specs.Edits.{PlansChange, PlansRename, image_without, spared};
+ghost use Rattle.ubi_calls.specs.EditLines.{AreAsksOf};
+ghost use Rattle.ubi_calls.specs.Edits.{PlansChange, PlansRename, PlansUpdate, image_without, spared, wrong_line};
 ghost use Rattle.ubi_calls.specs.inner.Editing.{HandsPlan, edit_plan, given_pages, spared_plan};
 
 use crate::answer::{NO_MEMORY, hand, limit_outcome, put_all};
+use crate::edit_lines::{NoEdits, asks_in};
 use crate::numbers::{DeviceSizes, geometry_of};
 use std::alloc::{AllocError, Global};
 use std::io;
 use ubi_change::Avoided;
-use ubi_files::{DONE, Outcome, ToolError, marks_by_number, mask};
+use ubi_files::{DONE, FAILED, Outcome, ToolError, marks_by_number, mask, put_number, put_word};
 use ubi_media::Geometry;
 use ubi_scan::MemorySource;
-use ubi_writing::{NewBytes, run_change_from, run_rename_from};
+use ubi_writing::{Ask, Edits, NewBytes, Pages, run_change_from, run_rename_from, run_update_from};
 
 /// An edit of an image.
 #[derive(Clone, Copy)]
@@ -24,6 +27,8 @@ enum Edit<'a> {
     Change(NewBytes<'a>),
     /// The name that a word shows for the volume with this number.
     Rename(u32, &'a [u8]),
+    /// The edits of whole volumes for which the lines of a text ask, and the contents that they write.
+    Update(&'a [u8], &'a [u8]),
 }
 
 /// What a plan spares on a chip.
@@ -119,6 +124,101 @@ fn plan_rename(
     outcome_of(work)
 }
 
+/// What is answered for a text whose line with this number is wrong.
+///
+/// # Errors
+///
+/// Memory ran out.
+fn wrong_outcome(alloc: Global, number: u64) -> Result<Outcome, AllocError>
+    ensures { IfOk result (λ o. Gives o (says (wrong_line number) 1)) }
+{
+    let mut line = Vec::new(alloc);
+    put_number(&mut line, "refused E1 BadEdit line=", number)?;
+    put_word(&mut line, "\n")?;
+    Ok(Outcome::saying(line, FAILED))
+}
+
+/// Whether a line says that contents can't be read.
+fn is_unread(text: &[u8]) -> bool
+    ensures { (path : List ℕ) → text.now ≡ codes "cannot read " ++ path → result ≡ true }
+{
+    text.starts_with(b"cannot read ")
+}
+
+/// Plans edits of whole volumes of an image: returns what is printed for them, and adds the pages that they program.
+///
+/// # Errors
+///
+/// Memory ran out.
+fn plan_asks(
+    alloc: Global,
+    geometry: &Geometry,
+    image: &[u8],
+    avoided: &Avoided<'_>,
+    asks: &[Ask<'_>],
+    contents: &[u8],
+    pages: &mut Vec<u8>,
+) -> Result<Outcome, AllocError>
+    requires empty { pages.old.items ≡ [] }
+    requires blank { of_blocks ReadBlank (image_of geometry.now image.now) avoided.now }
+    ensures { (text : List ℕ) → AreAsksOf text (length contents.now) asks.now
+        → IfOk result (λ o. PlansUpdate (image_of geometry.now image.now) avoided.now text contents.now (given_pages o.status pages.new.items) o.text.items o.status) }
+{
+    let asked = Edits {
+        asks,
+        volumes: &[],
+        paths: &[],
+    };
+    let mut source = MemorySource::new(image);
+    let mut nowhere = io::sink();
+    let mut made = Pages::of(alloc, MemorySource::new(contents));
+    let work = run_update_from(
+        alloc,
+        geometry,
+        &mut source,
+        avoided,
+        &asked,
+        None,
+        &mut nowhere,
+        &mut made,
+    );
+    let outcome = outcome_of(work)?;
+    // Contents in memory can be read, so only memory runs out.
+    if is_unread(outcome.text.as_slice()) || made.write_to(pages).is_err() {
+        return Err(AllocError);
+    }
+    Ok(outcome)
+}
+
+/// Plans the edits of whole volumes for which the lines of a text ask: returns what is printed for them, and adds the pages that they
+/// program.
+///
+/// # Errors
+///
+/// Memory ran out.
+fn plan_update(
+    alloc: Global,
+    geometry: &Geometry,
+    image: &[u8],
+    avoided: &Avoided<'_>,
+    text: &[u8],
+    contents: &[u8],
+    pages: &mut Vec<u8>,
+) -> Result<Outcome, AllocError>
+    requires empty { pages.old.items ≡ [] }
+    requires blank { of_blocks ReadBlank (image_of geometry.now image.now) avoided.now }
+    ensures { IfOk result (λ o. PlansUpdate (image_of geometry.now image.now) avoided.now text.now contents.now (given_pages o.status pages.new.items) o.text.items o.status) }
+{
+    match asks_in(alloc, text, contents.len() as u64) {
+        Ok(asks) => {
+            let asks = asks.as_slice();
+            plan_asks(alloc, geometry, image, avoided, asks, contents, pages)
+        }
+        Err(NoEdits::Line(number)) => wrong_outcome(alloc, number),
+        Err(NoEdits::Memory) => Err(AllocError),
+    }
+}
+
 /// Hands over what is printed for a plan, and its pages, if it is one; returns the status.
 fn hand_plan(
     answer: Result<Outcome, AllocError>,
@@ -170,6 +270,9 @@ impl Edit<'_> {
             Edit::Change(new) => plan_change(alloc, geometry, image, avoided, new, pages),
             Edit::Rename(id, word) => {
                 plan_rename(alloc, geometry, image, avoided, *id, word, pages)
+            }
+            Edit::Update(text, contents) => {
+                plan_update(alloc, geometry, image, avoided, text, contents, pages)
             }
         }
     }
@@ -290,4 +393,30 @@ pub fn rename(
 {
     let spared = Spared { bad, keeps_blank };
     Edit::Rename(id, word).tell(alloc, sizes, image, &spared, out, len, pages, pages_len)
+}
+
+/// The plan of edits of whole volumes in one commit on a chip with these bad eraseblocks. `text` has a line for each edit, done in this
+/// order: `rename NAME=NEW`, `resize NAME=SIZE`, `remove NAME`, or `write NAME=LENGTH`, where the volume's contents are the next so many bytes
+/// of `contents`, and `SIZE` is that of `update --resize`. Names are those in the image, in the form in which they are printed.
+///
+/// The answer is the lines of the volumes that are written, and of the steps, as `update` prints them with `--bad`, and with `--blank keep`
+/// if `keeps_blank`; and the pages that the steps program, in order. Or the line of the refusal, and no pages: E1 BadEdit comes first, with
+/// the first line that asks for no edit, or for more contents than are left, or with the one after the last if contents are left.
+pub fn update(
+    alloc: Global,
+    sizes: &DeviceSizes,
+    image: &[u8],
+    bad: &[u32],
+    keeps_blank: bool,
+    text: &[u8],
+    contents: &[u8],
+    out: &mut [u8],
+    len: &mut usize,
+    pages: &mut [u8],
+    pages_len: &mut usize,
+) -> u32
+    ensures { FillsBoth (λ programmed. Under sizes.now (λ s. PlansUpdate (image_without s bad.now image.now) (spared s bad.now keeps_blank) text.now contents.now programmed)) out.old out.new len.new pages.old pages.new pages_len.new result }
+{
+    let spared = Spared { bad, keeps_blank };
+    Edit::Update(text, contents).tell(alloc, sizes, image, &spared, out, len, pages, pages_len)
 }

@@ -1,5 +1,5 @@
 -- The steps of a plan of edits without the bytes that they program.
-use Rattle.ubi_change.proofs.Prelude.{Bool, FitsUpdate, Found, IsGeometry, Laying, LiesIn, List, Piece, Site, Sizes, Some, Step, UpdatePlan, VidHeader, [], ap, ap₂, arith, cond, copy_on, copy_steps, div-mul-add, div-mul-le_self, drop, ec_bytes, enumerate_from, false, first_chunks, fits, get_or, header_at, lay_on, lay_steps, layout_header, leb_size, length, map, map-append, mul-le, next_ec, pages_needed, pages_of, piece_bytes, plan_groups, program_header, program_text, refl, release_on, renew, slice_get, stays_on, subst, suc, sym, trimmed, true, whole_text, zero, ℕ, ◌*◌, ◌++◌, ◌+◌, ◌/◌, ◌<◌, ◌∙◌, ◌∷◌, ◌≡◌, ◌≤◌, ◌⊎◌, line_of, IsLaidFrom, IsOutline, AreNumbered, lay_lines, page_lines, release_lines, renew_lines}
+use Rattle.ubi_change.proofs.Prelude.{Bool, FitsUpdate, Found, IsGeometry, Laying, LiesIn, List, Piece, Site, Sizes, Some, Step, UpdatePlan, VidHeader, [], ap, ap₂, arith, cond, copy_on, copy_steps, div-mul-add, div-mul-le_self, drop, ec_bytes, enumerate_from, false, first_chunks, fits, get_or, header_at, lay_on, lay_steps, layout_header, leb_size, length, map, map-append, mul-le, next_ec, pages_needed, pages_of, piece_bytes, plan_groups, program_header, program_text, refl, release_on, renew, slice_get, stays_on, subst, suc, sym, trimmed, true, whole_text, zero, ℕ, ◌*◌, ◌++◌, ◌+◌, ◌/◌, ◌<◌, ◌∙◌, ◌∷◌, ◌≡◌, ◌≤◌, ◌⊎◌, line_of, IsLaidFrom, IsOutline, HavePageNumbers, lay_lines, page_lines, release_lines, renew_lines}
 use Rattle.ubi_change.specs.declared.step.Step.TheVariants as step
 use Rattle.ubi_change.proofs.GroupPlaces.{first_at, lay_at, second_at}
 use Rattle.ubi_change.proofs.PlanLaid.{AllCounted, IsCounted, all_counted, piece_short}
@@ -51,7 +51,7 @@ module _ (s : Sizes) (scan : Found) where
 
 -- so many pages, from where data begin, have numbers of 32 bits
 module _ (s : Sizes) (g : IsGeometry s) where
-  pub are_numbered : (count : ℕ) → count * s.page ≤ leb_size s → AreNumbered (s.data_offset / s.page) count
+  pub are_numbered : (count : ℕ) → count * s.page ≤ leb_size s → HavePageNumbers (s.data_offset / s.page) count
   are_numbered count fits =
       let a = div-mul-le_self s.data_offset s.page in
       let b = mul-le (s.data_offset / s.page) 1 (s.data_offset / s.page) s.page (omega arith) (let p = g.page_from in omega (arith, p)) in
@@ -94,9 +94,9 @@ module _ (s : Sizes) (size : ℕ) (p : UpdatePlan) (fits : FitsUpdate s size p) 
         ∙ div-mul-add n s.page 0 (let f = fits.sound.page_from in omega (arith, f))
         ∙ sym counted.pages
 
-    pub laid_numbered : AreNumbered (s.data_offset / s.page) (get_or ls k d).pages
+    pub laid_numbered : HavePageNumbers (s.data_offset / s.page) (get_or ls k d).pages
     laid_numbered =
-        subst (AreNumbered (s.data_offset / s.page)) pages
+        subst (HavePageNumbers (s.data_offset / s.page)) pages
         (are_numbered s fits.sound (pages_of s (trimmed s (piece_bytes s contents q)))
         (pages_in s fits.sound (trimmed s (piece_bytes s contents q))
         (let e = trimmed_room s fits.sound (piece_bytes s contents q) few in omega (arith, e))))
@@ -111,7 +111,7 @@ module _ (s : Sizes) (size : ℕ) (p : UpdatePlan) (fits : FitsUpdate s size p) 
               ∙ sym (lay_lined s p.surveyed.scan (get_or ts k t) (header_at s p.surveyed.scan contents (0 + k) q) (trimmed s (piece_bytes s contents q))),
         )
 
-  pub table_numbered : AreNumbered (s.data_offset / s.page) (pages_of s p.pages.items)
+  pub table_numbered : HavePageNumbers (s.data_offset / s.page) (pages_of s p.pages.items)
   table_numbered = are_numbered s fits.sound (pages_of s p.pages.items) (pages_in s fits.sound p.pages.items fits.fit)
 
   abbrev copy_lines : Site → Site → List Step

@@ -1,5 +1,5 @@
 -- A plan works on no listed eraseblock: what is taken isn't listed, and what holds a copy isn't Blank.
-use Rattle.ubi_change.proofs.Prelude.{◌≡◌, ℕ, zero, suc, Bool, false, List, [], ◌∷◌, get_or, refl, ap, ◌∙◌, arith, None, Option, Some, find, option_map, option_or, slice_get, slice_index, slice_get-get_or, none_passes, Sizes, Image, eraseblocks, of_blocks, layout, found_wins, IsSurvey, Seen, AttachValue, records_of, avoiding, Avoided, ReadBlank, is_listed, states_avoiding, takeable, Site, AreHolders, first_taken, site_at, UpdatePlan, IsBeside, listed_in, listed_site, none_found, All}
+use Rattle.ubi_change.proofs.Prelude.{◌≡◌, ℕ, zero, suc, Bool, false, List, [], ◌∷◌, get_or, refl, ap, ◌∙◌, arith, None, Option, Some, find, option_map, option_or, slice_index, slice_get-get_or, none_passes, Sizes, Image, eraseblocks, of_blocks, layout, found_wins, IsSurvey, Seen, AttachValue, records_of, avoiding, Avoided, ReadBlank, is_listed, states_avoiding, takeable, Site, AreHolders, first_taken, site_at, UpdatePlan, IsBeside, listed_in, listed_site, none_found, All}
 use Rattle.std.specs.FinMap as finite
 use Rattle.ubi_change.proofs.AvoidedKept.{taken_may, winner_may}
 use Rattle.ubi_change.proofs.Choosing.{may_be_taken}

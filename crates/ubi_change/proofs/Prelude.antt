@@ -149,7 +149,7 @@ pub use Rattle.ubi_change.specs.EditsAsked.{all_asked, asked, first_beyond, is_b
 pub use Rattle.ubi_change.specs.Fitting.{AllFit, AllWithin, FitsBlock, fits, only_clears, page_of}
 pub use Rattle.ubi_change.specs.Frugal.{CountsErases, IsFrugal, TouchesOnly, counter_after, erases, given_up, touched}
 pub use Rattle.ubi_change.specs.Laws.{AcceptsHarmed, AcceptsTorn, CommitAvoiding, CommitSurvives, CommitSurvivesTears, EditsAllowed, PlanSurvives, PlanSurvivesTears, RenameSurvives, RenameSurvivesTears, left}
-pub use Rattle.ubi_change.specs.Laying.{IsReadOfPiece, StaysOpen, after_contents, all_layings, contents_error, laying_of, laying_with, layings_of, piece_bytes}
+pub use Rattle.ubi_change.specs.Laying.{IsReadOfPiece, StaysOpen, after_contents, all_layings, laying_of, laying_with, layings_of, piece_bytes}
 pub use Rattle.ubi_change.specs.Order.{ComesFirst, Erases, NoErase, Programs, RisesBetweenErases}
 pub use Rattle.ubi_change.specs.Pages.{PagesCarry, line_of, programmed, with_pages}
 pub use Rattle.ubi_change.specs.Placed.{autoresized_twice, edited_parts, edited_records, flagged_twice, free_slots, is_free, parts_of, records_with}
@@ -192,9 +192,9 @@ pub use Rattle.ubi_change.specs.declared.written_out.Ready.{Ready}
 pub use Rattle.ubi_change.specs.inner.Drafting.{TellsUsed}
 pub use Rattle.ubi_change.specs.inner.Judging.{IsFirstJudged, IsJudged, IsMade, IsUnjudged}
 pub use Rattle.ubi_change.specs.inner.Known.{AreWholes, IsKnown, is_whole_case}
-pub use Rattle.ubi_change.specs.inner.Laying.{IsContentsError, IsPartReadable, IsPartUnread}
+pub use Rattle.ubi_change.specs.inner.Laying.{IsContentsError, IsPartReadable, IsPartUnread, contents_error}
 pub use Rattle.ubi_change.specs.inner.Making.{AreSites, AreStepsOf, FitsPrepared, IsPrepared, IsSitesRefusal, IsTarget, IsTooFew, IsUnplanned, change_error, change_needs, image_causes, own_causes, shown, steps_on, target_header}
-pub use Rattle.ubi_change.specs.inner.Outline.{AreNumbered, lay_lines, page_lines, release_lines, renew_lines}
+pub use Rattle.ubi_change.specs.inner.Outline.{HavePageNumbers, lay_lines, page_lines, release_lines, renew_lines}
 pub use Rattle.ubi_change.specs.inner.Ready.{IsReady, IsSitesError, IsUnready}
 pub use Rattle.ubi_change.specs.inner.Renaming.{AreHolders, AreHoldersOf, rename_cause, rename_error}
 pub use Rattle.ubi_change.specs.inner.Sites.{IsSiteAt, ready_on, site_at}

@@ -11,9 +11,6 @@ use Rattle.ubi_change.specs.CommitPlan.{whole_text}
 use Rattle.ubi_change.specs.Weak.{pages_needed}
 use Rattle.ubi_change.specs.declared.errors.ContentsError.{ContentsError}
 use Rattle.ubi_change.specs.declared.errors.ContentsError.TheVariants as contents
-use Rattle.ubi_change.specs.declared.errors.UpdateError.{UpdateError}
-use Rattle.ubi_change.specs.declared.errors.UpdateError.TheVariants as error
-use Rattle.ubi_change.specs.declared.errors.UpdateRefusal.TheVariants as refusal
 use Rattle.ubi_change.specs.declared.laying.Laying.{Laying}
 
 module _ (s : Sizes) (bytes : List ℕ) where
@@ -46,11 +43,6 @@ after_contents k _ = k
 pub record StaysOpen (old new : Source) : Type 0 where
   pub size : new.size ≡ old.size
   pub held : new.held ≡ old.held
-
--- what an error of contents says about a plan, if the i-th of the volumes that are written was read
-abbrev pub contents_error : ℕ → ContentsError → UpdateError
-contents_error i (contents.Read id) = error.Contents i
-contents_error i contents.Memory = error.Refused refusal.Memory
 
 -- a read of a piece failed, which began at this place
 abbrev pub IsReadOfPiece : Sizes → Piece → ℕ → ContentsError → Type 0

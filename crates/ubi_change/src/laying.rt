@@ -2,9 +2,9 @@
 
 ghost use Rattle.std.specs.List.{AllByRecursion, cons_option};
 ghost use Rattle.std.specs.Prelude.{◌≡◌, ◌++◌, [], IfErr, IfOk, IfSome, OnOk, length};
-ghost use Rattle.ubi_change.specs.Laying.{after_contents, all_layings, contents_error, laying_of, layings_of};
+ghost use Rattle.ubi_change.specs.Laying.{after_contents, all_layings, laying_of, layings_of};
 ghost use Rattle.ubi_change.specs.UpdatePlan.{contents_after_update};
-ghost use Rattle.ubi_change.specs.inner.Laying.{IsContentsError, IsPartUnread, IsPartReadable};
+ghost use Rattle.ubi_change.specs.inner.Laying.{IsContentsError, IsPartUnread, IsPartReadable, contents_error};
 ghost use Rattle.ubi_change.specs.Laying.{IsReadOfPiece};
 ghost use Rattle.ubi_laid.specs.Pieces.{IsInBuffer, LiesIn};
 ghost use Rattle.ubi_scan.specs.Source.{Narrows, WhereHeld};

@@ -3,7 +3,7 @@
 ghost use Rattle.std.specs.Prelude.{◌≡◌, ℕ, ◌/◌, ◌+◌, ◌++◌, ◌∷◌, ◌<◌, ◌≤◌, [], IfOk, List, OnOk, length};
 ghost use Rattle.ubi_change.specs.UpdatePlan.{FitsUpdate, IsLaidFrom, IsOutline};
 ghost use Rattle.ubi_change.specs.declared.step.Step.{Step};
-ghost use Rattle.ubi_change.specs.inner.Outline.{AreNumbered, lay_lines, page_lines, release_lines, renew_lines};
+ghost use Rattle.ubi_change.specs.inner.Outline.{HavePageNumbers, lay_lines, page_lines, release_lines, renew_lines};
 
 use crate::copies::Holders;
 use crate::sites::Site;
@@ -35,7 +35,7 @@ fn push_pages(
     first: u32,
     count: u32,
 ) -> Result<(), AllocError>
-    ensures { OnOk result (AreNumbered first count → steps.new.items ≡ steps.old.items ++ page_lines p first count) }
+    ensures { OnOk result (HavePageNumbers first count → steps.new.items ≡ steps.old.items ++ page_lines p first count) }
 {
     for page in first..first.saturating_add(count) {
         push_page(alloc, steps, p, page)?;
@@ -59,7 +59,7 @@ fn push_lay(
     site: &Site,
     count: u32,
 ) -> Result<(), AllocError>
-    ensures { OnOk result (AreNumbered (geometry.now.data_offset / geometry.now.page) count → steps.new.items ≡ steps.old.items ++ lay_lines geometry.now site.now count) }
+    ensures { OnOk result (HavePageNumbers (geometry.now.data_offset / geometry.now.page) count → steps.new.items ≡ steps.old.items ++ lay_lines geometry.now site.now count) }
 {
     if !site.is_clean {
         push_renewed(alloc, steps, site.pnum)?;

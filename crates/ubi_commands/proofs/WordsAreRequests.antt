@@ -321,14 +321,16 @@ module _ (s : Shape) (rows : List Row) (given : AreGiven s rows) where
       let sizes = texts_in rows (codes "resize") in
       let removals = texts_in rows (codes "remove") in
       let contents = texts_in rows (codes "write") in
+      let config = text_in (codes "config") in
       let update : Update = record {
         plan = p.0;
         names = names.0;
         sizes = sizes.0;
         removals = removals.0;
         contents = contents.0;
+        config = config.0;
       } in
-      (request.Update n.0 update, refl, (n.1, (p.1, names.1, sizes.1, removals.1, contents.1)))
+      (request.Update n.0 update, refl, (n.1, (p.1, names.1, sizes.1, removals.1, contents.1, config.1)))
 
 -- ---- whichever command was met
 

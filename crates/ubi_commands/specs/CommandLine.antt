@@ -166,3 +166,4 @@ AsksUpdate words update = AsksPlan words update.plan
     × HasTexts words (codes "resize") update.sizes.now
     × HasTexts words (codes "remove") update.removals.now
     × HasTexts words (codes "write") update.contents.now
+    × MayHaveText words (codes "config") update.config

@@ -1,5 +1,5 @@
 -- The commands: a row for each, with what it takes, what its words ask for, what it can answer, and which files it leaves alone.
-use Rattle.std.specs.Prelude.{◌≡◌, ◌∷◌, ◌++◌, [], All, List, Option, Some, codes, false, true, ℕ}
+use Rattle.std.specs.Prelude.{◌≡◌, ◌∷◌, ◌++◌, [], All, IfSome, List, Option, Some, codes, false, true, ℕ}
 use Rattle.clap.specs.Faults.{fault_of}
 use Rattle.clap.specs.Simple.{App, Shape, new_rule, new_shape, subcommand_of}
 use Rattle.clap.specs.Walk.{Row, Text}
@@ -10,7 +10,7 @@ use Rattle.ubi_commands.specs.CommandLine.{AsksAsked, AsksChange, AsksDump, Asks
 use Rattle.ubi_reading.specs.Comparisons.{ComparesOf, comparison_format}
 use Rattle.ubi_writing.specs.Asks.{value_in}
 use Rattle.ubi_writing.specs.Compose.{ComposesInto}
-use Rattle.ubi_writing.specs.Contents.{OfContents, all_asks}
+use Rattle.ubi_writing.specs.Contents.{OfConfig, OfContents, all_asked_edits, config_path}
 use Rattle.ubi_files.specs.Disk.{AllStay, Files, OthersStay, OutsideStay, Stays}
 use Rattle.ubi_files.specs.Dump.{greatest_dump}
 use Rattle.ubi_writing.specs.Extract.{ExtractsOf, HasTextIn}
@@ -239,11 +239,13 @@ said_of (request.Update dump update_it) =
       command = update;
       asks = λ words. AsksDump words dump × AsksUpdate words update_it;
       answers = λ d e o. WithList d e dump.bad image (OnGrid d e dump image (OfFile d dump image
-          (λ s k agrees. OfContents d dump.numbers update_it.contents.now
-          (λ fs bytes. WritesPlan out plan.pages d e
-          (UpdatesFrom kept (all_asks update_it fs) bytes plan.stop s k agrees)
-          (HasUpdate kept (all_asks update_it fs) bytes s k agrees))))) o × KeepsImage d e image o;
-      leaves = λ d e. PlanStays d e plan × All (λ word. Stays d e (value_in word.now)) update_it.contents.now × KeepsPart d e dump image;
+          (λ s k agrees. OfConfig d dump.numbers update_it.config
+          (λ xs. OfContents d dump.numbers update_it.contents.now (config_path update_it.config) xs
+          (λ fs gs bytes. WritesPlan out plan.pages d e
+          (UpdatesFrom kept (all_asked_edits update_it xs fs gs) bytes plan.stop s k agrees)
+          (HasUpdate kept (all_asked_edits update_it xs fs gs) bytes s k agrees)))))) o × KeepsImage d e image o;
+      leaves = λ d e. PlanStays d e plan × All (λ word. Stays d e (value_in word.now)) update_it.contents.now
+          × IfSome update_it.config (λ path. Stays d e path.now) × KeepsPart d e dump image;
     }
 
 -- the name of the command that makes a request

@@ -75,9 +75,9 @@ on_image need name rules = command need name (image_part ++ option (codes "oob")
 abbrev pub plan_options : List Rule
 plan_options = number (codes "stop") ∷ option (codes "blank") ∷ option (codes "pages") ∷ []
 
--- the options of edits of whole volumes: their contents, names and sizes, and which are removed
+-- the options of edits of whole volumes: their contents, a config of such, names and sizes, and which are removed
 abbrev pub edit_options : List Rule
-edit_options = texts (codes "write") ∷ texts (codes "rename") ∷ texts (codes "resize") ∷ texts (codes "remove") ∷ []
+edit_options = texts (codes "write") ∷ option (codes "config") ∷ texts (codes "rename") ∷ texts (codes "resize") ∷ texts (codes "remove") ∷ []
 
 -- the words of `extract` name the volume exactly once
 abbrev pub HasOneVolume : Option (Text × List Row) → Type 0

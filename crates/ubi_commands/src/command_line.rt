@@ -154,8 +154,8 @@ const IMAGE_PAGES: &[Argument] = &[OOB, BAD];
 /// The file of a new image, and what isn't said in its description.
 const NEW_IMAGE: &[Argument] = &[OUT, SPARES, SEQ];
 
-/// What is asked of the volumes of an image, each as often as wanted.
-const EDITS: &[Argument] = &[WRITE, RENAME, RESIZE, REMOVE];
+/// What is asked of the volumes of an image, each as often as wanted but the config.
+const EDITS: &[Argument] = &[WRITE, VOLUMES, RENAME, RESIZE, REMOVE];
 
 /// What a plan does with its steps.
 const PLAN: &[Argument] = &[STOP, BLANK, PAGES];
@@ -321,6 +321,13 @@ const WRITE: Argument = Argument(
     "write",
     Texts("NAME=FILE"),
     "New contents of the volume NAME, which the file holds",
+);
+
+const VOLUMES: Argument = Argument(
+    Optional,
+    "config",
+    Text("CONFIG"),
+    "Config of ubinize: its volumes take the places of those that have their names, or are new",
 );
 
 const RENAME: Argument = Argument(

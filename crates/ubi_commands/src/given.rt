@@ -98,6 +98,7 @@ pub fn volume_edits<'a>(matches: &'a ArgMatches<'_>) -> Option<Update<'a>>
         sizes: texts_of(matches, "resize"),
         removals: texts_of(matches, "remove"),
         contents: texts_of(matches, "write"),
+        config: may_text_of(matches, "config"),
     })
 }
 

@@ -1,5 +1,5 @@
 -- What is answered, for whatever a source of contents may hold.
-use Rattle.ubi_writing.proofs.Prelude.{◌⊎◌, inl, inr, Receives, ◌≡◌, ℕ, List, IfErr, IfOk, Option, Result, Ok, Err, Agreed, Source, WhereHeld, memory, StaysOpen, Sizes, Avoided, Files, HasUpdate, HasWork, HasWorkOf, IsUpdateFault, Made, Outcome, ToolError, WritesInto, pages_made, unwritten, ap, writes, writes_of, written, Ask, Writing, [], subst, ◌∙◌, Some}
+use Rattle.ubi_writing.proofs.Prelude.{Agreed, Avoided, Err, Files, HasUpdate, HasWork, HasWorkOf, IfErr, IfOk, IsUpdateFault, List, Made, Ok, Option, Outcome, Receives, Result, Sizes, Some, Source, StaysOpen, ToolError, WhereHeld, WritesInto, Writing, [], ap, inl, inr, memory, pages_made, subst, unwritten, writes, writes_of, written, ℕ, ◌∙◌, ◌≡◌, ◌⊎◌, AskedEdits}
 use Rattle.ubi_files.specs.declared.outcome.ToolError.TheVariants as tool
 
 -- an answer that doesn't depend on contents is that for all
@@ -23,11 +23,11 @@ each_done A P (Ok o) h = λ is bytes held. h bytes held is
 each_done A P (Err e) h = tt
 
 -- a write failed, so there was something to write
-pub update_failed : (av : Avoided) (asks : List Ask) (contents : List ℕ) (stop : Option ℕ) (s : Sizes) (k : Source) (agrees : Agreed) (old now : Option (List ℕ))
-    (r : Result Outcome ToolError) → IfErr r (IsUpdateFault av asks contents stop s k agrees old now) → r ≡ Err tool.Write
-    → HasUpdate av asks contents s k agrees
-update_failed av asks contents stop s k agrees old now r h is =
-    let fault : IsUpdateFault av asks contents stop s k agrees old now tool.Write = subst (λ x. IfErr x (IsUpdateFault av asks contents stop s k agrees old now)) is h in
+pub update_failed : (av : Avoided) (w : AskedEdits) (contents : List ℕ) (stop : Option ℕ) (s : Sizes) (k : Source) (agrees : Agreed) (old now : Option (List ℕ))
+    (r : Result Outcome ToolError) → IfErr r (IsUpdateFault av w contents stop s k agrees old now) → r ≡ Err tool.Write
+    → HasUpdate av w contents s k agrees
+update_failed av w contents stop s k agrees old now r h is =
+    let fault : IsUpdateFault av w contents stop s k agrees old now tool.Write = subst (λ x. IfErr x (IsUpdateFault av w contents stop s k agrees old now)) is h in
     (fault.0, fault.1, fault.2)
 
 -- what is written into a file for all that the source may hold is so for each

@@ -1,27 +1,28 @@
 -- The files that are to be contents of volumes, one after the other.
-use Rattle.ubi_writing.proofs.Prelude.{IfSome, known_by, ◌<◌, ◌+◌, get_or, subst, Numbers, Outcome, ◌≡◌, ◌∙◌, ◌++◌, ◌∷◌, ℕ, List, [], Option, ap, length, map, refl, sum_by-append, sym, all_append, map-append, Bor, Files, Sizes, Ask, fold-append, value_in, Filled, IsContentsFile, IsFilled, all_asks, all_bytes, named_asks, with_contents, IsFilledBy, Contents, Update, All-contains_itself, IsUnread, IsUnfilled, arith}
+use Rattle.ubi_writing.proofs.Prelude.{All-contains_itself, Ask, Bor, Contents, Files, Filled, Global, IfSome, IsFilled, IsFilledBy, IsUnfilled, IsUnread, List, Numbers, Option, Outcome, Sizes, Update, Vec, [], all_append, ap, arith, fold-append, get_or, known_by, length, map, map-append, named_asks, refl, string_bytes, subst, sum_by, sum_by-append, sym, told, value_in, with_contents, ℕ, ◌++◌, ◌+◌, ◌<◌, ◌∙◌, ◌∷◌, ◌≡◌, IsOpenedAt, NewVolume}
 use Rattle.ubi_writing.specs.declared.asks.Ask.TheVariants as ask
 
 module _ (d : Files) (s : Sizes) (u : Update) where
-  pub none_filled : (c : Contents) (bytes : List (Option (List ℕ))) → c.asks.items ≡ named_asks u → c.total ≡ 0 → c.paths.items ≡ [] → bytes ≡ []
+  pub none_filled : (c : Contents) (bytes : List (Option (List ℕ))) → c.asks.items ≡ named_asks u → c.volumes.items ≡ [] → c.total ≡ 0 → c.paths.items ≡ [] → bytes ≡ []
       → IsFilledBy d s u [] c bytes
-  none_filled c bytes asks total paths none = record {
+  none_filled c bytes asks volumes total paths none = record {
     filled = [];
     are = record { named = refl; held = tt };
     asks = rw (asks, total) refl;
+    volumes = volumes;
     total = total;
     held = none;
-    paths = ap (map (λ p. p.now)) paths;
+    paths = ap (map string_bytes) paths;
   }
 
   pub one_filled : (words : List (Bor (List ℕ))) (word path : Bor (List ℕ)) (len : ℕ) (bytes : Option (List ℕ)) (c later : Contents)
-      (before after : List (Option (List ℕ))) → IsFilledBy d s u words c before → IsContentsFile d s path.now len bytes → path.now ≡ value_in word.now
-      → later.asks.items ≡ c.asks.items ++ ask.Contents word c.total len ∷ [] → later.total ≡ c.total + len
-      → later.paths.items ≡ c.paths.items ++ path ∷ [] → after ≡ before ++ bytes ∷ [] → IsFilledBy d s u (words ++ word ∷ []) later after
-  one_filled words word path len bytes c later before after so_far opened named asks total paths is =
+      (before after : List (Option (List ℕ))) → IsFilledBy d s u words c before → IsOpenedAt d s path.now len bytes → path.now ≡ value_in word.now
+      → later.asks.items ≡ c.asks.items ++ ask.Contents word c.total len ∷ [] → later.volumes ≡ c.volumes → later.total ≡ c.total + len
+      → map string_bytes later.paths.items ≡ map string_bytes c.paths.items ++ path.now ∷ [] → after ≡ before ++ bytes ∷ [] → IsFilledBy d s u (words ++ word ∷ []) later after
+  one_filled words word path len bytes c later before after so_far opened named asks volumes total paths is =
       let f : Filled = record { word = word; len = len; held = bytes } in
       let fs = so_far.filled in
-      let filled : IsFilled d s f = opened word (sym named) in
+      let filled : IsFilled d s f = subst (λ (p : List ℕ). IsOpenedAt d s p len bytes) named opened in
       record {
         filled = fs ++ f ∷ [];
         are = record {
@@ -31,24 +32,20 @@ module _ (d : Files) (s : Sizes) (u : Update) where
         asks =
             rw (asks, total) (ap (λ (x : List Ask × ℕ). with_contents x f) so_far.asks)
             ∙ sym (fold-append with_contents (named_asks u, 0) fs (f ∷ []));
+        volumes = ap (λ (vs : Vec NewVolume Global). vs.items) volumes ∙ so_far.volumes;
         total =
             total ∙ ap (λ n. n + len) so_far.total
-            ∙ (let one : all_bytes fs + len ≡ all_bytes fs + all_bytes (f ∷ []) = omega arith in one)
+            ∙ (let one : sum_by (λ (x : Filled). x.len) fs + len ≡ sum_by (λ (x : Filled). x.len) fs + sum_by (λ (x : Filled). x.len) (f ∷ []) =
+            omega arith in one)
             ∙ sym (sum_by-append (λ (x : Filled). x.len) fs (f ∷ []));
         held =
             is ∙ ap (λ (xs : List (Option (List ℕ))). xs ++ bytes ∷ []) so_far.held
             ∙ sym (map-append (λ (x : Filled). x.held) fs (f ∷ []));
         paths =
-            ap (map (λ p. p.now)) paths ∙ map-append (λ (p : Bor (List ℕ)). p.now) c.paths.items (path ∷ [])
-            ∙ ap (λ (ps : List (List ℕ)). ps ++ path.now ∷ []) so_far.paths
+            paths ∙ ap (λ (ps : List (List ℕ)). ps ++ path.now ∷ []) so_far.paths
             ∙ ap (λ (p : List ℕ). map (λ w. value_in w.now) words ++ p ∷ []) named
             ∙ sym (map-append (λ (w : Bor (List ℕ)). value_in w.now) words (word ∷ []));
       }
-
-  -- all that is asked
-  pub asks_filled : (words : List (Bor (List ℕ))) (c : Contents) (bytes : List (Option (List ℕ))) (by : IsFilledBy d s u words c bytes)
-      → c.asks.items ≡ all_asks u by.filled
-  asks_filled words c bytes by = ap (λ (so_far : List Ask × ℕ). so_far.0) by.asks
 
 -- a file that can't be read is that of a word
 pub unread_word : (numbers : Numbers) (words : List (Bor (List ℕ))) (i : ℕ) (d : Bor (List ℕ)) (path : List ℕ) → i < length words

@@ -1,4 +1,5 @@
 pub mod AnyContents
+pub mod AskedVolumes
 pub mod AtOnce
 pub mod BuiltInto
 pub mod ByteVectors
@@ -11,6 +12,7 @@ pub mod FilledContents
 pub mod FolderConfigs
 pub mod GatheredParts
 pub mod Hexadecimals
+pub mod ImagedVolumes
 pub mod Into
 pub mod KeptReads
 pub mod MadeGroups

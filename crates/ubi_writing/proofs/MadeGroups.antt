@@ -1,5 +1,5 @@
 -- The groups of a plan of edits, one after the other: their lines, how many steps they have, and the pages that the first steps program.
-use Rattle.ubi_writing.proofs.Prelude.{ap₂, refl, append_assoc, codes, drop, plan_lines, Err, Ok, Result, Source, StaysOpen, ContentsError, after_contents, ◌≡◌, ℕ, ◌+◌, ◌<◌, List, [], ◌∷◌, ◌++◌, length, map, take, ap, sym, ◌∙◌, subst, arith, Some, slice_get, get_or_from_slice_get, length-append, map-append, take_more, flat_map, flat_map-append, Appends, Appends-trans, Option, Step, programmed, in_order, step_line, ◌-◌, decimal, length-take-le, in_order_more, line_of, first_of_both}
+use Rattle.ubi_writing.proofs.Prelude.{ap₂, refl, append_assoc, codes, plan_lines, Err, Ok, Result, Source, StaysOpen, ContentsError, after_contents, ◌≡◌, ℕ, ◌+◌, ◌<◌, List, [], ◌∷◌, ◌++◌, length, map, take, ap, sym, ◌∙◌, subst, arith, Some, slice_get, get_or_from_slice_get, length-append, map-append, take_more, flat_map, flat_map-append, Appends, Appends-trans, Option, Step, programmed, in_order, step_line, ◌-◌, decimal, in_order_more, line_of, first_of_both}
 use Rattle.ubi_change.specs.declared.errors.ContentsError.TheVariants as contents
 use Rattle.ubi_change.specs.declared.step.Step.TheVariants as step
 
@@ -64,11 +64,6 @@ module _ (gs : List (List Step)) (k : ℕ) (group : List Step) (inside : k < len
   pub total_more : (total later n : ℕ) → total ≡ length before → later ≡ total + n → n ≡ length group
       → later ≡ length (in_order (take (k + 1) gs))
   total_more total later n so_far next are = omega (arith, both, so_far, next, are)
-
--- room for an eraseblock stays that
-pub room_kept : (n : ℕ) (xs ys : List ℕ) → n ≡ length ys → length xs ≡ n → length (take n (xs ++ drop (length xs) ys)) ≡ n
-room_kept n xs ys here there =
-    length-take-le n (xs ++ drop (length xs) ys) (let both = length-append xs (drop (length xs) ys) in omega (arith, both, there))
 
 -- the lines of a plan behind others
 pub said_lines : (lines one two all : List ℕ) (total : ℕ) (steps : List Step) → one ≡ lines ++ (codes "steps " ++ decimal total)

@@ -4,12 +4,12 @@ pub use Rattle.std.proofs.KnownBytes.{Appends-trans, Keeps-refl}
 pub use Rattle.std.proofs.Math.Nat.{mul-le-mul_left}
 pub use Rattle.std.proofs.lemmas.Bool.Decides.{nat_tests}
 pub use Rattle.std.proofs.lemmas.Grind.{flat_map-append}
-pub use Rattle.std.proofs.lemmas.List.{at_drop_more, length-append, length-map, length-take-le, map-append, take_all, take_more}
+pub use Rattle.std.proofs.lemmas.List.{at_drop_more, length-append, length-map, map-append, take_all, take_more}
 pub use Rattle.std.proofs.lemmas.List.Elements.{All-cons, All-contains_itself, All-head, All-map, All-nil, All-tail, filter_map-append}
 pub use Rattle.std.proofs.lemmas.List.Folds.{list_all_more}
 pub use Rattle.std.proofs.lemmas.List.Sums.{fold-append, fold_more, sum_by-append}
 pub use Rattle.std.proofs.lemmas.Option.{get_or_from_slice_get, same_Some, slice_get-get_or, slice_get_cases, slice_get_read, slice_get_within}
-pub use Rattle.std.proofs.lemmas.Result.{IfErr-at_err, IfErr-weaker, IfOk-at_ok, IfOk-weaker, err_from_is_err_and}
+pub use Rattle.std.proofs.lemmas.Result.{IfErr-at_err, IfErr-weaker, IfOk-at_ok, IfOk-weaker, err_from_is_err_and, on_ok_weaker}
 pub use Rattle.std.specs.Bool.{then_some}
 pub use Rattle.std.specs.Borrow.{Bor}
 pub use Rattle.std.specs.Char.{digit_value, is_digit}
@@ -44,6 +44,7 @@ pub use Rattle.ubi_change.specs.UpdatePlan.{IsLaidFrom, IsPlanOf, in_order, plan
 pub use Rattle.ubi_change.specs.UpdatePlanned.{ArePlannedSteps, AreUpdateSteps, IsAskedAt, IsPlannedUpdate, IsUpdateCause, IsUpdateError, IsUpdateErrorIn, IsUpdateFor}
 pub use Rattle.ubi_change.specs.UpdateRefused.{asked_parts}
 pub use Rattle.ubi_change.specs.declared.edit.Edit.{Edit}
+pub use Rattle.ubi_change.specs.declared.edit.NewVolume.{NewVolume}
 pub use Rattle.ubi_change.specs.declared.errors.ContentsError.{ContentsError}
 pub use Rattle.ubi_change.specs.declared.errors.UpdateError.{UpdateError}
 pub use Rattle.ubi_change.specs.declared.errors.UpdateRefusal.{UpdateRefusal}
@@ -64,6 +65,7 @@ unfoldable pub use Rattle.ubi_config.specs.Config.{first_config_fault}
 pub use Rattle.ubi_config.specs.Words.{is_no_digit, most_bytes}
 unfoldable pub use Rattle.ubi_config.specs.Words.{unit_named}
 pub use Rattle.ubi_config.specs.Written.{config_text}
+pub use Rattle.ubi_config.specs.declared.errors.ConfigCause.{ConfigCause}
 pub use Rattle.ubi_config.specs.declared.section.Section.{Section}
 pub use Rattle.ubi_config.specs.declared.volume.ConfigVolume.{ConfigVolume}
 pub use Rattle.ubi_dumps.proofs.Ended.{OfFile-weaker, after_error, after_outcome, at_places, both, by_bytes, ends, is_open, of_any, told_at_places, told_by_bytes}
@@ -116,13 +118,14 @@ pub use Rattle.ubi_volume.specs.Wrote.{All, First, IsWroteError, NotAll, Wanted,
 pub use Rattle.ubi_volume.specs.declared.errors.ReadError.{ReadError}
 pub use Rattle.ubi_volume.specs.declared.places.Extent.{Extent}
 pub use Rattle.ubi_volume.specs.declared.places.PlaceContent.{PlaceContent}
+pub use Rattle.ubi_words.specs.Shown.{shown}
 pub use Rattle.ubi_words.specs.Words.{most_number}
-pub use Rattle.ubi_writing.specs.Asks.{IsNoEdit, edit_for, edits_for, record_after, record_after_all, value_in, with_edit_for}
-pub use Rattle.ubi_writing.specs.Build.{AreBesideOut, AreGathered, ArePartsOf, Builds, BuildsParts, HaveImage, IsNoVolume, IsSized, IsUngathered, IsUnreadLine, Sized, built, faulty, gathered, image_path, image_paths, len_of, no_image, no_path, no_record, numbered_parts, section_part, ungathered}
+pub use Rattle.ubi_writing.specs.Asks.{AskedEdits, IsNoEdit, all_edits, asked_edits, edit_for, edits_for, name_of, named_after, record_after, record_after_all, value_in, with_edit_for, with_written, written_edit}
+pub use Rattle.ubi_writing.specs.Build.{AreBesideOut, AreGathered, ArePartsOf, Builds, BuildsParts, HaveImage, IsNoVolume, IsSized, IsUngathered, IsUnreadLine, Sized, built, config_line, faulty, gathered, image_path, image_paths, len_of, no_image, no_path, no_record, numbered_parts, section_part, ungathered}
 pub use Rattle.ubi_writing.specs.ByteNumbers.{at_most, byte_number, bytes_within, decimal_number, hexadecimal_value, unit_after, with_hexadecimal}
 pub use Rattle.ubi_writing.specs.Change.{Changes, ChangesFrom, CutMeans, HasPlan, IsChangeFault, not_blank_from, unplanned_from}
 pub use Rattle.ubi_writing.specs.Compose.{Composes, ComposesInto, ComposesOf, crowded, fits, unmade, unread}
-pub use Rattle.ubi_writing.specs.Contents.{Filled, IsFilled, IsUnfilled, all_asks, all_bytes, contents, named_asks, no_contents, with_contents}
+pub use Rattle.ubi_writing.specs.Contents.{Filled, Imaged, IsConfigOf, IsFaultyLine, IsFilled, IsImaged, IsOpenedAt, IsUnfilled, IsUnimaged, OfConfig, OfContents, all_asked_edits, all_bytes, all_reads, config_path, image_len, named_asks, no_contents, section_path, with_contents, with_section}
 pub use Rattle.ubi_writing.specs.Extract.{Extracts, HasTextIn, HasVolumeText, IsExtractError, ReadsVolume, accepted, read, read_key, refused, refused_from, unread_from, wrote}
 pub use Rattle.ubi_writing.specs.Key.{number_in}
 pub use Rattle.ubi_writing.specs.Lines.{blocks_line, bytes_line}
@@ -131,10 +134,10 @@ pub use Rattle.ubi_writing.specs.Outputs.{OfText, OnGrid, WithList, WritesInto, 
 pub use Rattle.ubi_writing.specs.Pages.{IsReadyFor, IsSoundPlan, made_steps, pages_made}
 pub use Rattle.ubi_writing.specs.Plan.{CutAccepts, IsCarryFault, IsWriteFault, cut_bytes, cut_text, plan_answer, plan_lines, step_line, steps_done}
 pub use Rattle.ubi_writing.specs.Rename.{CutIsNamed, HasRename, IsRenameFault, Renames, RenamesFrom, nameless_from}
-pub use Rattle.ubi_writing.specs.Unpack.{AreUnpacked, AreUnpackedUntil, IsNewFile, IsUnpacked, Listed, Unpacks, UnpacksOf, all_described, config_path, described, file_byte, file_path, folder_config, listed, no_config, no_folder, unpacked, unpacked_line, unpacked_lines, unpacked_status}
+pub use Rattle.ubi_writing.specs.Unpack.{AreUnpacked, AreUnpackedUntil, IsNewFile, IsUnpacked, Listed, Unpacks, UnpacksOf, all_described, described, file_byte, file_path, folder_config, listed, no_config, no_folder, unpacked, unpacked_line, unpacked_lines, unpacked_status}
 unfoldable pub use Rattle.ubi_writing.specs.Unpack.{file_name}
-pub use Rattle.ubi_writing.specs.Update.{AreEditsOf, AreLinesOf, ArePlanned, CutIsEdited, HasUpdate, IsNoEditOf, IsUpdateFault, UpdatesFrom, all_replaced, asked_words, contents_path, no_edit_line, replaced_by, volume_line, written_lebs, written_lines}
-pub use Rattle.ubi_writing.specs.Writes.{HasWork, HasWorkOf, Plans, writes, writes_of}
+pub use Rattle.ubi_writing.specs.Update.{AreEditsOf, AreLinesOf, ArePlanned, CutIsEdited, HasUpdate, IsNoEditOf, IsUpdateFault, UpdatesFrom, all_replaced, asked_words, no_edit_line, replaced_by, volume_line, written_lebs, written_lines}
+pub use Rattle.ubi_writing.specs.Writes.{HasWork, HasWorkOf, writes, writes_of}
 pub use Rattle.ubi_writing.specs.declared.asks.Ask.{Ask}
 pub use Rattle.ubi_writing.specs.declared.build.Answers.{Answers}
 pub use Rattle.ubi_writing.specs.declared.contents.Contents.{Contents}
@@ -146,10 +149,10 @@ pub use Rattle.ubi_writing.specs.declared.unpack.VolumeFile.{VolumeFile}
 pub use Rattle.ubi_writing.specs.declared.volume_key.VolumeKey.{VolumeKey}
 pub use Rattle.ubi_writing.specs.declared.writers.Writing.{Writing}
 pub use Rattle.ubi_writing.specs.inner.Built.{AreAnswers, IsNotBegun, IsToldOf}
-pub use Rattle.ubi_writing.specs.inner.Editing.{AreCounted, AreNoEdits, IsHeldPlan}
+pub use Rattle.ubi_writing.specs.inner.Editing.{AreNoEdits, AreStepCounts, IsHeldPlan}
 pub use Rattle.ubi_writing.specs.inner.Extracting.{HasFirst, IsExtractFault}
-pub use Rattle.ubi_writing.specs.inner.Filling.{IsContentsFile, IsFilledBy, bytes_in}
+pub use Rattle.ubi_writing.specs.inner.Filling.{IsAllAsked, IsFilledBy, IsImagedBy, IsUnaskedBy, IsVolumeOf, bytes_in}
 pub use Rattle.ubi_writing.specs.inner.Folder.{AreFilesOf, Ends, IsFileOf, config_in}
 pub use Rattle.ubi_writing.specs.inner.Gathering.{AreSoFar, AreUnread, IsFoundFile, IsSectionPart, as_list}
-pub use Rattle.ubi_writing.specs.inner.Planning.{AreCut, HasFile, IsCutAfter, NamesNoBlocks, TheseStay, done, refused_file}
+pub use Rattle.ubi_writing.specs.inner.Planning.{AreCut, HasFile, IsCutAfter, NamesNoBlocks, Plans, TheseStay, done, refused_file}
 pub use Rattle.ubi_writing.specs.inner.Replaced.{FinishesAtOnce, Replaces, both_written, not_replaced, output_unwritten, pages_unwritten, replaced, undone}

@@ -1,5 +1,6 @@
 -- What was unpacked from an image, and how.
-use Rattle.ubi_writing.proofs.Prelude.{Agreed, All, Appends, AreFilesOf, ArePlaces, AreUnpacked, AreUnpackedUntil, AreWithin, Bool, Ends, Err, Extent, Files, Gives, Image, IsFileOf, IsKept, IsUnpacked, IsNewFile, List, Listed, Ok, Option, OthersStay, Outcome, OutsideStay, PlaceContent, Placed, ReadError, Records, Result, Sizes, Unpacks, VolumeFile, VolumeRecord, Wrote, [], all_described, ap, append-nil, append_assoc, arith, codes, cond, config_in, config_path, config_text, described, entries, extent_in, extent_len, extent_of, false, file_line, file_name, file_path, flat_map-append, folder_config, fresh, get, get_or, get_or_from_slice_get, image_of, inl, inr, is_ok, len_none, len_some, length, list_all, list_all_more, listed, no_config, option_map_or, read_text, read_volume, refl, result_map_both, says, slice_get, slice_get_cases, slice_get_read, slice_get_within, subst, suc, sym, take, take_all, take_more, true, unpacked, unpacked_line, unpacked_lines, unpacked_status, volume_len, zero, ℕ, ◌&&◌, ◌++◌, ◌+◌, ◌<◌, ◌∙◌, ◌∷◌, ◌≡◌, ◌≤◌, ◌⊎◌, None}
+use Rattle.ubi_writing.proofs.Prelude.{Agreed, All, Appends, AreFilesOf, ArePlaces, AreUnpacked, AreUnpackedUntil, AreWithin, Bool, Ends, Err, Extent, Files, Gives, Image, IsFileOf, IsKept, IsUnpacked, IsNewFile, List, Listed, Ok, Option, OthersStay, Outcome, OutsideStay, PlaceContent, Placed, ReadError, Records, Result, Sizes, Unpacks, VolumeFile, VolumeRecord, Wrote, [], all_described, ap, append-nil, append_assoc, arith, codes, cond, config_in, config_text, described, entries, extent_in, extent_len, extent_of, false, file_line, file_name, file_path, flat_map-append, folder_config, fresh, get, get_or, get_or_from_slice_get, image_of, inl, inr, is_ok, len_none, len_some, length, list_all, list_all_more, listed, no_config, option_map_or, read_text, read_volume, refl, result_map_both, says, slice_get, slice_get_cases, slice_get_read, slice_get_within, subst, suc, sym, take, take_all, take_more, true, unpacked, unpacked_line, unpacked_lines, unpacked_status, volume_len, zero, ℕ, ◌&&◌, ◌++◌, ◌+◌, ◌<◌, ◌∙◌, ◌∷◌, ◌≡◌, ◌≤◌, ◌⊎◌, None}
+use Rattle.ubi_writing.specs.Unpack.{config_path}
 use Rattle.std.specs.Prelude.{Some}
 use Rattle.ubi_volume.specs.declared.errors.ReadError.TheVariants as error
 use Rattle.ubi_writing.specs.Unpack.{unwritten}

@@ -1,5 +1,5 @@
 -- What an update of a source answers, for what the source of contents may hold: what its file means.
-use Rattle.ubi_writing.proofs.Prelude.{IsAskedAt, IsUpdateCause, IsUpdateError, IsWholeSize, UpdateRefusal, ap, first_beyond, length, ◌∙◌, not_both, ◌≡◌, ℕ, ◌++◌, inl, inr, Global, Keeps-refl, List, Vec, sym, take, subst, IfErr, IfOk, Option, Result, Ok, Err, Sizes, image_of, Agreed, Narrows, Source, WhereHeld, All, Wrote, Avoided, programmed, Step, turn, Gives, says, AreCut, IsWriteFault, First, NotAll, after_text, same_Some, plan_lines, steps_done, Outcome, ToolError, avoiding, SurvivesCommit, edited_in, all_asked, table_pages, ArePlannedSteps, AreUpdateSteps, IsUpdateErrorIn, UpdateError, AreNoEdits, Edit, of_blocks, records_of, AreEditsOf, AreLinesOf, ArePlanned, CutIsEdited, IsUpdateFault, UpdatesFrom, Ask, HasUpdate}
+use Rattle.ubi_writing.proofs.Prelude.{Agreed, All, AreCut, AreEditsOf, AreLinesOf, AreNoEdits, ArePlanned, ArePlannedSteps, AreUpdateSteps, Avoided, CutIsEdited, Edit, Err, First, Gives, Global, HasUpdate, IfErr, IfOk, IsAskedAt, IsUpdateCause, IsUpdateError, IsUpdateErrorIn, IsUpdateFault, IsWholeSize, IsWriteFault, Keeps-refl, List, Narrows, NotAll, Ok, Option, Outcome, Result, Sizes, Source, Step, SurvivesCommit, ToolError, UpdateError, UpdateRefusal, UpdatesFrom, Vec, WhereHeld, Wrote, after_text, all_asked, ap, avoiding, edited_in, first_beyond, image_of, inl, inr, length, not_both, of_blocks, plan_lines, programmed, records_of, same_Some, says, steps_done, subst, sym, table_pages, take, told, turn, ℕ, ◌++◌, ◌∙◌, ◌≡◌, AskedEdits}
 use Rattle.ubi_writing.specs.inner.Editing.{IsToldOf}
 use Rattle.ubi_writing.specs.declared.update.NoEdits.TheVariants as no_edits
 use Rattle.ubi_writing.specs.Update as update
@@ -8,9 +8,9 @@ use Rattle.ubi_change.specs.declared.errors.UpdateError.TheVariants as error
 use Rattle.ubi_change.specs.declared.errors.UpdateRefusal.TheVariants as refusal
 use Rattle.ubi_writing.proofs.Cut.{cut_accepts, few_done, wrote_firsts}
 
-module _ (av : Avoided) (asks : List Ask) (contents : List ℕ) (stop : Option ℕ) (s : Sizes) where
+module _ (av : Avoided) (w : AskedEdits) (contents : List ℕ) (stop : Option ℕ) (s : Sizes) where
   -- the image after the first steps means the old, or what the edits make of it
-  module _ (k : Source) (agrees : Agreed) (es : List Edit) (steps : List Step) (plan : ArePlanned av asks contents s k agrees es steps) where
+  module _ (k : Source) (agrees : Agreed) (es : List Edit) (steps : List Step) (plan : ArePlanned av w contents s k agrees es steps) where
     edited : AreCut s agrees steps (steps_done steps stop)
         → WhereHeld agrees (λ bytes. CutIsEdited (image_of s bytes) av contents es steps (steps_done steps stop))
     edited cut bytes agreed =
@@ -34,14 +34,14 @@ module _ (av : Avoided) (asks : List Ask) (contents : List ℕ) (stop : Option �
         → (r : Result Outcome ToolError) (pages : List ℕ) (old now : Option (List ℕ)) (text : List ℕ) → text ≡ lines ++ plan_lines steps
         → IfOk r (λ o. Gives o (says text 0)) → pages ≡ programmed done_firsts → AreCut s agrees steps (steps_done steps stop)
         → IfOk r (λ _. Wrote agrees old now (after_text s done_firsts) All 0 k.size)
-        → IfOk r (UpdatesFrom av asks contents stop s k agrees pages old now)
+        → IfOk r (UpdatesFrom av w contents stop s k agrees pages old now)
     update_done lines told (Ok o) pages old now text said gives are cut wrote =
         update.planned_from es steps lines plan told (subst (λ (xs : List ℕ). Gives o (says xs 0)) said gives) are
         (wrote_firsts s steps (steps_done steps stop) k agrees old now All k.size wrote) (edited cut)
     update_done lines told (Err e) pages old now text said gives are cut wrote = tt
 
     pub update_cut : (r : Result Outcome ToolError) (old now : Option (List ℕ)) → IfErr r (IsWriteFault agrees (after_text s done_firsts) old now)
-        → IfErr r (IsUpdateFault av asks contents stop s k agrees old now)
+        → IfErr r (IsUpdateFault av w contents stop s k agrees old now)
     update_cut (Ok o) old now h = tt
     update_cut (Err tool.Memory) old now h = h
     update_cut (Err tool.Read) old now h =
@@ -57,24 +57,24 @@ module _ (av : Avoided) (asks : List Ask) (contents : List ℕ) (stop : Option �
 
   -- what is answered where there are no edits
   pub no_edits_told : (k : Source) (agrees : Agreed) (pages : List ℕ) (old : Option (List ℕ)) (o : Outcome) (text : Vec ℕ Global)
-      → AreNoEdits s k agrees asks (no_edits.Told text) → Gives o (says text.items 1)
-      → UpdatesFrom av asks contents stop s k agrees pages old old o
+      → AreNoEdits s k agrees w (no_edits.Told text) → Gives o (says text.items 1)
+      → UpdatesFrom av w contents stop s k agrees pages old old o
   no_edits_told k agrees pages old o text (inl (c, cause, is)) gives =
       update.refused_from c cause (subst (λ (line : List ℕ). Gives o (says line 1)) is gives) (Keeps-refl _)
   no_edits_told k agrees pages old o text (inr none) gives = update.unasked_from text.items none gives (Keeps-refl _)
 
   -- where contents can't be read
   pub unread_told : (k : Source) (agrees : Agreed) (pages : List ℕ) (old : Option (List ℕ)) (es : List Edit) (i at : ℕ)
-      → WhereHeld agrees (λ bytes. AreEditsOf (image_of s bytes) asks es) → WhereHeld agrees (λ bytes. IsAskedAt (image_of s bytes) es i at)
-      → (r : Result Outcome ToolError) → IfOk r (IsToldOf asks (error.Contents i)) → IfOk r (UpdatesFrom av asks contents stop s k agrees pages old old)
+      → WhereHeld agrees (λ bytes. AreEditsOf (image_of s bytes) w es) → WhereHeld agrees (λ bytes. IsAskedAt (image_of s bytes) es i at)
+      → (r : Result Outcome ToolError) → IfOk r (IsToldOf w (error.Contents i)) → IfOk r (UpdatesFrom av w contents stop s k agrees pages old old)
   unread_told k agrees pages old es i at are asked (Ok o) (line, is, gives) =
       update.unread_from es i at are asked (subst (λ (xs : List ℕ). Gives o (says xs 1)) (sym (same_Some _ line is)) gives) (Keeps-refl _)
   unread_told k agrees pages old es i at are asked (Err x) h = tt
 
   -- and where they aren't planned
   pub unplanned_told : (k : Source) (agrees : Agreed) (pages : List ℕ) (old : Option (List ℕ)) (es : List Edit) (e : UpdateError)
-      → WhereHeld agrees (λ bytes. AreEditsOf (image_of s bytes) asks es) → IsUpdateErrorIn s k agrees av contents es e
-      → (r : Result Outcome ToolError) → IfOk r (IsToldOf asks e) → IfOk r (UpdatesFrom av asks contents stop s k agrees pages old old)
+      → WhereHeld agrees (λ bytes. AreEditsOf (image_of s bytes) w es) → IsUpdateErrorIn s k agrees av contents es e
+      → (r : Result Outcome ToolError) → IfOk r (IsToldOf w e) → IfOk r (UpdatesFrom av w contents stop s k agrees pages old old)
   unplanned_told k agrees pages old es e are cause (Ok o) (line, is, gives) = update.unplanned_from es e line are cause is gives (Keeps-refl _)
   unplanned_told k agrees pages old es e are cause (Err x) h = tt
 
@@ -102,9 +102,9 @@ module _ (av : Avoided) (asks : List Ask) (contents : List ℕ) (stop : Option �
     refused_in refusal.Exhausted h = cause_in refusal.Exhausted h
     refused_in (refusal.NoFree i j) h = cause_in (refusal.NoFree i j) h
 
-    pub refused_told : (pages : List ℕ) (old : Option (List ℕ)) (e : UpdateError) → WhereHeld agrees (λ bytes. AreEditsOf (image_of s bytes) asks es)
+    pub refused_told : (pages : List ℕ) (old : Option (List ℕ)) (e : UpdateError) → WhereHeld agrees (λ bytes. AreEditsOf (image_of s bytes) w es)
         → IsUpdateError s k agrees size at agreed av es e
-        → (r : Result Outcome ToolError) → IfOk r (IsToldOf asks e) → IfOk r (UpdatesFrom av asks contents stop s k agrees pages old old)
+        → (r : Result Outcome ToolError) → IfOk r (IsToldOf w e) → IfOk r (UpdatesFrom av w contents stop s k agrees pages old old)
     refused_told pages old (error.Contents i) are h r told = unread_told k agrees pages old es i at are h r told
     refused_told pages old (error.Refused c) are h r told = unplanned_told k agrees pages old es (error.Refused c) are (refused_in c h) r told
     refused_told pages old (error.Read p) are h r told = unplanned_told k agrees pages old es (error.Read p) are h r told
@@ -114,8 +114,8 @@ module _ (av : Avoided) (asks : List Ask) (contents : List ℕ) (stop : Option �
 
   -- work that was done had a plan
   pub edits_done : (k : Source) (agrees : Agreed) (pages : List ℕ) (old now : Option (List ℕ)) (answer : Result Outcome ToolError)
-      → IfOk answer (UpdatesFrom av asks contents stop s k agrees pages old now)
-      → IfOk answer (λ o. o.status ≡ 0 → HasUpdate av asks contents s k agrees)
+      → IfOk answer (UpdatesFrom av w contents stop s k agrees pages old now)
+      → IfOk answer (λ o. o.status ≡ 0 → HasUpdate av w contents s k agrees)
   edits_done k agrees pages old now (Ok o) (update.planned_from es steps lines plan told said are wrote cut) = λ zero. (es, steps, plan)
   edits_done k agrees pages old now (Ok o) (update.refused_from c cause said kept) = λ zero. absurd (not_both o zero said.status)
   edits_done k agrees pages old now (Ok o) (update.unasked_from line none said kept) = λ zero. absurd (not_both o zero said.status)

@@ -35,9 +35,9 @@ pub record IsSoundPlan (size : ℕ) (agrees : Agreed) (held : ℕ) (m : MadeEdit
   pub room : held ≡ m.geometry.peb_size
 
 -- so does the plan of edits by which steps are made
-abbrev pub IsSound : ℕ → Agreed → ℕ → Made → Type 0
-IsSound size agrees room (made.Edits m) = IsSoundPlan size agrees room m
-IsSound size agrees room _ = Unit {0}
+abbrev pub IsSoundPages : ℕ → Agreed → ℕ → Made → Type 0
+IsSoundPages size agrees room (made.Edits m) = IsSoundPlan size agrees room m
+IsSoundPages size agrees room _ = Unit {0}
 
 -- steps are made for eraseblocks of a geometry
 abbrev pub IsReadyFor : Sizes → ℕ → Agreed → ℕ → Made → Type 0

@@ -37,7 +37,7 @@ use Rattle.ubi_files.specs.declared.outcome.ToolError.{ToolError}
 use Rattle.ubi_files.specs.declared.outcome.ToolError.TheVariants as tool
 use Rattle.ubi_words.specs.Shown.{shown}
 use Rattle.ubi_table.specs.Records.{Records}
-use Rattle.ubi_writing.specs.Asks.{IsNoEdit, edits_for, name_of, named_by, value_in}
+use Rattle.ubi_writing.specs.Asks.{AskedEdits, IsNoEdit, all_edits, asked_names, name_of, named_by}
 use Rattle.ubi_writing.specs.Plan.{CutAccepts, IsCarryFault, cut_text, not_blank_line, plan_lines, steps_done}
 use Rattle.ubi_writing.specs.declared.asks.Ask.{Ask}
 use Rattle.ubi_writing.specs.declared.asks.Ask.TheVariants as ask
@@ -72,41 +72,32 @@ written_lines ls (p ∷ ps) (old ∷ olds) = volume_line (written_lebs ls p.id) 
 written_lines ls _ _ = []
 
 -- the name under which something is asked, in words; there is none where nothing is
-abbrev pub asked_words : List Ask → ℕ → List ℕ
-asked_words asks i = option_map_or (λ a. codes " name=" ++ name_of a) (slice_get asks i) []
+abbrev pub asked_words : AskedEdits → ℕ → List ℕ
+asked_words w i = option_map_or (λ name. codes " name=" ++ name) (slice_get (asked_names w) i) []
 
 -- the line of edits that aren't planned: one that isn't made is told by the name of its volume; there is none if memory ran out
-abbrev pub update_line : List Ask → UpdateRefusal → Option (List ℕ)
-update_line asks refusal.Memory = None
-update_line asks (refusal.Edit i f) = Some (refused_line (edit_fault_text f ++ asked_words asks i))
-update_line asks c = Some (refused_line (update_refusal_text c))
+abbrev pub update_line : AskedEdits → UpdateRefusal → Option (List ℕ)
+update_line w refusal.Memory = None
+update_line w (refusal.Edit i f) = Some (refused_line (edit_fault_text f ++ asked_words w i))
+update_line w c = Some (refused_line (update_refusal_text c))
 
--- the path of the file that is to be the contents of a volume, if that is asked
-abbrev pub path_in : Ask → Option (List ℕ)
-path_in (ask.Contents word start len) = Some (value_in word.now)
-path_in _ = None
-
--- the path of the file for the contents of the i-th of the volumes that are written; it is empty if fewer are
-abbrev pub contents_path : List Ask → ℕ → List ℕ
-contents_path asks i = get_or (filter_map path_in asks) i []
-
--- the line of contents that can't be read
-abbrev pub unread_contents_line : List Ask → ℕ → List ℕ
-unread_contents_line asks i = file_line (codes "cannot read ") (contents_path asks i)
+-- the line of contents that can't be read, by the paths of their files, in the order of the volumes that are written
+abbrev pub unread_contents_line : List (List ℕ) → ℕ → List ℕ
+unread_contents_line paths i = file_line (codes "cannot read ") (get_or paths i [])
 
 -- the line of an error of a plan; there is none if a read of the image failed or memory ran out
-abbrev pub error_line : List Ask → UpdateError → Option (List ℕ)
-error_line asks (error.Refused c) = update_line asks c
-error_line asks (error.NotBlank p) = Some (not_blank_line p)
-error_line asks (error.Beyond i) = Some (refused_line (update_error_text (error.Beyond i)))
-error_line asks (error.Contents i) = Some (unread_contents_line asks i)
-error_line asks (error.Read p) = None
+abbrev pub error_line : AskedEdits → UpdateError → Option (List ℕ)
+error_line w (error.Refused c) = update_line w c
+error_line w (error.NotBlank p) = Some (not_blank_line p)
+error_line w (error.Beyond i) = Some (refused_line (update_error_text (error.Beyond i)))
+error_line w (error.Contents i) = Some (unread_contents_line w.paths i)
+error_line w (error.Read p) = None
 
 -- an image is attached, and these are the edits that are asked for
-pub record AreEditsOf (image : Image) (asks : List Ask) (es : List Edit) : Type 0 where
+pub record AreEditsOf (image : Image) (w : AskedEdits) (es : List Edit) : Type 0 where
   pub from : AttachValue
   pub attached : IsAttached image from
-  pub edits : edits_for (records_of from.meaning) asks ≡ Some es
+  pub edits : all_edits (records_of from.meaning) w ≡ Some es
 
 -- what is wrong with the value of a word
 abbrev pub unfit_text : Ask → List ℕ
@@ -114,17 +105,17 @@ unfit_text (ask.Resize word) = codes "U9 BadSize"
 unfit_text _ = codes "N1 BadName"
 
 -- the line of what stands for no edit: its name is that of no volume, or its value isn't what it has to be
-abbrev pub no_edit_line : Records → List Ask → ℕ → Ask → List ℕ
-no_edit_line t asks i a =
-    refused_line ((if is_some (named_by t (name_of a)) then unfit_text a else codes "U1 NoVolume") ++ asked_words asks i)
+abbrev pub no_edit_line : Records → AskedEdits → ℕ → Ask → List ℕ
+no_edit_line t w i a =
+    refused_line ((if is_some (named_by t (name_of a)) then unfit_text a else codes "U1 NoVolume") ++ asked_words w i)
 
 -- an image is attached, and this is the line of the first that stands for no edit
-pub record IsNoEditOf (image : Image) (asks : List Ask) (line : List ℕ) : Type 0 where
+pub record IsNoEditOf (image : Image) (w : AskedEdits) (line : List ℕ) : Type 0 where
   pub from : AttachValue
   pub attached : IsAttached image from
   pub at : ℕ
-  pub no_edit : IsNoEdit (records_of from.meaning) asks at
-  pub said : line ≡ no_edit_line (records_of from.meaning) asks at no_edit.ask
+  pub no_edit : IsNoEdit (records_of from.meaning) w.asks at
+  pub said : line ≡ no_edit_line (records_of from.meaning) w at no_edit.ask
 
 -- the lines of the volumes that edits of an image write
 pub record AreLinesOf (image : Image) (contents : List ℕ) (es : List Edit) (lines : List ℕ) : Type 0 where
@@ -142,35 +133,35 @@ CutIsEdited image av contents es steps k =
     CutAccepts image steps (turn image.sizes steps (table_pages image.sizes (records_of n))) a.meaning n k)
 
 -- the steps that are planned for what is asked
-pub record ArePlanned (av : Avoided) (asks : List Ask) (contents : List ℕ) (s : Sizes) (k : Source) (agrees : Agreed) (es : List Edit)
+pub record ArePlanned (av : Avoided) (w : AskedEdits) (contents : List ℕ) (s : Sizes) (k : Source) (agrees : Agreed) (es : List Edit)
     (steps : List Step) : Type 0 where
-  pub asked : WhereHeld agrees (λ bytes. AreEditsOf (image_of s bytes) asks es)
+  pub asked : WhereHeld agrees (λ bytes. AreEditsOf (image_of s bytes) w es)
   pub plan : ArePlannedSteps s k agrees av contents es steps
 
 -- something is planned for what is asked
-abbrev pub HasUpdate : Avoided → List Ask → List ℕ → Sizes → Source → Agreed → Type 0
-HasUpdate av asks contents s k agrees = (es : List Edit) × (steps : List Step) × ArePlanned av asks contents s k agrees es steps
+abbrev pub HasUpdate : Avoided → AskedEdits → List ℕ → Sizes → Source → Agreed → Type 0
+HasUpdate av w contents s k agrees = (es : List Edit) × (steps : List Step) × ArePlanned av w contents s k agrees es steps
 
-module _ (av : Avoided) (asks : List Ask) (contents : List ℕ) (stop : Option ℕ) (s : Sizes) (k : Source) (agrees : Agreed) where
+module _ (av : Avoided) (w : AskedEdits) (contents : List ℕ) (stop : Option ℕ) (s : Sizes) (k : Source) (agrees : Agreed) where
   -- what is answered for a source: the lines of the volumes that are written, and of a plan that avoids some eraseblocks, with
   -- the pages that the steps done program; and the writer received what the file holds, whatever the source may hold. Or the line of an
   -- image that is refused, of what stands for no edit, of why nothing is planned, or of contents that can't be read, and the writer received
   -- nothing
   pub data UpdatesFrom (pages : List ℕ) (old now : Option (List ℕ)) : Outcome → Type 0 where
-    planned_from : {o : Outcome} (es : List Edit) (steps : List Step) (lines : List ℕ) → ArePlanned av asks contents s k agrees es steps
+    planned_from : {o : Outcome} (es : List Edit) (steps : List Step) (lines : List ℕ) → ArePlanned av w contents s k agrees es steps
         → WhereHeld agrees (λ bytes. AreLinesOf (image_of s bytes) contents es lines)
         → Gives o (says (lines ++ plan_lines steps) 0) → pages ≡ programmed (take (steps_done steps stop) steps)
         → Wrote agrees old now (cut_text s steps (steps_done steps stop)) All 0 k.size
         → WhereHeld agrees (λ bytes. CutIsEdited (image_of s bytes) av contents es steps (steps_done steps stop)) → UpdatesFrom pages old now o
     refused_from : {o : Outcome} (c : Refusal) → ArePlacesError s k agrees (stream.Refused c) → Gives o (says (refusal_line c) 1)
         → Keeps old now → UpdatesFrom pages old now o
-    unasked_from : {o : Outcome} (line : List ℕ) → WhereHeld agrees (λ bytes. IsNoEditOf (image_of s bytes) asks line)
+    unasked_from : {o : Outcome} (line : List ℕ) → WhereHeld agrees (λ bytes. IsNoEditOf (image_of s bytes) w line)
         → Gives o (says line 1) → Keeps old now → UpdatesFrom pages old now o
     unplanned_from : {o : Outcome} (es : List Edit) (e : UpdateError) (line : List ℕ)
-        → WhereHeld agrees (λ bytes. AreEditsOf (image_of s bytes) asks es) → IsUpdateErrorIn s k agrees av contents es e
-        → error_line asks e ≡ Some line → Gives o (says line 1) → Keeps old now → UpdatesFrom pages old now o
-    unread_from : {o : Outcome} (es : List Edit) (i at : ℕ) → WhereHeld agrees (λ bytes. AreEditsOf (image_of s bytes) asks es)
-        → WhereHeld agrees (λ bytes. IsAskedAt (image_of s bytes) es i at) → Gives o (says (unread_contents_line asks i) 1) → Keeps old now
+        → WhereHeld agrees (λ bytes. AreEditsOf (image_of s bytes) w es) → IsUpdateErrorIn s k agrees av contents es e
+        → error_line w e ≡ Some line → Gives o (says line 1) → Keeps old now → UpdatesFrom pages old now o
+    unread_from : {o : Outcome} (es : List Edit) (i at : ℕ) → WhereHeld agrees (λ bytes. AreEditsOf (image_of s bytes) w es)
+        → WhereHeld agrees (λ bytes. IsAskedAt (image_of s bytes) es i at) → Gives o (says (unread_contents_line w.paths i) 1) → Keeps old now
         → UpdatesFrom pages old now o
 
   -- why there is no answer: memory ran out, and the writer received nothing; or a read or a write failed, and it received
@@ -179,8 +170,8 @@ module _ (av : Avoided) (asks : List Ask) (contents : List ℕ) (stop : Option �
   IsUpdateFault old now tool.Memory = Keeps old now
   IsUpdateFault old now tool.Read =
       Keeps old now
-      ⊎ ((es : List Edit) × (steps : List Step) × ArePlanned av asks contents s k agrees es steps
+      ⊎ ((es : List Edit) × (steps : List Step) × ArePlanned av w contents s k agrees es steps
       × IsCarryFault s agrees steps (steps_done steps stop) old now tool.Read)
   IsUpdateFault old now tool.Write =
-      (es : List Edit) × (steps : List Step) × ArePlanned av asks contents s k agrees es steps
+      (es : List Edit) × (steps : List Step) × ArePlanned av w contents s k agrees es steps
       × IsCarryFault s agrees steps (steps_done steps stop) old now tool.Write

@@ -1,8 +1,9 @@
 //! What is asked of the volumes of an image by their names, and the edits that stand for it.
 
-ghost use Rattle.std.specs.Prelude.{◌≡◌, ◌++◌, ◌∷◌, [], IfErr, IfOk, None, OnOk, Some};
+ghost use Rattle.std.specs.Prelude.{◌≡◌, ◌++◌, ◌∷◌, [], IfErr, IfOk, None, OnOk, Some, fold};
 ghost use Rattle.ubi_media.specs.Record.{rec_fault};
-ghost use Rattle.ubi_writing.specs.Asks.{edit_for, edit_of, edits_for, lebs_for, name_in, name_of, named_by, record_after, record_after_all, value_in};
+ghost use Rattle.std.specs.List.{list_any};
+ghost use Rattle.ubi_writing.specs.Asks.{edit_for, edit_of, edits_for, keeps_name, lebs_for, name_in, name_of, named_after, named_by, record_after, record_after_all, removes, value_in, with_written, written_edit};
 ghost use Rattle.ubi_writing.specs.declared.asks.Unasked.{Unasked};
 ghost use Rattle.ubi_writing.specs.inner.Asking.{IsUnasked};
 
@@ -30,6 +31,18 @@ pub enum Ask<'a> {
     /// It gets other contents: the place in the source of contents at which they begin, and how many bytes they are. The value is the
     /// path of their file.
     Contents(&'a str, u64, u64),
+}
+
+/// All that is asked of volumes: what is asked by words, and then volumes that are written, each in the place of the one that has its name
+/// after the edits before, or beside the others.
+#[derive(Clone, Copy)]
+pub struct Edits<'a> {
+    /// What is asked by words.
+    pub asks: &'a [Ask<'a>],
+    /// The volumes that are written.
+    pub volumes: &'a [NewVolume],
+    /// The paths of the files of contents, in the order of the volumes that are written. They name a file that can't be read.
+    pub paths: &'a [&'a str],
 }
 
 impl<'a> Ask<'a> {
@@ -205,4 +218,69 @@ pub fn edits_for(alloc: Global, table: &Table, asks: &[Ask<'_>]) -> Result<Vec<E
         }
     }
     Ok(edits)
+}
+
+/// Whether an edit removes a volume.
+fn removes(id: u32, edit: &Edit) -> bool
+    ensures { result ≡ removes id edit.now }
+{
+    match edit {
+        Edit::Remove(other) => *other == id,
+        Edit::Rename(..) | Edit::Resize(..) | Edit::Replace(..) | Edit::Create(_) => false,
+    }
+}
+
+/// Whether edits remove a volume.
+fn are_removing(id: u32, edits: &[Edit]) -> bool
+    ensures { result ≡ list_any (removes id) edits.now }
+{
+    edits.iter().any(|edit| removes(id, edit))
+}
+
+/// Whether a volume has a name after edits which don't remove it.
+fn keeps_name(entry: &(u32, VolumeRecord), edits: &[Edit], name: &VolName) -> bool
+    ensures { result ≡ keeps_name edits.now name.now entry.now }
+{
+    let after = record_after_all(entry.1, entry.0, edits);
+    !are_removing(entry.0, edits) && after.name.as_bytes() == name.as_bytes()
+}
+
+/// The volume that has a name after edits which don't remove it.
+fn named_after(table: &Table, edits: &[Edit], name: &VolName) -> Option<u32>
+    ensures { result ≡ named_after table.now edits.now name.now }
+{
+    let entry = table
+        .entries()
+        .iter()
+        .find(|entry| keeps_name(entry, edits, name))?;
+    Some(entry.0)
+}
+
+/// The edit that writes a volume: it replaces the one that has its name after the edits before, or is new.
+fn written_edit(table: &Table, before: &[Edit], volume: &NewVolume) -> Edit
+    ensures { result ≡ written_edit volume.now (named_after table.now before.now volume.now.entry.name) }
+{
+    match named_after(table, before, &volume.entry.name) {
+        Some(id) => Edit::Replace(id, *volume),
+        None => Edit::Create(*volume),
+    }
+}
+
+/// Adds the edits that write volumes.
+///
+/// # Errors
+///
+/// Memory ran out.
+pub fn add_written(
+    table: &Table,
+    edits: &mut Vec<Edit>,
+    volumes: &[NewVolume],
+) -> Result<(), AllocError>
+    ensures { OnOk result (edits.new.items ≡ fold (with_written table.now) edits.old.items volumes.now) }
+{
+    for volume in volumes {
+        let edit = written_edit(table, edits.as_slice(), volume);
+        put_edit(edits, edit)?;
+    }
+    Ok(())
 }

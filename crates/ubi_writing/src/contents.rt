@@ -1,17 +1,18 @@
 //! What is asked of volumes, with the files that are to be their contents.
 
-ghost use Rattle.std.specs.Prelude.{◌≡◌, ◌≤◌, ◌+◌, ◌++◌, ◌∷◌, [], IfErr, IfOk, OnOk, length, map, sum_by, take};
+ghost use Rattle.std.specs.Prelude.{◌≡◌, ◌≤◌, ◌+◌, ◌++◌, ◌∷◌, [], IfErr, IfOk, OnOk, length, map, string_bytes, sum_by, take};
 ghost use Rattle.ubi_files.specs.OverFile.{IsUnread};
 ghost use Rattle.ubi_scan.specs.Placed.{StandsAt};
 ghost use Rattle.ubi_files.specs.Numbers.{sizes_of};
 ghost use Rattle.ubi_files.specs.Told.{Tells};
-ghost use Rattle.ubi_writing.specs.Contents.{IsUnfilled, named_asks};
-ghost use Rattle.ubi_writing.specs.inner.Filling.{IsContentsFile, IsFilledBy, bytes_in};
+ghost use Rattle.ubi_writing.specs.Contents.{IsOpenedAt, IsUnfilled, named_asks};
+ghost use Rattle.ubi_writing.specs.inner.Filling.{IsFilledBy, bytes_in};
 
 use crate::asks::{Ask, parts_of};
 use crate::orders::Update;
 use std::alloc::{AllocError, Global};
 use std::io;
+use ubi_change::NewVolume;
 use ubi_files::{Disk, Numbers, SizedFile, ToolError, Unread, load, unread_file};
 use ubi_scan::PlacedFile;
 
@@ -50,13 +51,15 @@ impl<F: PlacedFile> PlacedFile for ContentsFile<F> {
     }
 }
 
-/// What is asked of volumes, and which files are to be their contents.
+/// All that is asked of volumes, and which files are to be their contents.
 #[derive(Drop)]
 pub struct Contents<'a> {
-    /// What is asked, in order.
+    /// What is asked by words, in order.
     pub asks: Vec<Ask<'a>>,
-    /// The paths of the files.
-    pub paths: Vec<&'a str>,
+    /// The volumes that are written after that.
+    pub volumes: Vec<NewVolume>,
+    /// The paths of the files, in the order of the volumes that are written.
+    pub paths: Vec<String>,
     /// How many bytes they have together.
     pub total: u64,
 }
@@ -83,23 +86,41 @@ fn named_asks<'a>(alloc: Global, asked: &Update<'a>) -> Result<Vec<Ask<'a>>, All
 }
 
 impl<'a> Contents<'a> {
-    /// Adds what is asked for by a word, whose file has so many bytes.
+    /// Adds a file for contents, which has so many bytes.
     ///
     /// # Errors
     ///
     /// Memory ran out, or the files have more bytes than a number of 64 bits says.
-    fn add(&mut self, word: &'a str, path: &'a str, len: u64) -> Result<(), AllocError>
-        ensures asks { OnOk result (self.new.asks.items ≡ self.old.asks.items ++ (Ask.Contents word.entry self.old.total len ∷ [])) }
-        ensures paths { OnOk result (self.new.paths.items ≡ self.old.paths.items ++ (path.entry ∷ [])) }
+    pub fn add_file(&mut self, path: String, len: u64) -> Result<(), AllocError>
+        ensures asks { self.new.asks ≡ self.old.asks }
+        ensures volumes { self.new.volumes ≡ self.old.volumes }
+        ensures paths { OnOk result (self.new.paths.items ≡ self.old.paths.items ++ (path ∷ [])) }
         ensures total { OnOk result (self.new.total ≡ self.old.total + len) }
     {
         let Some(total) = self.total.checked_add(len) else {
             return Err(AllocError);
         };
-        self.asks.push(Ask::Contents(word, self.total, len))?;
         self.paths.push(path)?;
         self.total = total;
         Ok(())
+    }
+
+    /// Adds what is asked for by a word, whose file at a path has so many bytes.
+    fn add_word(
+        &mut self,
+        alloc: Global,
+        word: &'a str,
+        path: &str,
+        len: u64,
+    ) -> Result<(), AllocError>
+        ensures asks { OnOk result (self.new.asks.items ≡ self.old.asks.items ++ (Ask.Contents word.entry self.old.total len ∷ [])) }
+        ensures volumes { self.new.volumes ≡ self.old.volumes }
+        ensures paths { OnOk result (map string_bytes self.new.paths.items ≡ map string_bytes self.old.paths.items ++ (path.now ∷ [])) }
+        ensures total { OnOk result (self.new.total ≡ self.old.total + len) }
+    {
+        let path = String::from_str(alloc, path)?;
+        self.asks.push(Ask::Contents(word, self.total, len))?;
+        self.add_file(path, len)
     }
 }
 
@@ -111,9 +132,9 @@ fn are_one<D: Disk>(disk: &D, path: &str, other: &str) -> bool {
 
 /// Whether a file without places, as a pipe is, may be the image or one of others that were read before: then it gave its bytes
 /// to these.
-fn is_spent<D: Disk>(disk: &D, path: &str, image: &str, before: &[&str]) -> bool {
+fn is_spent<D: Disk>(disk: &D, path: &str, image: &str, before: &[String]) -> bool {
     for read in before {
-        if are_one(disk, path, read) {
+        if are_one(disk, path, read.as_str()) {
             return true;
         }
     }
@@ -121,7 +142,7 @@ fn is_spent<D: Disk>(disk: &D, path: &str, image: &str, before: &[&str]) -> bool
 }
 
 /// A file that was read to its end.
-fn held_file<F: PlacedFile>(bytes: Vec<u8>) -> SizedFile<ContentsFile<F>>
+pub fn held_file<F: PlacedFile>(bytes: Vec<u8>) -> SizedFile<ContentsFile<F>>
     ensures file { result.file ≡ ContentsFile.Held bytes }
     ensures len { result.len ≡ length bytes.items }
 {
@@ -144,15 +165,15 @@ fn placed_file<F: PlacedFile>(file: SizedFile<F>) -> SizedFile<ContentsFile<F>>
 /// # Errors
 ///
 /// The line of a file that can't be read, as a pipe can't that was read before, or of a limit that the numbers break; or that memory ran out.
-fn open_contents<D: Disk + Eprint>(
+pub fn open_contents<D: Disk + Eprint>(
     disk: &D,
     alloc: Global,
     numbers: Numbers,
     path: &str,
     image: &str,
-    before: &[&str],
+    before: &[String],
 ) -> Result<SizedFile<ContentsFile<D::Placed>>, Unread>
-    ensures file { IfOk result (λ f. IsContentsFile (D.files disk.now) (sizes_of numbers) path.now f.len (bytes_in (λ x. D.Placed.bytes x.file) f.file)) }
+    ensures file { IfOk result (λ f. IsOpenedAt (D.files disk.now) (sizes_of numbers) path.now f.len (bytes_in (λ x. D.Placed.bytes x.file) f.file)) }
     ensures unread { IfErr result (Tells (IsUnread numbers path.now)) }
 {
     if let Some(file) = disk.placed_at(path) {
@@ -171,7 +192,7 @@ fn open_contents<D: Disk + Eprint>(
 /// # Errors
 ///
 /// Memory ran out.
-fn push_file<F: PlacedFile + Drop>(
+pub fn push_file<F: PlacedFile + Drop>(
     files: &mut Vec<SizedFile<ContentsFile<F>>>,
     file: SizedFile<ContentsFile<F>>,
 ) -> Result<(), AllocError>
@@ -199,6 +220,7 @@ pub fn gather_contents<'a, D: Disk + Eprint>(
     let asks = named_asks(alloc, asked)?;
     let mut contents = Contents {
         asks,
+        volumes: Vec::new(alloc),
         paths: Vec::new(alloc),
         total: 0,
     };
@@ -208,7 +230,7 @@ pub fn gather_contents<'a, D: Disk + Eprint>(
         let (_, path) = parts_of(word);
         let before = contents.paths.as_slice();
         let file = open_contents(disk, alloc, numbers, path, image, before)?;
-        contents.add(word, path, file.len())?;
+        contents.add_word(alloc, word, path, file.len())?;
         push_file(&mut files, file)?;
     }
     Ok((contents, files))

@@ -2,11 +2,13 @@
 //! `compose` and `build`. Below them each command is a function over a source of an image's bytes, or over bytes in memory.
 #![tactic(auto)]
 
+mod all_asked;
 mod asks;
 mod build;
 mod byte_numbers;
 mod change;
 mod compose;
+mod config_volumes;
 mod contents;
 mod extract;
 mod folder_config;
@@ -25,7 +27,7 @@ mod update;
 mod volume_key;
 mod writers;
 
-pub use asks::Ask;
+pub use asks::{Ask, Edits};
 pub use build::build_file;
 pub use byte_numbers::bytes_within;
 pub use change::{NewBytes, run_change, run_change_from};

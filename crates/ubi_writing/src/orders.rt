@@ -62,8 +62,8 @@ pub struct Rename<'a> {
     pub name: &'a str,
 }
 
-/// Edits of whole volumes, in one commit. Each is a word that begins with the name that the volume has in the image, in the form in which
-/// names are printed. They are done in this order: names, sizes, removals, contents.
+/// Edits of whole volumes, in one commit: words that begin with the name that the volume has in the image, in the form in which names are
+/// printed, and the sections of a config. They are done in this order: names, sizes, removals, contents, sections.
 #[derive(Clone, Copy)]
 pub struct Update<'a> {
     /// The files and the steps.
@@ -76,4 +76,6 @@ pub struct Update<'a> {
     pub removals: &'a [&'a str],
     /// Volumes that get other contents: words `NAME=FILE`, where FILE is the path of the file that holds them.
     pub contents: &'a [&'a str],
+    /// The path of a config whose volumes are written: each replaces the volume that has its name after the other edits, or is new.
+    pub config: Option<&'a str>,
 }

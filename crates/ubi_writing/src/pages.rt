@@ -5,7 +5,7 @@ ghost use Rattle.std.specs.Prelude.{◌≡◌, ◌∷◌, [], OnOk, length};
 ghost use Rattle.ubi_change.specs.Laying.{StaysOpen};
 ghost use Rattle.ubi_change.specs.Pages.{programmed};
 ghost use Rattle.ubi_scan.specs.Source.{Narrows, WhereHeld};
-ghost use Rattle.ubi_writing.specs.Pages.{IsReadyFor, IsSound, IsSoundPlan, first_steps, made_steps, made_within, pages_made};
+ghost use Rattle.ubi_writing.specs.Pages.{IsReadyFor, IsSoundPages, IsSoundPlan, first_steps, made_steps, made_within, pages_made};
 
 use std::alloc::Global;
 use std::io::Write;
@@ -179,8 +179,8 @@ impl<T: BlockSource> Pages<T> {
     ///
     /// `Write` if a write failed, or if the pages couldn't be made, since a read of contents failed or memory ran out.
     pub fn write_to<W: Write>(&mut self, writer: &mut W) -> Result<(), ToolError>
-        requires { IsSound (T.known self.old.contents).size (T.agrees self.old.contents) (length self.old.buffer.items) self.old.made }
-        ensures sound { IsSound (T.known self.new.contents).size (T.agrees self.new.contents) (length self.new.buffer.items) self.new.made }
+        requires { IsSoundPages (T.known self.old.contents).size (T.agrees self.old.contents) (length self.old.buffer.items) self.old.made }
+        ensures sound { IsSoundPages (T.known self.new.contents).size (T.agrees self.new.contents) (length self.new.buffer.items) self.new.made }
         ensures made { self.new.made ≡ self.old.made }
         ensures contents { StaysOpen (T.known self.old.contents) (T.known self.new.contents) }
         ensures narrows { Narrows (T.agrees self.old.contents) (T.agrees self.new.contents) }

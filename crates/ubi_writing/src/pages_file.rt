@@ -6,7 +6,7 @@ ghost use Rattle.ubi_change.specs.Laying.{StaysOpen};
 ghost use Rattle.ubi_files.specs.Disk.{OthersStay, Receives, fresh};
 ghost use Rattle.ubi_files.specs.Late.{contents_of};
 ghost use Rattle.ubi_scan.specs.Source.{Narrows, WhereHeld};
-ghost use Rattle.ubi_writing.specs.Pages.{IsSound, pages_made};
+ghost use Rattle.ubi_writing.specs.Pages.{IsSoundPages, pages_made};
 
 use crate::pages::Pages;
 use std::marker::Brand;
@@ -20,10 +20,10 @@ fn write_late<D: Disk, T: BlockSource, K: Target>(
     pages: &mut Pages<T>,
 ) -> Result<(), ToolError>
     requires file { late.old.file ≡ None }
-    requires sound { IsSound (T.known pages.old.contents).size (T.agrees pages.old.contents) (length pages.old.buffer.items) pages.old.made }
+    requires sound { IsSoundPages (T.known pages.old.contents).size (T.agrees pages.old.contents) (length pages.old.buffer.items) pages.old.made }
     ensures made { pages.new.made ≡ pages.old.made }
     ensures contents { StaysOpen (T.known pages.old.contents) (T.known pages.new.contents) }
-    ensures sound { IsSound (T.known pages.new.contents).size (T.agrees pages.new.contents) (length pages.new.buffer.items) pages.new.made }
+    ensures sound { IsSoundPages (T.known pages.new.contents).size (T.agrees pages.new.contents) (length pages.new.buffer.items) pages.new.made }
     ensures narrows { Narrows (T.agrees pages.old.contents) (T.agrees pages.new.contents) }
     ensures received { OnOk result (WhereHeld (T.agrees pages.new.contents) (λ bytes. Appends (fresh K.files) (contents_of (fresh K.files) (λ f. D.Output.contents f.writer) late.new.file) (pages_made pages.new.made bytes))) }
     ensures opened { OnOk result (IsSome late.new.file) }
@@ -41,7 +41,7 @@ fn write_at<'a, D: Disk, T: BlockSource, K: Target>(
     pages: &mut Pages<T>,
     output: Output<'_>,
 ) -> (&'a mut D, Result<(), ToolError>)
-    requires sound { IsSound (T.known pages.old.contents).size (T.agrees pages.old.contents) (length pages.old.buffer.items) pages.old.made }
+    requires sound { IsSoundPages (T.known pages.old.contents).size (T.agrees pages.old.contents) (length pages.old.buffer.items) pages.old.made }
     requires same { disk.ghost_name ≡ K.disk }
     requires named { output.path.now ≡ K.path }
     requires files { D.files disk.old ≡ K.files }
@@ -49,7 +49,7 @@ fn write_at<'a, D: Disk, T: BlockSource, K: Target>(
     ensures same { result.0.ghost_name ≡ K.disk }
     ensures made { pages.new.made ≡ pages.old.made }
     ensures contents { StaysOpen (T.known pages.old.contents) (T.known pages.new.contents) }
-    ensures sound { IsSound (T.known pages.new.contents).size (T.agrees pages.new.contents) (length pages.new.buffer.items) pages.new.made }
+    ensures sound { IsSoundPages (T.known pages.new.contents).size (T.agrees pages.new.contents) (length pages.new.buffer.items) pages.new.made }
     ensures narrows { Narrows (T.agrees pages.old.contents) (T.agrees pages.new.contents) }
     ensures received { OnOk result.1 (WhereHeld (T.agrees pages.new.contents) (λ bytes. Receives K.files (D.files result.0.now) K.path (Some (pages_made pages.new.made bytes)))) }
     ensures others { OthersStay K.files (D.files result.0.now) K.path }
@@ -71,10 +71,10 @@ pub fn write_pages_file<D: Disk, T: BlockSource>(
     pages: &mut Pages<T>,
     output: Output<'_>,
 ) -> Result<(), ToolError>
-    requires { IsSound (T.known pages.old.contents).size (T.agrees pages.old.contents) (length pages.old.buffer.items) pages.old.made }
+    requires { IsSoundPages (T.known pages.old.contents).size (T.agrees pages.old.contents) (length pages.old.buffer.items) pages.old.made }
     ensures made { pages.new.made ≡ pages.old.made }
     ensures contents { StaysOpen (T.known pages.old.contents) (T.known pages.new.contents) }
-    ensures sound { IsSound (T.known pages.new.contents).size (T.agrees pages.new.contents) (length pages.new.buffer.items) pages.new.made }
+    ensures sound { IsSoundPages (T.known pages.new.contents).size (T.agrees pages.new.contents) (length pages.new.buffer.items) pages.new.made }
     ensures narrows { Narrows (T.agrees pages.old.contents) (T.agrees pages.new.contents) }
     ensures received { OnOk result (WhereHeld (T.agrees pages.new.contents) (λ bytes. Receives (D.files disk.old) (D.files disk.new) output.entry.path.now (Some (pages_made pages.new.made bytes)))) }
     ensures others { OthersStay (D.files disk.old) (D.files disk.new) output.entry.path.now }

@@ -14,20 +14,20 @@ ghost use Rattle.ubi_writing.specs.Rename.{HasRename, RenamesFrom};
 ghost use Rattle.ubi_dumps.specs.Ended.{Works};
 ghost use Rattle.ubi_writing.specs.inner.Replaced.{FinishesAtOnce};
 ghost use Rattle.ubi_change.specs.Laying.{StaysOpen};
-ghost use Rattle.ubi_writing.specs.Pages.{IsSound, pages_made};
-ghost use Rattle.ubi_writing.specs.Writes.{Plans};
+ghost use Rattle.ubi_writing.specs.Pages.{IsSoundPages, pages_made};
 ghost use Rattle.ubi_writing.specs.declared.pages.Made.{Made};
 ghost use Rattle.ubi_files.specs.Lines.{file_line};
 ghost use Rattle.ubi_files.specs.Told.{Tells};
 ghost use Rattle.ubi_writing.specs.Asks.{value_in};
-ghost use Rattle.ubi_writing.specs.Contents.{OfContents, all_asks};
+ghost use Rattle.ubi_writing.specs.Contents.{OfConfig, OfContents, all_asked_edits, config_path};
 ghost use Rattle.ubi_writing.specs.Update.{HasUpdate, UpdatesFrom};
-ghost use Rattle.ubi_writing.specs.inner.Planning.{NamesNoBlocks, TheseStay};
+ghost use Rattle.ubi_writing.specs.inner.Planning.{NamesNoBlocks, TheseStay, Plans};
 ghost use Rattle.ubi_scan.specs.Source.{Narrows, WhereHeld};
 
-use crate::asks::{Ask, parts_of};
+use crate::all_asked::{gather_asked, lent_paths};
+use crate::asks::{Ask, Edits};
 use crate::change::NewBytes;
-use crate::contents::{Contents, gather_contents};
+use crate::contents::Contents;
 use crate::orders::{Change, Plan, Rename, Update};
 use crate::pages::Pages;
 use crate::pages_file::write_pages_file;
@@ -117,10 +117,10 @@ fn put_pages<D: Disk + Eprint, T: BlockSource>(
     pages: &mut Pages<T>,
     path: &str,
 ) -> bool
-    requires { IsSound (T.known pages.old.contents).size (T.agrees pages.old.contents) (length pages.old.buffer.items) pages.old.made }
+    requires { IsSoundPages (T.known pages.old.contents).size (T.agrees pages.old.contents) (length pages.old.buffer.items) pages.old.made }
     ensures made { pages.new.made ≡ pages.old.made }
     ensures contents { StaysOpen (T.known pages.old.contents) (T.known pages.new.contents) }
-    ensures sound { IsSound (T.known pages.new.contents).size (T.agrees pages.new.contents) (length pages.new.buffer.items) pages.new.made }
+    ensures sound { IsSoundPages (T.known pages.new.contents).size (T.agrees pages.new.contents) (length pages.new.buffer.items) pages.new.made }
     ensures narrows { Narrows (T.agrees pages.old.contents) (T.agrees pages.new.contents) }
     ensures written { result ≡ true → WhereHeld (T.agrees pages.new.contents) (λ bytes. Receives (D.files disk.old) (D.files disk.new) path.now (Some (pages_made pages.new.made bytes))) }
     ensures apart { result ≡ true → path.now ≢ plan.now.paths.out.now }
@@ -147,10 +147,10 @@ fn write_pages<D: Disk + Eprint, T: BlockSource>(
     path: &str,
     unwritten: Outcome,
 ) -> Outcome
-    requires { IsSound (T.known pages.old.contents).size (T.agrees pages.old.contents) (length pages.old.buffer.items) pages.old.made }
+    requires { IsSoundPages (T.known pages.old.contents).size (T.agrees pages.old.contents) (length pages.old.buffer.items) pages.old.made }
     ensures made { pages.new.made ≡ pages.old.made }
     ensures contents { StaysOpen (T.known pages.old.contents) (T.known pages.new.contents) }
-    ensures sound { IsSound (T.known pages.new.contents).size (T.agrees pages.new.contents) (length pages.new.buffer.items) pages.new.made }
+    ensures sound { IsSoundPages (T.known pages.new.contents).size (T.agrees pages.new.contents) (length pages.new.buffer.items) pages.new.made }
     ensures narrows { Narrows (T.agrees pages.old.contents) (T.agrees pages.new.contents) }
     ensures answer { ((result ≡ outcome) × WhereHeld (T.agrees pages.new.contents) (λ bytes. Receives (D.files disk.old) (D.files disk.new) path.now (Some (pages_made pages.new.made bytes)))) ⊎ (result ≡ unwritten) }
     ensures others { OthersStay (D.files disk.old) (D.files disk.new) path.now }
@@ -185,7 +185,7 @@ fn plan_late<D: Disk + Eprint, T: BlockSource>(
     ensures image { Stays (D.files disk.old) (D.files disk.new) plan.now.paths.image.now }
     ensures reads { TheseStay (D.files disk.old) (D.files disk.new) reads.now }
     ensures contents { StaysOpen (T.known pages.old.contents) (T.known pages.new.contents) }
-    ensures sound { IsSound (T.known pages.new.contents).size (T.agrees pages.new.contents) (length pages.new.buffer.items) pages.new.made }
+    ensures sound { IsSoundPages (T.known pages.new.contents).size (T.agrees pages.new.contents) (length pages.new.buffer.items) pages.new.made }
     ensures memory { OnErr result (AllStay (D.files disk.old) (D.files disk.new)) }
 {
     let way = Way {
@@ -244,14 +244,14 @@ fn finish_at_once<D: Disk + Eprint, T: BlockSource>(
     bytes: &[u8],
     faults: PlanFaults,
 ) -> Outcome
-    requires sound { IsSound (T.known pages.old.contents).size (T.agrees pages.old.contents) (length pages.old.buffer.items) pages.old.made }
+    requires sound { IsSoundPages (T.known pages.old.contents).size (T.agrees pages.old.contents) (length pages.old.buffer.items) pages.old.made }
     requires done { outcome.status ≡ 0 }
     requires unwritten { Gives faults.unwritten (says (file_line (codes "cannot write ") plan.now.paths.out.now) 1) }
     requires unpaged { ForSome plan.now.pages (λ path. Gives faults.unpaged (says (file_line (codes "cannot write ") path.now) 1)) }
     requires reads { All (λ f. f.now ≢ plan.now.paths.out.now) reads.now }
     ensures made { pages.new.made ≡ pages.old.made }
     ensures contents { StaysOpen (T.known pages.old.contents) (T.known pages.new.contents) }
-    ensures sound { IsSound (T.known pages.new.contents).size (T.agrees pages.new.contents) (length pages.new.buffer.items) pages.new.made }
+    ensures sound { IsSoundPages (T.known pages.new.contents).size (T.agrees pages.new.contents) (length pages.new.buffer.items) pages.new.made }
     ensures narrows { Narrows (T.agrees pages.old.contents) (T.agrees pages.new.contents) }
     ensures answer { WhereHeld (T.agrees pages.new.contents) (λ held. FinishesAtOnce (D.files disk.old) (D.files disk.new) plan.now (pages_made pages.new.made held) bytes.now outcome result) }
     ensures others { OthersStayBeside (D.files disk.old) (D.files disk.new) plan.now.paths.out.now plan.now.pages }
@@ -301,7 +301,7 @@ fn plan_at_once<D: Disk + Eprint, S: BlockSource, T: BlockSource, K: Target>(
     ensures kept { IfOk result (KeepsImage (D.files disk.old) (D.files disk.new) plan.now.paths.image.now) }
     ensures reads { TheseStay (D.files disk.old) (D.files disk.new) reads.now }
     ensures contents { StaysOpen (T.known pages.old.contents) (T.known pages.new.contents) }
-    ensures sound { IsSound (T.known pages.new.contents).size (T.agrees pages.new.contents) (length pages.new.buffer.items) pages.new.made }
+    ensures sound { IsSoundPages (T.known pages.new.contents).size (T.agrees pages.new.contents) (length pages.new.buffer.items) pages.new.made }
     ensures memory { OnErr result (AllStay (D.files disk.old) (D.files disk.new)) }
 {
     let mut held: HeldFile<K> = HeldFile::new(alloc);
@@ -347,7 +347,7 @@ fn plan_into<D: Disk + Eprint, S: BlockSource, T: BlockSource>(
     ensures kept { IfOk result (KeepsImage (D.files disk.old) (D.files disk.new) plan.now.paths.image.now) }
     ensures reads { TheseStay (D.files disk.old) (D.files disk.new) reads.now }
     ensures contents { StaysOpen (T.known pages.old.contents) (T.known pages.new.contents) }
-    ensures sound { IsSound (T.known pages.new.contents).size (T.agrees pages.new.contents) (length pages.new.buffer.items) pages.new.made }
+    ensures sound { IsSoundPages (T.known pages.new.contents).size (T.agrees pages.new.contents) (length pages.new.buffer.items) pages.new.made }
     ensures memory { OnErr result (AllStay (D.files disk.old) (D.files disk.new)) }
 {
     let faults = plan_faults(alloc, plan)?;
@@ -373,7 +373,7 @@ fn plan_over<D: Disk + Eprint, T: BlockSource>(
     ensures kept { IfOk result (KeepsImage (D.files disk.old) (D.files disk.new) plan.now.paths.image.now) }
     ensures reads { TheseStay (D.files disk.old) (D.files disk.new) reads.now }
     ensures contents { StaysOpen (T.known pages.old.contents) (T.known pages.new.contents) }
-    ensures sound { IsSound (T.known pages.new.contents).size (T.agrees pages.new.contents) (length pages.new.buffer.items) pages.new.made }
+    ensures sound { IsSoundPages (T.known pages.new.contents).size (T.agrees pages.new.contents) (length pages.new.buffer.items) pages.new.made }
     ensures memory { OnErr result (AllStay (D.files disk.old) (D.files disk.new)) }
 {
     let image = plan.paths.image;
@@ -424,7 +424,7 @@ fn write_plan<D: Disk + Eprint, T: BlockSource>(
     ensures part { KeepsPart (D.files disk.old) (D.files disk.new) asked.now plan.now.paths.image.now }
     ensures reads { TheseStay (D.files disk.old) (D.files disk.new) reads.now }
     ensures contents { StaysOpen (T.known pages.old.contents) (T.known pages.new.contents) }
-    ensures sound { IsSound (T.known pages.new.contents).size (T.agrees pages.new.contents) (length pages.new.buffer.items) pages.new.made }
+    ensures sound { IsSoundPages (T.known pages.new.contents).size (T.agrees pages.new.contents) (length pages.new.buffer.items) pages.new.made }
     ensures memory { OnErr result (AllStay (D.files disk.old) (D.files disk.new)) }
 {
     match opening_for(disk, asked, plan, reads) {
@@ -570,21 +570,35 @@ pub fn rename_file<D: Disk + Eprint>(
     )
 }
 
+/// Whether bytes from a place on, as many as are counted, have this one among them.
+fn have_place(start: u64, len: u64, at: u64) -> bool {
+    at >= start && at - start < len
+}
+
 /// Says which of the files of contents couldn't be read while a plan was carried out, if one couldn't: it could be read at first.
 fn remark_contents<D: Disk + Eprint, F: PlacedFile + Drop>(
     disk: &D,
-    asks: &[Ask<'_>],
+    asked: &Edits<'_>,
     pages: &Pages<FileSource<FileRow<F>>>,
 ) {
-    if let Some(at) = pages.contents().failed_place() {
-        for ask in asks {
-            if let Ask::Contents(word, start, len) = ask {
-                if at >= *start && at - *start < *len {
-                    let path = parts_of(word).1;
-                    let _ = disk.eprintln(format_args!("{path}: it can't be read"));
-                }
-            }
+    let Some(at) = pages.contents().failed_place() else {
+        return;
+    };
+    let mut paths = asked.paths.iter();
+    for ask in asked.asks {
+        if let Ask::Contents(_, start, len) = ask {
+            remark_unread(disk, paths.next(), have_place(*start, *len, at));
         }
+    }
+    for volume in asked.volumes {
+        remark_unread(disk, paths.next(), have_place(volume.start, volume.len, at));
+    }
+}
+
+/// Says that the file at a path can't be read, if it is so.
+fn remark_unread<D: Eprint>(disk: &D, path: Option<&&str>, is_unread: bool) {
+    if is_unread && let Some(path) = path {
+        let _ = disk.eprintln(format_args!("{path}: it can't be read"));
     }
 }
 
@@ -596,11 +610,12 @@ pub fn update_file<D: Disk + Eprint>(
     dump: &Dump<'_>,
     asked: &Update<'_>,
 ) -> Result<Outcome, AllocError>
-    ensures answer { IfOk result (WithList (D.files disk.old) (D.files disk.new) dump.now.bad asked.now.plan.paths.image.now (OnGrid (D.files disk.old) (D.files disk.new) dump.now asked.now.plan.paths.image.now (OfFile (D.files disk.old) dump.now asked.now.plan.paths.image.now (λ s k agrees. OfContents (D.files disk.old) dump.now.numbers asked.now.contents.now (λ fs bytes. WritesPlan asked.now.plan.paths.out.now asked.now.plan.pages (D.files disk.old) (D.files disk.new) (UpdatesFrom (avoided dump.now asked.now.plan) (all_asks asked.now fs) bytes asked.now.plan.stop s k agrees) (HasUpdate (avoided dump.now asked.now.plan) (all_asks asked.now fs) bytes s k agrees)))))) }
+    ensures answer { IfOk result (WithList (D.files disk.old) (D.files disk.new) dump.now.bad asked.now.plan.paths.image.now (OnGrid (D.files disk.old) (D.files disk.new) dump.now asked.now.plan.paths.image.now (OfFile (D.files disk.old) dump.now asked.now.plan.paths.image.now (λ s k agrees. OfConfig (D.files disk.old) dump.now.numbers asked.now.config (λ xs. OfContents (D.files disk.old) dump.now.numbers asked.now.contents.now (config_path asked.now.config) xs (λ fs gs bytes. WritesPlan asked.now.plan.paths.out.now asked.now.plan.pages (D.files disk.old) (D.files disk.new) (UpdatesFrom (avoided dump.now asked.now.plan) (all_asked_edits asked.now xs fs gs) bytes asked.now.plan.stop s k agrees) (HasUpdate (avoided dump.now asked.now.plan) (all_asked_edits asked.now xs fs gs) bytes s k agrees))))))) }
     ensures stays { PlanStays (D.files disk.old) (D.files disk.new) asked.now.plan }
     ensures image { IfOk result (KeepsImage (D.files disk.old) (D.files disk.new) asked.now.plan.paths.image.now) }
     ensures part { KeepsPart (D.files disk.old) (D.files disk.new) dump.now asked.now.plan.paths.image.now }
     ensures contents { All (λ word. Stays (D.files disk.old) (D.files disk.new) (value_in word.now)) asked.now.contents.now }
+    ensures config { IfSome asked.now.config (λ path. Stays (D.files disk.old) (D.files disk.new) path.now) }
     ensures memory { OnErr result (AllStay (D.files disk.old) (D.files disk.new)) }
 {
     let Paths { image, out } = asked.plan.paths;
@@ -612,14 +627,24 @@ pub fn update_file<D: Disk + Eprint>(
         Ok(opened) => opened,
         Err(unread) => return unread.answer(),
     };
-    let (contents, files) = match gather_contents(disk, alloc, dump.numbers, asked) {
+    let (contents, files) = match gather_asked(disk, alloc, dump.numbers, asked) {
         Ok(gathered) => gathered,
         Err(unread) => return unread.answer(),
     };
-    let Contents { asks, paths, total } = contents;
+    let Contents {
+        asks,
+        volumes,
+        paths,
+        total,
+    } = contents;
+    let reads = lent_paths(alloc, paths.as_slice())?;
+    let edits = Edits {
+        asks: asks.as_slice(),
+        volumes: volumes.as_slice(),
+        paths: reads.as_slice(),
+    };
     let avoided = Avoided::new(frame.marks.as_slice(), asked.plan.keeps_blank);
-    let command = Writing::Update(asks.as_slice(), &avoided, asked.plan.stop);
-    let reads = paths.as_slice();
+    let command = Writing::Update(&edits, &avoided, asked.plan.stop);
     let mut pages = Pages::of(alloc, FileSource::of(FileRow::new(files), total));
     let work = write_plan(
         disk,
@@ -627,10 +652,10 @@ pub fn update_file<D: Disk + Eprint>(
         dump,
         opened,
         &asked.plan,
-        reads,
+        reads.as_slice(),
         &command,
         &mut pages,
     );
-    remark_contents(disk, asks.as_slice(), &pages);
+    remark_contents(disk, &edits, &pages);
     work
 }

@@ -1,7 +1,7 @@
 //! Edits of whole volumes that are asked for by name: their plan, and the image after its first steps.
 
 ghost use Rattle.std.specs.List.{flat_map};
-ghost use Rattle.std.specs.Prelude.{◌≡◌, ◌<◌, ◌+◌, ◌++◌, ◌∷◌, [], ℕ, IfErr, IfOk, IfSome, List, OnOk, Some, codes, length, slice_get};
+ghost use Rattle.std.specs.Prelude.{◌≡◌, ◌<◌, ◌+◌, ◌++◌, ◌∷◌, [], ℕ, IfErr, IfOk, IfSome, List, OnOk, Some, codes, length, map, slice_get};
 ghost use Rattle.ubi_scan.specs.Image.{IsWholeSize, image_of};
 ghost use Rattle.ubi_scan.specs.Source.{Narrows, WhereHeld};
 ghost use Rattle.ubi_change.specs.Laying.{StaysOpen};
@@ -12,16 +12,17 @@ ghost use Rattle.ubi_volume.specs.Wrote.{All, Wrote};
 ghost use Rattle.ubi_files.specs.Answer.{Gives, says};
 ghost use Rattle.ubi_files.specs.AfterRun.{WhereNotDone, after_run};
 ghost use Rattle.ubi_files.specs.Lines.{refused_line};
-ghost use Rattle.ubi_writing.specs.Pages.{IsReadyFor, IsSound, made_steps, pages_made};
+ghost use Rattle.ubi_writing.specs.Pages.{IsReadyFor, IsSoundPages, made_steps, pages_made};
 ghost use Rattle.ubi_writing.specs.Plan.{IsWriteFault, step_line, steps_done};
-ghost use Rattle.ubi_writing.specs.Update.{AreEditsOf, IsUpdateFault, UpdatesFrom, all_replaced, asked_words, contents_path, no_edit_line, replaced_by, replaced_words, unfit_text, unread_contents_line, update_line, volume_line, written_lines};
-ghost use Rattle.ubi_writing.specs.inner.Editing.{AreCounted, AreNoEdits, IsFaultOf, IsHeldPlan, IsToldOf, IsUnreadImage, WritesNothing, after_edits};
+ghost use Rattle.ubi_writing.specs.Asks.{asked_edits};
+ghost use Rattle.ubi_writing.specs.Update.{AreEditsOf, IsUpdateFault, UpdatesFrom, all_replaced, asked_words, no_edit_line, replaced_by, replaced_words, unfit_text, unread_contents_line, update_line, volume_line, written_lines};
+ghost use Rattle.ubi_writing.specs.inner.Editing.{AreStepCounts, AreNoEdits, IsFaultOf, IsHeldPlan, IsToldOf, IsUnreadImage, WritesNothing, after_edits};
 ghost use Rattle.ubi_files.specs.declared.outcome.ToolError.{ToolError};
 ghost use Rattle.ubi_writing.specs.declared.asks.Ask.{Ask};
 ghost use Rattle.ubi_writing.specs.declared.pages.Made.{Made};
 ghost use Rattle.ubi_writing.specs.declared.update.NoEdits.{NoEdits};
 
-use crate::asks::{Ask, Unasked, edits_for, named_by, parts_of};
+use crate::asks::{Ask, Edits, Unasked, add_written, edits_for, named_by};
 use crate::pages::{Made, MadeEdits, Pages};
 use crate::plan::{not_blank_line, put_steps};
 use std::alloc::{AllocError, Global};
@@ -126,13 +127,22 @@ fn refused_words<C: fmt::Display>(alloc: Global, cause: &C) -> Result<Vec<u8>, A
 }
 
 /// Adds the name under which something is asked, if anything is.
-fn put_asked(text: &mut Vec<u8>, asks: &[Ask<'_>], i: usize) -> Result<(), AllocError>
-    ensures { OnOk result (text.new.items ≡ text.old.items ++ asked_words asks.now i) }
+fn put_asked(
+    alloc: Global,
+    text: &mut Vec<u8>,
+    asked: &Edits<'_>,
+    i: usize,
+) -> Result<(), AllocError>
+    ensures { OnOk result (text.new.items ≡ text.old.items ++ asked_words (asked_edits asked.now) i) }
 {
-    match asks.get(i) {
-        Some(ask) => {
+    if let Some(ask) = asked.asks.get(i) {
+        put_word(text, " name=")?;
+        return put_word(text, ask.name());
+    }
+    match asked.volumes.get(i - asked.asks.len()) {
+        Some(volume) => {
             put_word(text, " name=")?;
-            put_word(text, ask.name())
+            put_shown(alloc, text, volume.entry.name.as_bytes())
         }
         None => Ok(()),
     }
@@ -145,14 +155,14 @@ fn put_asked(text: &mut Vec<u8>, asks: &[Ask<'_>], i: usize) -> Result<(), Alloc
 /// Memory ran out.
 fn named_line<C: fmt::Display>(
     alloc: Global,
-    asks: &[Ask<'_>],
+    asked: &Edits<'_>,
     i: usize,
     cause: &C,
 ) -> Result<Vec<u8>, AllocError>
-    ensures { IfOk result (λ line. IfSome (C.output cause.now) (λ text. line.items ≡ refused_line (text ++ asked_words asks.now i))) }
+    ensures { IfOk result (λ line. IfSome (C.output cause.now) (λ text. line.items ≡ refused_line (text ++ asked_words (asked_edits asked.now) i))) }
 {
     let mut text = refused_words(alloc, cause)?;
-    put_asked(&mut text, asks, i)?;
+    put_asked(alloc, &mut text, asked, i)?;
     put_word(&mut text, "\n")?;
     Ok(text)
 }
@@ -162,12 +172,16 @@ fn named_line<C: fmt::Display>(
 /// # Errors
 ///
 /// Memory ran out, now or for the plan.
-fn update_line(alloc: Global, asks: &[Ask<'_>], cause: UpdateRefusal) -> Result<Vec<u8>, AllocError>
-    ensures { IfOk result (λ text. update_line asks.now cause ≡ Some text.items) }
+fn update_line(
+    alloc: Global,
+    asked: &Edits<'_>,
+    cause: UpdateRefusal,
+) -> Result<Vec<u8>, AllocError>
+    ensures { IfOk result (λ text. update_line (asked_edits asked.now) cause ≡ Some text.items) }
 {
     match cause {
         UpdateRefusal::Memory => Err(AllocError),
-        UpdateRefusal::Edit(i, fault) => named_line(alloc, asks, i, &fault),
+        UpdateRefusal::Edit(i, fault) => named_line(alloc, asked, i, &fault),
         _ => refused(alloc, &cause),
     }
 }
@@ -190,18 +204,18 @@ fn unfit_text(ask: &Ask<'_>) -> &'static str
 fn no_edit_line(
     alloc: Global,
     table: &Table,
-    asks: &[Ask<'_>],
+    asked: &Edits<'_>,
     i: usize,
 ) -> Result<Vec<u8>, AllocError>
-    requires { i < length asks.now }
-    ensures { IfOk result (λ line. (ask : Ask) → slice_get asks.now i ≡ Some ask → line.items ≡ no_edit_line table.now asks.now i ask) }
+    requires { i < length asked.now.asks.now }
+    ensures { IfOk result (λ line. (ask : Ask) → slice_get asked.now.asks.now i ≡ Some ask → line.items ≡ no_edit_line table.now (asked_edits asked.now) i ask) }
 {
-    let ask = &asks[i];
+    let ask = &asked.asks[i];
     let cause = match named_by(table, ask.name()) {
         Some(_) => unfit_text(ask),
         None => "U1 NoVolume",
     };
-    named_line(alloc, asks, i, &cause)
+    named_line(alloc, asked, i, &cause)
 }
 
 /// Why there are no edits to plan.
@@ -251,50 +265,41 @@ fn edits_from<S: BlockSource>(
     alloc: Global,
     geometry: &Geometry,
     source: &mut S,
-    asks: &[Ask<'_>],
+    asked: &Edits<'_>,
 ) -> Result<Vec<Edit>, NoEdits>
     ensures known { S.known source.new ≡ after_edits (S.known source.old) result }
     ensures narrows { Narrows (S.agrees source.old) (S.agrees source.new) }
-    ensures edits { IfOk result (λ edits. WhereHeld (S.agrees source.new) (λ bytes. AreEditsOf (image_of geometry.now bytes) asks.now edits.items)) }
-    ensures refused { IfErr result (AreNoEdits geometry.now (S.known source.old) (S.agrees source.new) asks.now) }
+    ensures edits { IfOk result (λ edits. WhereHeld (S.agrees source.new) (λ bytes. AreEditsOf (image_of geometry.now bytes) (asked_edits asked.now) edits.items)) }
+    ensures refused { IfErr result (AreNoEdits geometry.now (S.known source.old) (S.agrees source.new) (asked_edits asked.now)) }
 {
     let surveyed = match survey_from(alloc, geometry, source) {
         Ok(surveyed) => surveyed,
         Err(error) => return Err(unread(alloc, error)),
     };
     let table = surveyed.table();
-    match edits_for(alloc, table, asks) {
-        Ok(edits) => Ok(edits),
-        Err(Unasked::NoEdit(i)) => Err(NoEdits::Told(no_edit_line(alloc, table, asks, i)?)),
+    match edits_for(alloc, table, asked.asks) {
+        Ok(mut edits) => {
+            add_written(table, &mut edits, asked.volumes)?;
+            Ok(edits)
+        }
+        Err(Unasked::NoEdit(i)) => Err(NoEdits::Told(no_edit_line(alloc, table, asked, i)?)),
         Err(Unasked::Memory) => Err(NoEdits::Fault(ToolError::Memory)),
     }
 }
 
-/// The path of the file for the contents of the volume that is the i-th of those that are written. It is empty if fewer are.
-fn contents_path<'a>(asks: &[Ask<'a>], i: usize) -> &'a str
-    ensures { result.now ≡ contents_path asks.now i }
-{
-    let mut left = i;
-    for ask in asks {
-        if let Ask::Contents(word, _, _) = ask {
-            if left == 0 {
-                return parts_of(word).1;
-            }
-            left -= 1;
-        }
-    }
-    ""
-}
-
-/// What is answered if the contents of the i-th of the volumes that are written can't be read.
+/// What is answered if the contents of the i-th of the volumes that are written can't be read. Their files have these paths.
 ///
 /// # Errors
 ///
 /// Memory ran out.
-fn unread_contents(alloc: Global, asks: &[Ask<'_>], i: usize) -> Result<Outcome, AllocError>
-    ensures { IfOk result (λ o. Gives o (says (unread_contents_line asks.now i) 1)) }
+fn unread_contents(alloc: Global, paths: &[&str], i: usize) -> Result<Outcome, AllocError>
+    ensures { IfOk result (λ o. Gives o (says (unread_contents_line (map (λ p. p.now) paths.now) i) 1)) }
 {
-    unread_line(alloc, contents_path(asks, i))
+    let path = match paths.get(i) {
+        Some(path) => path,
+        None => "",
+    };
+    unread_line(alloc, path)
 }
 
 /// What is answered for edits that aren't planned.
@@ -302,17 +307,17 @@ fn unread_contents(alloc: Global, asks: &[Ask<'_>], i: usize) -> Result<Outcome,
 /// # Errors
 ///
 /// A read of the image failed, or memory ran out.
-fn unplanned(alloc: Global, asks: &[Ask<'_>], error: UpdateError) -> Result<Outcome, ToolError>
-    ensures ok { IfOk result (IsToldOf asks.now error) }
+fn unplanned(alloc: Global, asked: &Edits<'_>, error: UpdateError) -> Result<Outcome, ToolError>
+    ensures ok { IfOk result (IsToldOf (asked_edits asked.now) error) }
     ensures err { IfErr result (λ e. IsFaultOf error e) }
 {
     match error {
         UpdateError::Refused(cause) => {
-            Ok(Outcome::saying(update_line(alloc, asks, cause)?, FAILED))
+            Ok(Outcome::saying(update_line(alloc, asked, cause)?, FAILED))
         }
         UpdateError::NotBlank(p) => Ok(Outcome::saying(not_blank_line(alloc, p)?, FAILED)),
         UpdateError::Beyond(_) => Ok(Outcome::saying(refused(alloc, &error)?, FAILED)),
-        UpdateError::Contents(i) => Ok(unread_contents(alloc, asks, i)?),
+        UpdateError::Contents(i) => Ok(unread_contents(alloc, asked.paths, i)?),
         UpdateError::Read(_) => Err(ToolError::Read),
     }
 }
@@ -350,7 +355,7 @@ impl Counted {
 /// Memory ran out.
 fn count_steps(alloc: Global, geometry: &Geometry, plan: &UpdatePlan) -> Result<Counted, AllocError>
     requires { (n : ℕ) × FitsUpdate geometry.now n plan.now }
-    ensures counted { IfOk result (λ counted. (bytes : List ℕ) → IsLaidFrom geometry.now bytes plan.now → AreCounted (plan_groups geometry.now plan.now bytes) counted) }
+    ensures counted { IfOk result (λ counted. (bytes : List ℕ) → IsLaidFrom geometry.now bytes plan.now → AreStepCounts (plan_groups geometry.now plan.now bytes) counted) }
     ensures groups { IfOk result (λ counted. length counted.counts.items ≡ length plan.now.layings.items + 2) }
 {
     let mut counted = Counted {
@@ -414,7 +419,7 @@ fn hold_plan<T: BlockSource>(
     requires nothing { pages.old.made ≡ Made.Nothing }
     ensures contents { pages.new.contents ≡ pages.old.contents }
     ensures ready { OnOk result (IsReadyFor geometry.now (T.known pages.new.contents).size (T.agrees pages.new.contents) (length pages.new.buffer.items) pages.new.made) }
-    ensures sound { IsSound (T.known pages.new.contents).size (T.agrees pages.new.contents) (length pages.new.buffer.items) pages.new.made }
+    ensures sound { IsSoundPages (T.known pages.new.contents).size (T.agrees pages.new.contents) (length pages.new.buffer.items) pages.new.made }
     ensures held { IfOk result (λ text. IsHeldPlan geometry.now plan stop (T.agrees pages.new.contents) lines.items pages.new.made text.items) }
 {
     let Counted { counts, total } = count_steps(alloc, geometry, &plan)?;
@@ -486,7 +491,7 @@ pub fn run_update_from<S: BlockSource, T: BlockSource, W: Write>(
     geometry: &Geometry,
     source: &mut S,
     avoided: &Avoided<'_>,
-    asks: &[Ask<'_>],
+    asked: &Edits<'_>,
     stop: Option<u32>,
     writer: &mut W,
     pages: &mut Pages<T>,
@@ -495,12 +500,12 @@ pub fn run_update_from<S: BlockSource, T: BlockSource, W: Write>(
     ensures known { S.known source.new ≡ after_run (S.known source.old) result }
     ensures narrows { Narrows (S.agrees source.old) (S.agrees source.new) }
     ensures contents { StaysOpen (T.known pages.old.contents) (T.known pages.new.contents) }
-    ensures sound { IsSound (T.known pages.new.contents).size (T.agrees pages.new.contents) (length pages.new.buffer.items) pages.new.made }
-    ensures ok { WhereHeld (T.agrees pages.new.contents) (λ bytes. IfOk result (UpdatesFrom avoided.now asks.now bytes stop geometry.now (S.known source.old) (S.agrees source.new) (pages_made pages.new.made bytes) (W.contents writer.old) (W.contents writer.new))) }
+    ensures sound { IsSoundPages (T.known pages.new.contents).size (T.agrees pages.new.contents) (length pages.new.buffer.items) pages.new.made }
+    ensures ok { WhereHeld (T.agrees pages.new.contents) (λ bytes. IfOk result (UpdatesFrom avoided.now (asked_edits asked.now) bytes stop geometry.now (S.known source.old) (S.agrees source.new) (pages_made pages.new.made bytes) (W.contents writer.old) (W.contents writer.new))) }
     ensures untouched { WhereNotDone (writer.new ≡ writer.old) result }
-    ensures err { WhereHeld (T.agrees pages.new.contents) (λ bytes. IfErr result (IsUpdateFault avoided.now asks.now bytes stop geometry.now (S.known source.old) (S.agrees source.new) (W.contents writer.old) (W.contents writer.new))) }
+    ensures err { WhereHeld (T.agrees pages.new.contents) (λ bytes. IfErr result (IsUpdateFault avoided.now (asked_edits asked.now) bytes stop geometry.now (S.known source.old) (S.agrees source.new) (W.contents writer.old) (W.contents writer.new))) }
 {
-    let edits = match edits_from(alloc, geometry, source, asks) {
+    let edits = match edits_from(alloc, geometry, source, asked) {
         Ok(edits) => edits,
         Err(NoEdits::Told(line)) => return Ok(Outcome::saying(line, FAILED)),
         Err(NoEdits::Fault(error)) => return Err(error),
@@ -515,7 +520,7 @@ pub fn run_update_from<S: BlockSource, T: BlockSource, W: Write>(
         edits,
     ) {
         Ok(plan) => plan,
-        Err(error) => return unplanned(alloc, asks, error),
+        Err(error) => return unplanned(alloc, asked, error),
     };
     let lines = written_lines(alloc, &plan, edits)?;
     let text = hold_plan(alloc, geometry, plan, lines, stop, pages)?;

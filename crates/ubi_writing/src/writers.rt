@@ -19,12 +19,12 @@ ghost use Rattle.ubi_writing.specs.Outputs.{KeepsImage, WritesInto};
 ghost use Rattle.ubi_files.specs.OverFile.{OfFile};
 ghost use Rattle.ubi_writing.specs.inner.Replaced.{Replaces};
 ghost use Rattle.ubi_change.specs.Laying.{StaysOpen};
-ghost use Rattle.ubi_writing.specs.Pages.{IsSound};
+ghost use Rattle.ubi_writing.specs.Pages.{IsSoundPages};
 ghost use Rattle.ubi_writing.specs.Writes.{HasWork, HasWorkOf, may_replace, writes, writes_of};
 ghost use Rattle.ubi_writing.specs.declared.pages.Made.{Made};
 ghost use Rattle.ubi_files.specs.declared.dump.Dump.{Dump};
 
-use crate::asks::Ask;
+use crate::asks::Edits;
 use crate::change::{NewBytes, run_change_from};
 use crate::extract::run_extract_from;
 use crate::normalise::run_normalise;
@@ -59,7 +59,7 @@ pub enum Writing<'a> {
     /// `rename`: the image after the first steps of a rename of the volume with this number; the word shows its new name.
     Rename(u32, &'a [u8], &'a Avoided<'a>, Option<u32>),
     /// `update`: the image after the first steps of what is asked of volumes, with the contents that the pages come with.
-    Update(&'a [Ask<'a>], &'a Avoided<'a>, Option<u32>),
+    Update(&'a Edits<'a>, &'a Avoided<'a>, Option<u32>),
 }
 
 impl Writing<'_> {
@@ -92,7 +92,7 @@ impl Writing<'_> {
         ensures narrows { Narrows (S.agrees source.old) (S.agrees source.new) }
         ensures answer { IfOk result (writes self.now (T.agrees pages.new.contents) pages.new.made geometry.now (S.known source.old) (S.agrees source.new) (W.contents writer.old) (W.contents writer.new)) }
         ensures contents { StaysOpen (T.known pages.old.contents) (T.known pages.new.contents) }
-        ensures sound { IsSound (T.known pages.new.contents).size (T.agrees pages.new.contents) (length pages.new.buffer.items) pages.new.made }
+        ensures sound { IsSoundPages (T.known pages.new.contents).size (T.agrees pages.new.contents) (length pages.new.buffer.items) pages.new.made }
         ensures untouched { WhereNotDone (writer.new ≡ writer.old) result }
         ensures done { IfOk result (λ o. o.status ≡ 0 → HasWork self.now (T.agrees pages.new.contents) geometry.now (S.known source.old) (S.agrees source.new)) }
         ensures failed { result ≡ Err ToolError.Write → HasWork self.now (T.agrees pages.new.contents) geometry.now (S.known source.old) (S.agrees source.new) }
@@ -116,8 +116,8 @@ impl Writing<'_> {
                 pages.hold(held);
                 answer
             }
-            Writing::Update(asks, avoided, stop) => run_update_from(
-                alloc, geometry, source, avoided, asks, *stop, writer, pages,
+            Writing::Update(asked, avoided, stop) => run_update_from(
+                alloc, geometry, source, avoided, asked, *stop, writer, pages,
             ),
         }
     }
@@ -248,7 +248,7 @@ fn work_late<'a, D: Disk + Eprint, S: BlockSource, T: BlockSource, K: Target>(
     ensures others { OthersStay K.files (D.files result.now) way.now.paths.out.now }
     ensures shut { K.may_open ≡ false → D.files result.now ≡ K.files }
     ensures contents { StaysOpen (T.known pages.old.contents) (T.known pages.new.contents) }
-    ensures sound { IsSound (T.known pages.new.contents).size (T.agrees pages.new.contents) (length pages.new.buffer.items) pages.new.made }
+    ensures sound { IsSoundPages (T.known pages.new.contents).size (T.agrees pages.new.contents) (length pages.new.buffer.items) pages.new.made }
     ensures memory { OnErr outcome.new (AllStay K.files (D.files result.now)) }
 {
     let Faults { unread, unwritten } = faults;
@@ -279,7 +279,7 @@ fn work_into<D: Disk + Eprint, S: BlockSource, T: BlockSource>(
     ensures others { OthersStay (D.files disk.old) (D.files disk.new) way.now.paths.out.now }
     ensures shut { way.now.may_open ≡ false → D.files disk.new ≡ D.files disk.old }
     ensures contents { StaysOpen (T.known pages.old.contents) (T.known pages.new.contents) }
-    ensures sound { IsSound (T.known pages.new.contents).size (T.agrees pages.new.contents) (length pages.new.buffer.items) pages.new.made }
+    ensures sound { IsSoundPages (T.known pages.new.contents).size (T.agrees pages.new.contents) (length pages.new.buffer.items) pages.new.made }
     ensures memory { OnErr result (AllStay (D.files disk.old) (D.files disk.new)) }
 {
     let faults = Faults {
@@ -315,7 +315,7 @@ pub fn write_opened<D: Disk + Eprint, T: BlockSource>(
     ensures others { OthersStay (D.files disk.old) (D.files disk.new) way.now.paths.out.now }
     ensures shut { way.now.may_open ≡ false → D.files disk.new ≡ D.files disk.old }
     ensures contents { StaysOpen (T.known pages.old.contents) (T.known pages.new.contents) }
-    ensures sound { IsSound (T.known pages.new.contents).size (T.agrees pages.new.contents) (length pages.new.buffer.items) pages.new.made }
+    ensures sound { IsSoundPages (T.known pages.new.contents).size (T.agrees pages.new.contents) (length pages.new.buffer.items) pages.new.made }
     ensures memory { OnErr result (AllStay (D.files disk.old) (D.files disk.new)) }
 {
     match opened {
@@ -377,7 +377,7 @@ fn work_at_once<D: Disk, S: BlockSource, T: BlockSource, K: Target>(
     ensures others { OthersStay (D.files disk.old) (D.files disk.new) paths.now.out.now }
     ensures kept { IfOk result (λ o. o.status ≢ 0 → D.files disk.new ≡ D.files disk.old) }
     ensures contents { StaysOpen (T.known pages.old.contents) (T.known pages.new.contents) }
-    ensures sound { IsSound (T.known pages.new.contents).size (T.agrees pages.new.contents) (length pages.new.buffer.items) pages.new.made }
+    ensures sound { IsSoundPages (T.known pages.new.contents).size (T.agrees pages.new.contents) (length pages.new.buffer.items) pages.new.made }
     ensures memory { OnErr result (AllStay (D.files disk.old) (D.files disk.new)) }
 {
     let Faults { unread, unwritten } = faults;
@@ -406,7 +406,7 @@ fn replace_into<D: Disk, S: BlockSource, T: BlockSource>(
     ensures others { OthersStay (D.files disk.old) (D.files disk.new) paths.now.out.now }
     ensures kept { IfOk result (λ o. o.status ≢ 0 → D.files disk.new ≡ D.files disk.old) }
     ensures contents { StaysOpen (T.known pages.old.contents) (T.known pages.new.contents) }
-    ensures sound { IsSound (T.known pages.new.contents).size (T.agrees pages.new.contents) (length pages.new.buffer.items) pages.new.made }
+    ensures sound { IsSoundPages (T.known pages.new.contents).size (T.agrees pages.new.contents) (length pages.new.buffer.items) pages.new.made }
     ensures memory { OnErr result (AllStay (D.files disk.old) (D.files disk.new)) }
 {
     let faults = Faults {
@@ -430,7 +430,7 @@ fn replace_opened<D: Disk + Eprint, T: BlockSource>(
     ensures others { OthersStay (D.files disk.old) (D.files disk.new) paths.now.out.now }
     ensures kept { IfOk result (λ o. o.status ≢ 0 → D.files disk.new ≡ D.files disk.old) }
     ensures contents { StaysOpen (T.known pages.old.contents) (T.known pages.new.contents) }
-    ensures sound { IsSound (T.known pages.new.contents).size (T.agrees pages.new.contents) (length pages.new.buffer.items) pages.new.made }
+    ensures sound { IsSoundPages (T.known pages.new.contents).size (T.agrees pages.new.contents) (length pages.new.buffer.items) pages.new.made }
     ensures memory { OnErr result (AllStay (D.files disk.old) (D.files disk.new)) }
 {
     match opened {

@@ -6,7 +6,7 @@ use Rattle.ubi_scan.specs.Image.{Image}
 use Rattle.ubi_change.specs.Avoided.{Avoided}
 use Rattle.ubi_files.specs.declared.outcome.Outcome.{Outcome}
 use Rattle.ubi_calls.specs.Calls.{MayTell, put_into}
-use Rattle.ubi_calls.specs.Edits.{PlansChange, PlansRename, image_without, spared}
+use Rattle.ubi_calls.specs.Edits.{PlansChange, PlansRename, PlansUpdate, image_without, spared}
 use Rattle.ubi_calls.specs.inner.Handing.{Leaves, LeavesNothing}
 use Rattle.ubi_calls.specs.declared.plans.Edit.{Edit}
 use Rattle.ubi_calls.specs.declared.plans.Edit.TheVariants as edit
@@ -16,6 +16,7 @@ use Rattle.ubi_calls.specs.declared.plans.Spared.{Spared}
 abbrev pub edit_plan : Edit → Image → Avoided → List ℕ → MayTell
 edit_plan (edit.Change new) image av = PlansChange image av new.id new.lnum new.bytes.now
 edit_plan (edit.Rename id word) image av = PlansRename image av id word.now
+edit_plan (edit.Update text contents) image av = PlansUpdate image av text.now contents.now
 
 -- the same for bytes on a chip, some of whose eraseblocks are spared
 abbrev pub spared_plan : Edit → Spared → Sizes → List ℕ → List ℕ → MayTell

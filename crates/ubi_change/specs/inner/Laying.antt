@@ -34,3 +34,8 @@ IsContentsError ps at _ = ⊥
 abbrev pub AreReadable : Sizes → List Edit → List Part → Type 0
 AreReadable s es ps = (size : ℕ) → size < 2 ^ 64 → AllByRecursion (λ v. v.start + v.len ≤ size) (news_of es)
     → AllByRecursion (IsPartReadable s size) ps
+
+-- what an error of contents says about a plan, if the i-th of the volumes that are written was read
+abbrev pub contents_error : ℕ → ContentsError → UpdateError
+contents_error i (contents.Read id) = error.Contents i
+contents_error i contents.Memory = error.Refused refusal.Memory

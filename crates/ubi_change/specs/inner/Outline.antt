@@ -27,5 +27,5 @@ abbrev pub release_lines : Found → Site → List Step
 release_lines scan old = if stays_on scan old old.ec then [] else renew_lines old.pnum
 
 -- the numbers of these pages, and of the one behind them, have 32 bits
-abbrev pub AreNumbered : ℕ → ℕ → Type 0
-AreNumbered first count = first + count < 2 ^ 32
+abbrev pub HavePageNumbers : ℕ → ℕ → Type 0
+HavePageNumbers first count = first + count < 2 ^ 32

@@ -24,7 +24,7 @@ use ubi_probe::texts::bytes_of;
 use ubi_reading::{Comparison, Format, run_check, run_geometry, run_list, run_show};
 use ubi_scan::MemorySource;
 use ubi_writing::{
-    Ask, Pages, VolumeKey, run_change, run_compose, run_extract, run_normalise, run_rename,
+    Ask, Edits, Pages, VolumeKey, run_change, run_compose, run_extract, run_normalise, run_rename,
     run_update_from,
 };
 
@@ -120,7 +120,11 @@ fn is_updated(rt: &impl Abort, alloc: Global, geometry: &Geometry, image: &[u8])
         geometry,
         &mut MemorySource::new(image),
         &Avoided::new(&[], false),
-        &[Ask::Contents("root=none.img", 0, 0)],
+        &Edits {
+            asks: &[Ask::Contents("root=none.img", 0, 0)],
+            volumes: &[],
+            paths: &["none.img"],
+        },
         None,
         &mut written.as_mut_slice(),
         &mut pages,

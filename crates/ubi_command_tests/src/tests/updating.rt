@@ -14,7 +14,7 @@ use ubi_probe::texts::bytes_of;
 use ubi_probe::{Failure, ProbeSource, ProbeWriter};
 use ubi_reading::{Format, Reading};
 use ubi_scan::{BlockSource, MemorySource};
-use ubi_writing::{Ask, Pages, VolumeKey, run_extract, run_update_from};
+use ubi_writing::{Ask, Edits, Pages, VolumeKey, run_extract, run_update_from};
 
 /// Bytes that each stand a number of times.
 type Runs = &'static [(&'static [u8], usize)];
@@ -41,7 +41,7 @@ const LISTED: [bool; 10] = [
     false, false, false, false, false, false, false, false, false, true,
 ];
 
-/// What an update of a source answers with contents of another, and the pages, with the eraseblock 9 listed.
+/// What an update of a source answers with contents of another, whose files are called so, and the pages, with the eraseblock 9 listed.
 fn answer_with<S: BlockSource, T: BlockSource + Drop>(
     alloc: Global,
     geometry: &Geometry,
@@ -52,12 +52,17 @@ fn answer_with<S: BlockSource, T: BlockSource + Drop>(
     writer: &mut ProbeWriter,
 ) -> Result<(Outcome, Vec<u8>), ToolError> {
     let mut pages = Pages::of(alloc, contents);
+    let asked = Edits {
+        asks,
+        volumes: &[],
+        paths: &["new.img", "other.img"],
+    };
     let answer = run_update_from(
         alloc,
         geometry,
         source,
         &Avoided::new(&LISTED, false),
-        asks,
+        &asked,
         stop,
         writer,
         &mut pages,
@@ -554,8 +559,8 @@ fn updated_without(
     }
 }
 
-/// The bytes of a volume of two logical eraseblocks are read four times: for the plan, for its lines, for the image, and for the pages.
-/// If one can't be read before the image is written, its file is named, and nothing is written.
+/// The bytes of a volume of two logical eraseblocks are read three times: for the plan, for the image, and for the pages. If one can't be
+/// read before the image is written, its file is named, and nothing is written.
 #[test]
 fn tells_contents_that_fail(rt: HostRuntime) -> Result<(), Fail> {
     let alloc = rt.alloc();
@@ -567,23 +572,21 @@ fn tells_contents_that_fail(rt: HostRuntime) -> Result<(), Fail> {
     for (fail_at, written) in [
         (1, Some(0)),
         (2, Some(0)),
-        (3, Some(0)),
-        (4, Some(0)),
         // The eraseblocks 5 and 6 get the contents, and both copies of the table follow.
-        (5, Some(2560)),
-        (6, Some(3072)),
-        (7, Some(5120)),
-        (8, Some(5120)),
-        (9, None),
+        (3, Some(2560)),
+        (4, Some(3072)),
+        (5, Some(5120)),
+        (6, Some(5120)),
+        (7, None),
     ] {
         let (answer, writer) = updated_without(alloc, &geometry, image, asked, fail_at)?;
         let told = match &answer {
             Ok(outcome) if outcome.status == 1 => {
                 assert!(rt; outcome.text.as_slice() == b"cannot read new.img\n".as_slice());
-                fail_at <= 4
+                fail_at <= 2
             }
-            Ok(_) => fail_at == 9,
-            Err(error) => *error == ToolError::Write && fail_at > 4 && fail_at < 9,
+            Ok(_) => fail_at == 7,
+            Err(error) => *error == ToolError::Write && fail_at > 2 && fail_at < 7,
         };
         assert!(rt; told, "at the read {fail_at}");
         let taken = writer.taken();

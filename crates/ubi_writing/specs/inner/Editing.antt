@@ -19,7 +19,7 @@ use Rattle.ubi_files.specs.declared.outcome.ToolError.{ToolError}
 use Rattle.ubi_files.specs.declared.outcome.ToolError.TheVariants as tool
 use Rattle.ubi_writing.specs.Update.{IsNoEditOf, error_line}
 use Rattle.ubi_writing.specs.Plan.{plan_lines, steps_done}
-use Rattle.ubi_writing.specs.declared.asks.Ask.{Ask}
+use Rattle.ubi_writing.specs.Asks.{AskedEdits}
 use Rattle.ubi_writing.specs.declared.pages.Made.{Made}
 use Rattle.ubi_writing.specs.declared.pages.Made.TheVariants as made
 use Rattle.ubi_writing.specs.declared.pages.MadeEdits.{MadeEdits}
@@ -47,16 +47,16 @@ after_edits k _ = k
 
 -- why there are none: the image is refused, or what is asked stands for no edit, with the line that says so; or a read failed, or memory
 -- ran out
-abbrev pub AreNoEdits : Sizes → Source → Agreed → List Ask → NoEdits → Type 0
-AreNoEdits s k agrees asks (no_edits.Told text) =
+abbrev pub AreNoEdits : Sizes → Source → Agreed → AskedEdits → NoEdits → Type 0
+AreNoEdits s k agrees w (no_edits.Told text) =
     ((c : Refusal) × ArePlacesError s k agrees (stream.Refused c) × (text.items ≡ refusal_line c))
-    ⊎ WhereHeld agrees (λ bytes. IsNoEditOf (image_of s bytes) asks text.items)
-AreNoEdits s k agrees asks (no_edits.Fault tool.Write) = ⊥
-AreNoEdits s k agrees asks (no_edits.Fault _) = Unit {0}
+    ⊎ WhereHeld agrees (λ bytes. IsNoEditOf (image_of s bytes) w text.items)
+AreNoEdits s k agrees w (no_edits.Fault tool.Write) = ⊥
+AreNoEdits s k agrees w (no_edits.Fault _) = Unit {0}
 
 -- the answer is the line of edits that aren't planned
-abbrev pub IsToldOf : List Ask → UpdateError → Outcome → Type 0
-IsToldOf asks e o = (line : List ℕ) × (error_line asks e ≡ Some line) × Gives o (says line 1)
+abbrev pub IsToldOf : AskedEdits → UpdateError → Outcome → Type 0
+IsToldOf w e o = (line : List ℕ) × (error_line w e ≡ Some line) × Gives o (says line 1)
 
 -- a read failed, or memory ran out
 abbrev pub IsFaultOf : UpdateError → ToolError → Type 0
@@ -64,7 +64,7 @@ IsFaultOf (error.Read p) e = e ≡ tool.Read
 IsFaultOf _ e = e ≡ tool.Memory
 
 -- the steps of groups, one after the other, were counted: how many there are in each group, and in all
-pub record AreCounted (groups : List (List Step)) (c : Counted) : Type 0 where
+pub record AreStepCounts (groups : List (List Step)) (c : Counted) : Type 0 where
   pub counts : c.counts.items ≡ map length groups
   pub total : c.total ≡ length (in_order groups)
 

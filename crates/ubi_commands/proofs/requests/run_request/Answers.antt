@@ -43,4 +43,4 @@ returns-in-Update-clause-answer g c =
 
 pub returns-in-Update-clause-others : goal.returns-in-Update-clause-others
 returns-in-Update-clause-others g c =
-    rw c.in-Update.is (c.update_file.ensures.stays, c.update_file.ensures.contents, c.update_file.ensures.part)
+    rw c.in-Update.is (c.update_file.ensures.stays, c.update_file.ensures.contents, c.update_file.ensures.config, c.update_file.ensures.part)

@@ -5,7 +5,7 @@ use Rattle.ubi_writing.proofs.contents.gather_contents.Goals as goal
 pub loop-word-init : goal.loop-word-init
 loop-word-init g c = record {
   filled = none_filled (g.D.Disk.files c.args.disk.now) (sizes_of c.args.numbers) c.args.asked.now
-      (record { asks = c.in_ok-asks.asks; paths = c.new.result; total = 0 }) _ c.in_ok-asks.ensures refl c.new.ensures.items
+      (record { asks = c.in_ok-asks.asks; volumes = c.new.result; paths = c.new-2.result; total = 0 }) _ c.in_ok-asks.ensures c.new.ensures.items refl c.new-2.ensures.items
       (ap (map (λ f. bytes_in (λ x. g.D.Placed.PlacedFile.bytes x.file) f.file)) c.new-files.ensures.items);
   total = sym (ap (sum_by (λ f. f.len)) c.new-files.ensures.items);
 }
@@ -17,14 +17,14 @@ loop-word-preserved g c =
     let xs = c.args.asked.now.contents.now in
     let i = c.loop-word.word-index in
     let named = c.parts_of.ensures.value in
-    let added = c.in_ok-add.ensures in
+    let added = c.in_ok-add_word.ensures in
     let pushed = c.in_ok-push_file.ensures in
     record {
-      filled = subst (λ (ws : List (Bor (List ℕ))). IsFilledBy d s c.args.asked.now ws c.add.new.self
+      filled = subst (λ (ws : List (Bor (List ℕ))). IsFilledBy d s c.args.asked.now ws c.add_word.new.self
           (map (λ f. bytes_in (λ x. g.D.Placed.PlacedFile.bytes x.file) f.file) c.push_file.new.files.items))
           (sym (take_more xs i _ c.loop-word-test.true))
-          (one_filled d s c.args.asked.now (take i xs) _ c.parts_of.result.1 c.in_ok-file.file.len _ c.loop-word.contents c.add.new.self _ _
-          c.loop-word.invariant.filled c.in_ok-file.ensures.file named (rw c.len.ensures at added.asks) (rw c.len.ensures at added.total) added.paths
+          (one_filled d s c.args.asked.now (take i xs) _ c.parts_of.result.1 c.in_ok-file.file.len _ c.loop-word.contents c.add_word.new.self _ _
+          c.loop-word.invariant.filled c.in_ok-file.ensures.file named (rw c.len.ensures at added.asks) added.volumes (rw c.len.ensures at added.total) added.paths
           (ap (map (λ f. bytes_in (λ x. g.D.Placed.PlacedFile.bytes x.file) f.file)) pushed
           ∙ map-append (λ f. bytes_in (λ x. g.D.Placed.PlacedFile.bytes x.file) f.file) c.loop-word.files.items (c.in_ok-file.file ∷ [])));
       total =

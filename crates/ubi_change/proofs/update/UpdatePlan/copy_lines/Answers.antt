@@ -1,4 +1,4 @@
-use Rattle.ubi_change.proofs.Prelude.{Found, List, Site, Step, ap, ap₂, get_or, inl, inr, length, pages_of, subst, sym, ℕ, ◌++◌, ◌/◌, ◌∙◌, ◌≡◌, AreNumbered, lay_lines, release_lines, IsOutline}
+use Rattle.ubi_change.proofs.Prelude.{Found, List, Site, Step, ap, ap₂, get_or, inl, inr, length, pages_of, subst, sym, ℕ, ◌++◌, ◌/◌, ◌∙◌, ◌≡◌, HavePageNumbers, lay_lines, release_lines, IsOutline}
 use Rattle.ubi_change.proofs.Outlined.{first_or_second, first_outline, second_outline, table_numbered}
 use Rattle.ubi_change.proofs.update.UpdatePlan.copy_lines.Goals as goal
 
@@ -13,7 +13,7 @@ returns c bytes =
     let old : Site = c.given_up.result.now in
     let count = c.len.result / c.page.result in
     let pages : count ≡ pages_of s p.pages.items = ap₂ (λ (a b : ℕ). a / b) (c.len.ensures ∙ p.pages.ok.0) c.page.ensures.value in
-    let numbers = subst (AreNumbered (s.data_offset / s.page)) (sym pages) (table_numbered s n p fits k bytes) in
+    let numbers = subst (HavePageNumbers (s.data_offset / s.page)) (sym pages) (table_numbered s n p fits k bytes) in
     let found = c.scan.ensures in
     let are : (x : Site) → old ≡ x
     → lay_lines s (get_or p.sites.items k t) (pages_of s p.pages.items) ++ release_lines p.surveyed.scan x ≡ c.push_released.new.steps.items =
