@@ -163,6 +163,11 @@ def _checked(sizes):
     return sizes
 
 
+def _block(sizes, image):
+    """The bytes of an eraseblock: no more than the image has, whatever the sizes say."""
+    return min(_checked(sizes).peb_size, memoryview(image).nbytes)
+
+
 def _shown(name):
     """A name as the calls take it: one that is bytes is shown byte by byte."""
     return name.encode("ascii") if isinstance(name, str) else "".join(rf"\x{byte:02x}" for byte in name).encode()
@@ -309,7 +314,7 @@ class Library:
 
     def normalise(self, sizes, image):
         """The normal image: one that means the same, and is the same for all images that do."""
-        return self._answer("normalise", sizes, [image], rooms=[_Room(len(image) + 2 * _checked(sizes).peb_size)])[0]
+        return self._answer("normalise", sizes, [image], rooms=[_Room(len(image) + 2 * _block(sizes, image))])[0]
 
     def same(self, sizes, left, right):
         """Whether two images mean the same."""
@@ -341,7 +346,7 @@ class Library:
     def _plan(self, name, sizes, image, spared, numbers, given):
         """The lines before the steps of a plan, and the steps."""
         written = memoryview(given[-1]).nbytes
-        rooms = [_Room(ROOM + written // 16), _Room(2 * (_checked(sizes).peb_size + written))]
+        rooms = [_Room(ROOM + written // 16), _Room(2 * (_block(sizes, image) + written))]
         answer, pages = self._answer(name, sizes, [image], numbers, given, rooms, spared)
         lines = answer.decode("ascii").splitlines()
         first = next(place for place, line in enumerate(lines) if line.startswith("steps "))

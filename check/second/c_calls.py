@@ -376,7 +376,7 @@ class Case:
         self.look_call("rename", words, [path, self.put("name", word.encode())], [named],
             lambda sizes: library.rename(sizes, image, named, given, **spared.given()), pages=True, spared=spared)
 
-    def updated(self, path, words, sizes, spared):
+    def updated(self, path, words, spared):
         """What has to be answered for the edits of some words: what the program answers, if it does them in this order;
         otherwise what update_rules.py says."""
         order = [EDITS.index(word.option) for word in words]
@@ -386,7 +386,7 @@ class Case:
             given = [written.get(k, word.value) for k, word in enumerate(words)]
             asked = [f"--{word.option}={word.name}{'' if value is None else f'={value}'}"
                 for word, value in zip(words, given)]
-            return self.program(["update", path, *asked, *spared.words()], sizes, pages=True)
+            return self.program(["update", path, *asked, *spared.words()], sizes_of(self.geometry), pages=True)
         try:
             image = Image(self.geometry, self.image, lambda block: block in spared.bad)
             image = image.keeping_blank() if spared.keeps_blank else image
@@ -403,7 +403,7 @@ class Case:
         """Compares an update, by a text for the edits of some words, mostly in the program's order; and by one that is
         spoiled."""
         rng, image, library, given = self.rng, self.image, self.library, spared.given()
-        words = [word for word in words if word.option in EDITS]
+        words = [word for word in words if word.option in EDITS and rng.random() < 0.95]
         if rng.random() < 0.7:
             words.sort(key=lambda word: EDITS.index(word.option))
         for is_spoiled in (False, True):
@@ -411,11 +411,13 @@ class Case:
             if is_spoiled:
                 text, contents = spoiled(rng, text, contents)
             asked, under, edits = read_text(text, contents), sizes or sizes_of(self.geometry), None
-            if isinstance(asked, int) and sizes is None:
+            if sizes:
+                right = self.program(["update", path, *spared.words()], sizes, pages=True)
+            elif isinstance(asked, int):
                 right = 1, f"refused E1 BadEdit line={asked}\n".encode(), b""
             else:
-                right = self.updated(path, words if isinstance(asked, int) else asked, under, spared)
-            if text.isascii() and not isinstance(asked, int) and asked == words:
+                right = self.updated(path, asked, spared)
+            if text.isascii() and asked == words:
                 edits = [edit_of(word, right[0] == 0 and rng.random() < 0.3) for word in words]
             paths = [path, self.put("edits", text), self.put("contents", contents)]
             call = edits is not None and (lambda sizes, edits=edits: library.update(sizes, image, edits, **given))
