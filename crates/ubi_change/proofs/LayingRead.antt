@@ -1,5 +1,5 @@
 -- The pieces of a part lie in the source, and a read of one that failed began in the bytes of the part.
-use Rattle.ubi_change.proofs.Prelude.{◌≡◌, ℕ, ◌+◌, ◌*◌, ◌<◌, ◌++◌, List, [], ◌∷◌, refl, arith, ap, ap₂, sym, length, take, take_more, get_or, append-nil, ◌∙◌, subst, append_assoc, None, Option, Some, IfSome, cons_option, filter_map, range_with_len, all_append, AllByRecursion, Sizes, VolKind, usable, filter_map-append, usable_some, piece_begins, share_len, pieces_of, LiesIn, built_piece, part_header, Part, Piece, flat_map-append, all_layings, laying_of, layings_of, IsContentsError, Source, Err, slice_get-get_or, after_contents, contents_after_update, contents_error, IsPartUnread, IsPartReadable, IsReadOfPiece, ContentsError, Laying}
+use Rattle.ubi_change.proofs.Prelude.{◌≡◌, ℕ, ◌+◌, ◌*◌, ◌<◌, ◌++◌, List, [], ◌∷◌, refl, arith, ap, ap₂, sym, length, take, take_more, get_or, append-nil, ◌∙◌, subst, append_assoc, None, Option, Some, IfSome, cons_option, filter_map, range_with_len, all_append, AllByRecursion, Sizes, VolKind, usable, filter_map-append, usable_some, piece_begins, share_len, pieces_of, LiesIn, built_piece, part_header, Part, Piece, flat_map-append, all_layings, laying_of, layings_of, IsContentsError, Source, Err, slice_get-get_or, after_contents, contents_after_update, contents_error, IsPartUnread, IsPartReadable, IsPieceUnread, ContentsError, Laying}
 use Rattle.ubi_media.specs.declared.vid.VolKind.TheVariants as kind
 use Rattle.ubi_change.specs.declared.errors.ContentsError.TheVariants as contents
 use Rattle.ubi_change.proofs.FirstTakeable.{range_more}
@@ -16,11 +16,12 @@ module _ (s : Sizes) (size : ℕ) (p : Part) (is : IsPartReadable s size p) (n :
   pub piece_lies : LiesIn s size (built_piece s p n)
   piece_lies = let b = begins in let r = is.reaches in record { fits = omega arith; within = omega (arith, b, r) }
 
-  pub piece_unread : (at : ℕ) (e : ContentsError) → IsReadOfPiece s (built_piece s p n) at e → IsPartUnread p at e
+  pub piece_unread : (at : ℕ) (e : ContentsError) → IsPieceUnread (built_piece s p n) at e → IsPartUnread p at e
   piece_unread at (contents.Read id) h =
       let b = begins in
-      let place = h.1 in
-      (h.0 ∙ number p.entry.kind s p n (share_len (usable s p.entry) p.len n), omega (arith, place), omega (arith, place, b))
+      let from = h.1.0 in
+      let to = h.1.1 in
+      (h.0 ∙ number p.entry.kind s p n (share_len (usable s p.entry) p.len n), omega (arith, from), omega (arith, to, b))
   piece_unread at contents.Memory h = absurd h
 
 -- one piece more

@@ -44,6 +44,7 @@ pub mod HeadersKept
 pub mod JudgedFirst
 pub mod KnownEdits
 pub mod Laid
+pub mod LastPages
 pub mod LayingRead
 pub mod LayoutHeader
 pub mod LeftFits

@@ -3,11 +3,11 @@ pub use Rattle.std.proofs.Common.{Bool, Less, List, [], ap, append-nil, append_a
 pub use Rattle.std.proofs.KnownBytes.{Appends-nil}
 pub use Rattle.std.proofs.Math.Nat.{div-add-mod, div-eq_of_lt, div-le_of_le-mul, div-mul-le_self, le-max_left, le-max_right, mod-lt}
 pub use Rattle.std.proofs.Math.Seq.{drop-append_seam, take-append-add, take-append_seam}
-pub use Rattle.std.proofs.lemmas.Bool.{and_parts, cases_eq, cases_lt, eqb-true, ltb-true}
+pub use Rattle.std.proofs.lemmas.Bool.{and_parts, cases_eq, cases_lt, eqb-true, ltb-true, not-true}
 pub use Rattle.std.proofs.lemmas.Bool.Decides.{Decides-and, Decides-like, nat_tests}
 pub use Rattle.std.proofs.lemmas.Grind.{common_steps, flat_map-append}
 pub use Rattle.std.proofs.lemmas.Iterator.Adapters.{position_from-zero}
-pub use Rattle.std.proofs.lemmas.List.{at_drop_more, drop-drop, drop_at, get_or-map, get_or_default, length-map, length-replicate, length-take, length-take-le, map-append, set-get_or, set-set, take-append-drop, take-append-le, take-replicate, take-take, take_all, take_at, take_min, take_more}
+pub use Rattle.std.proofs.lemmas.List.{at_drop_more, drop-drop, drop-take, drop_all, drop_at, get_or-map, get_or_default, length-map, length-replicate, length-take, length-take-le, map-append, set-get_or, set-set, take-append-drop, take-append-le, take-replicate, take-take, take_all, take_at, take_min, take_more}
 pub use Rattle.std.proofs.lemmas.List.Elements.{All-head, All-tail, filter-append, filter_map-append}
 pub use Rattle.std.proofs.lemmas.List.Folds.{concat-append, list_all-append}
 pub use Rattle.std.proofs.lemmas.List.FromFn.{get_or-enumerate_from, length-enumerate_from}
@@ -41,7 +41,7 @@ pub use Rattle.ubi_laid.specs.Laid.{AreApart, CanBeLaid, Laid, laid_blocks, stat
 pub use Rattle.ubi_laid.specs.LaidIn.{AreLaidIn, IsLaidAt, IsNoneOf}
 pub use Rattle.ubi_laid.specs.Laws.{EachIsVolume}
 pub use Rattle.ubi_laid.specs.Parts.{content_of, pieces_of, text_of}
-pub use Rattle.ubi_laid.specs.Pieces.{LiesIn, built_piece, checked_header, is_left_out, kept_piece, kept_pieces, laid_piece, laid_text, part_header, piece_text}
+pub use Rattle.ubi_laid.specs.Pieces.{IsInBuffer, LiesIn, built_piece, checked_header, is_left_out, kept_piece, kept_pieces, laid_piece, laid_text, part_header, piece_text}
 pub use Rattle.ubi_laid.specs.declared.part.Part.{Part}
 pub use Rattle.ubi_laid.specs.declared.pieces.Origin.{Origin}
 pub use Rattle.ubi_laid.specs.declared.pieces.Piece.{Piece}
@@ -149,7 +149,7 @@ pub use Rattle.ubi_change.specs.EditsAsked.{all_asked, asked, first_beyond, is_b
 pub use Rattle.ubi_change.specs.Fitting.{AllFit, AllWithin, FitsBlock, fits, only_clears, page_of}
 pub use Rattle.ubi_change.specs.Frugal.{CountsErases, IsFrugal, TouchesOnly, counter_after, erases, given_up, touched}
 pub use Rattle.ubi_change.specs.Laws.{AcceptsHarmed, AcceptsTorn, CommitAvoiding, CommitSurvives, CommitSurvivesTears, EditsAllowed, PlanSurvives, PlanSurvivesTears, RenameSurvives, RenameSurvivesTears, left}
-pub use Rattle.ubi_change.specs.Laying.{IsReadOfPiece, StaysOpen, after_contents, all_layings, laying_of, laying_with, layings_of, piece_bytes}
+pub use Rattle.ubi_change.specs.Laying.{StaysOpen, after_contents, all_layings, laying_of, laying_with, layings_of, piece_bytes}
 pub use Rattle.ubi_change.specs.Order.{ComesFirst, Erases, NoErase, Programs, RisesBetweenErases}
 pub use Rattle.ubi_change.specs.Pages.{PagesCarry, line_of, programmed, with_pages}
 pub use Rattle.ubi_change.specs.Placed.{autoresized_twice, edited_parts, edited_records, flagged_twice, free_slots, is_free, parts_of, records_with}
@@ -192,7 +192,7 @@ pub use Rattle.ubi_change.specs.declared.written_out.Ready.{Ready}
 pub use Rattle.ubi_change.specs.inner.Drafting.{TellsUsed}
 pub use Rattle.ubi_change.specs.inner.Judging.{IsFirstJudged, IsJudged, IsMade, IsUnjudged}
 pub use Rattle.ubi_change.specs.inner.Known.{AreWholes, IsKnown, is_whole_case}
-pub use Rattle.ubi_change.specs.inner.Laying.{IsContentsError, IsPartReadable, IsPartUnread, contents_error}
+pub use Rattle.ubi_change.specs.inner.Laying.{IsContentsError, IsLastPage, IsPartReadable, IsPartUnread, IsPieceUnread, contents_error, full_laying}
 pub use Rattle.ubi_change.specs.inner.Making.{AreSites, AreStepsOf, FitsPrepared, IsPrepared, IsSitesRefusal, IsTarget, IsTooFew, IsUnplanned, change_error, change_needs, image_causes, own_causes, shown, steps_on, target_header}
 pub use Rattle.ubi_change.specs.inner.Outline.{HavePageNumbers, lay_lines, page_lines, release_lines, renew_lines}
 pub use Rattle.ubi_change.specs.inner.Ready.{IsReady, IsSitesError, IsUnready}

@@ -1,10 +1,10 @@
 //! The logical eraseblocks that new volumes are written to.
 
 ghost use Rattle.std.specs.List.{AllByRecursion, cons_option};
-ghost use Rattle.std.specs.Prelude.{◌≡◌, ◌++◌, [], IfErr, IfOk, IfSome, OnOk, length};
+ghost use Rattle.std.specs.Prelude.{◌≡◌, ◌++◌, [], IfErr, IfOk, IfSome, OnOk, Some, length, true};
 ghost use Rattle.ubi_change.specs.Laying.{after_contents, all_layings, laying_of, layings_of};
 ghost use Rattle.ubi_change.specs.UpdatePlan.{contents_after_update};
-ghost use Rattle.ubi_change.specs.inner.Laying.{IsContentsError, IsPartUnread, IsPartReadable, contents_error};
+ghost use Rattle.ubi_change.specs.inner.Laying.{IsContentsError, IsLastPage, IsPartReadable, IsPartUnread, IsPieceUnread, contents_error, full_laying};
 ghost use Rattle.ubi_change.specs.Laying.{IsReadOfPiece};
 ghost use Rattle.ubi_laid.specs.Pieces.{IsInBuffer, LiesIn};
 ghost use Rattle.ubi_scan.specs.Source.{Narrows, WhereHeld};
@@ -12,8 +12,8 @@ ghost use Rattle.ubi_scan.specs.Source.{Narrows, WhereHeld};
 use crate::errors::{ContentsError, UpdateError, UpdateRefusal};
 use crate::trim::{pages_needed, whole_text};
 use std::alloc::{AllocError, Global};
-use ubi_laid::{Part, Piece, fetch, is_left_out, piece_count, piece_of};
-use ubi_media::Geometry;
+use ubi_laid::{Origin, Part, Piece, fetch, is_left_out, piece_count, piece_of};
+use ubi_media::{Geometry, is_blank};
 use ubi_scan::BlockSource;
 
 /// A logical eraseblock that is written.
@@ -49,6 +49,48 @@ pub fn read_piece<T: BlockSource>(
     }
 }
 
+/// The bytes that a piece has in its last page, as a piece. `None` if it has no bytes, or none at a place of their own.
+fn last_page(geometry: &Geometry, piece: &Piece) -> Option<Piece>
+    ensures { IfSome result (IsLastPage geometry.now piece.now) }
+{
+    let Origin::Bytes(start) = piece.origin else {
+        return None;
+    };
+    let page = geometry.page();
+    let before = piece.len.checked_sub(1)? / page * page;
+    Some(Piece {
+        header: piece.header,
+        origin: Origin::Bytes(start.checked_add(u64::from(before))?),
+        len: piece.len - before,
+    })
+}
+
+/// Whether the last page of a piece has a byte that isn't 0xFF: then all its pages are programmed. No other page is read.
+///
+/// # Errors
+///
+/// `Read` if the read failed.
+fn is_full<T: BlockSource>(
+    geometry: &Geometry,
+    piece: &Piece,
+    contents: &mut T,
+    buffer: &mut [u8],
+) -> Result<bool, ContentsError>
+    requires lies { LiesIn geometry.now (T.known contents.old).size piece.now }
+    requires room { length buffer.old ≡ geometry.now.peb_size }
+    ensures known { T.known contents.new ≡ after_contents (T.known contents.old) result }
+    ensures narrows { Narrows (T.agrees contents.old) (T.agrees contents.new) }
+    ensures full { IfOk result (λ full. full ≡ true → WhereHeld (T.agrees contents.new) (λ bytes. laying_of geometry.now bytes piece.now ≡ Some (full_laying geometry.now piece.now))) }
+    ensures refused { IfErr result (IsPieceUnread piece.now (T.failed_at contents.new)) }
+{
+    let Some(last) = last_page(geometry, piece) else {
+        return Ok(false);
+    };
+    read_piece(geometry, &last, contents, buffer)?;
+    let data = geometry.data_offset() as usize;
+    Ok(!is_blank(&buffer[data..data + last.len as usize]))
+}
+
 /// What is written of a piece. `None` if it is left out.
 ///
 /// # Errors
@@ -66,8 +108,14 @@ fn laying_of<T: BlockSource>(
     ensures narrows { Narrows (T.agrees contents.old) (T.agrees contents.new) }
     ensures laying { IfOk result (λ laying. WhereHeld (T.agrees contents.new) (λ bytes. laying ≡ laying_of geometry.now bytes piece.now)) }
     ensures piece { IfOk result (λ laying. IfSome laying (λ l. l.piece ≡ piece.now)) }
-    ensures refused { IfErr result (IsReadOfPiece geometry.now piece.now (T.failed_at contents.new)) }
+    ensures refused { IfErr result (IsPieceUnread piece.now (T.failed_at contents.new)) }
 {
+    if is_full(geometry, piece, contents, buffer)? {
+        return Ok(Some(Laying {
+            piece: *piece,
+            pages: piece.len.div_ceil(geometry.page()),
+        }));
+    }
     read_piece(geometry, piece, contents, buffer)?;
     if is_left_out(geometry, piece, buffer) {
         return Ok(None);

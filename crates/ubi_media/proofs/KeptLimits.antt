@@ -1,5 +1,5 @@
 -- The numbers of a geometry are those that break no limit.
-use Rattle.ubi_media.proofs.Prelude.{rules, ◌≡◌, ◌-◌, Bool, true, false, cond, arith, refl, None, Option, Some, nat_tests, IsGeometry, Sizes, first_broken, keeps, limits}
+use Rattle.ubi_media.proofs.Prelude.{rules, ◌≡◌, Bool, true, false, cond, arith, refl, None, Option, Some, nat_tests, IsGeometry, Sizes, first_broken, keeps}
 use Rattle.std.specs.Prelude.{not}
 use Rattle.ubi_media.specs.declared.geometry.GeometryError.TheVariants as fault
 use Rattle.ubi_media.proofs.Pages.{page_multiple}

@@ -1,3 +1,4 @@
+pub mod Blanks
 pub mod ByteLists
 pub mod Cases
 pub mod CheckVectors

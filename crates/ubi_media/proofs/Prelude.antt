@@ -17,10 +17,10 @@ pub use Rattle.std.proofs.lemmas.Nat.{and_mask, from_le_bytes-to_le_bytes_8, mod
 pub use Rattle.std.proofs.lemmas.Nat.Bits.{bit_at-lt, bit_at-suc, bit_at_above, bit_at_lowest, bit_at_xor}
 pub use Rattle.std.proofs.lemmas.Nat.Gcd.{dvd_of_mod-eq-zero, dvd_trans, mod-eq-zero_of_dvd}
 pub use Rattle.std.proofs.lemmas.Option.{none-some}
-pub use Rattle.std.specs.Cmp.Lexicographic.{other_text, same_text}
+pub use Rattle.std.specs.Cmp.Lexicographic.{other_text, pointwise, same_text}
 unfoldable pub use Rattle.std.specs.Fmt.{digits}
 pub use Rattle.std.specs.Int.{bit_at, byte_at, bytes_low_first, from_le_bytes, to_le_bytes, w32, w64, ◌∣◌}
-pub use Rattle.std.specs.List.{AllByRecursion, CopiedTo, SameBelow, concat, flat_map, list_any, position_or_len, range_with_len}
+pub use Rattle.std.specs.List.{AllByRecursion, CopiedTo, SameBelow, concat, flat_map, list_all, list_any, position_or_len, range_with_len}
 pub use Rattle.std.specs.Option.{ForSome, option_copied, option_map_or}
 pub use Rattle.std.specs.Prelude.{All, None, Option, Some, find, if◌then◌else◌, nat_eq, ⊤, ◌↔◌}
 pub use Rattle.std.specs.Simd.{first_chunks}
@@ -36,7 +36,7 @@ unfoldable pub use Rattle.ubi_media.specs.Fields.{form_of, overwrite}
 pub use Rattle.ubi_media.specs.First.{IsFirst}
 pub use Rattle.ubi_media.specs.Geometry.{IsGeometry, Sizes, leb_size, page_sizes, slots}
 pub use Rattle.ubi_media.specs.Header.{FormIs, IsBlank, IsSealed}
-pub use Rattle.ubi_media.specs.Limits.{keeps, limits}
+pub use Rattle.ubi_media.specs.Limits.{keeps}
 unfoldable pub use Rattle.ubi_media.specs.Limits.{first_broken}
 pub use Rattle.ubi_media.specs.Name.{is_name}
 pub use Rattle.ubi_media.specs.OtherPage.{with_page}

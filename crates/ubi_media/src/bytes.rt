@@ -10,7 +10,11 @@ use byteorder::{BigEndian, ByteOrder};
 pub fn is_blank(bytes: &[u8]) -> bool
     ensures { result ≡ is_blank bytes.now }
 {
-    bytes.iter().all(|byte| *byte == 0xFF)
+    let Some((first, rest)) = bytes.split_first() else {
+        return true;
+    };
+    // Each byte is the one before it, which one comparison of memory tells.
+    *first == 0xFF && rest == &bytes[..rest.len()]
 }
 
 /// Writes bytes at a place.

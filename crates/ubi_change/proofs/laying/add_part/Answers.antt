@@ -1,4 +1,4 @@
-use Rattle.ubi_change.proofs.Prelude.{◌<◌, ap, sym, ◌∙◌, subst, arith, err_from_is_err_and, AllByRecursion, pieces_of, LiesIn, Piece, laying_of, Laying, IsPartUnread, IsReadOfPiece, ContentsError}
+use Rattle.ubi_change.proofs.Prelude.{◌<◌, ap, sym, ◌∙◌, subst, arith, err_from_is_err_and, AllByRecursion, pieces_of, LiesIn, Piece, laying_of, Laying, IsPartUnread, IsPieceUnread, ContentsError}
 use Rattle.ubi_change.proofs.LayingRead.{layings_more, lie_more, piece_lies, piece_unread}
 use Rattle.ubi_change.proofs.laying.add_part.Goals as goal
 
@@ -11,7 +11,7 @@ returns-in_err-laying-clause-refused g c =
     let from = err_from_is_err_and c.from_residual.result c.from_residual.ensures.1 in
     let at = g.T.BlockSource.failed_at c.laying_of.new.contents in
     let e : ContentsError = c.in_err-laying.field-0.0 in
-    let read = subst (λ (q : Piece). IsReadOfPiece s q at e) c.piece_of-piece.ensures c.in_err-laying.ensures.refused in
+    let read = subst (λ (q : Piece). IsPieceUnread q at e) c.piece_of-piece.ensures c.in_err-laying.ensures.refused in
     let unread : IsPartUnread p at e = piece_unread s (g.T.BlockSource.known c.args.contents.now).size p c.requires.part n inside at e read in
     rw (from.1, from.2) unread
 
