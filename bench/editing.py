@@ -38,14 +38,14 @@ def put_files(image, new, count):
 
 def put_roomy(image, contents, count):
     """Writes the image whose volume has few bytes, and the file with its new contents."""
-    rng, size = random.Random(count), count * PEB // 2
+    rng, size = random.Random(count), count // 2 * PEB
     with open(image, "wb") as it:
         it.writelines(tables("dynamic", -(-size // GEOMETRY.leb)))
         for number in range(8):
             it.write(eraseblock(dynamic_header(0, number, number + 1), rng.randbytes(GEOMETRY.leb)))
         it.writelines(FREE for _ in range(count - 10))
     with open(contents, "wb") as it:
-        it.write(rng.randbytes(size))
+        it.writelines(rng.randbytes(PEB) for _ in range(count // 2))
 
 
 def main():

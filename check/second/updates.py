@@ -190,7 +190,7 @@ class Asker:
     # Sections of a config.
 
     def sections(self, words):
-        """One or two sections: mostly no more than there are fresh slots left, and with names that differ."""
+        """One section or two, with names that differ; mostly no more than there are fresh slots left."""
         rng, image = self.rng, self.image
         left = len(update_rules.fresh_slots(image)) - sum(word.option == "write" for word in words)
         plain = [name for name in (record.name for record in image.records.values()) if name.isalnum()]
@@ -198,12 +198,14 @@ class Asker:
                   if name and name.isalnum()]
         names = [rng.choice(plain) if plain and rng.random() < 0.6 else b"new%d" % rng.randrange(9) for _ in range(2)]
         count = rng.choice((1, 1, 2)) if rng.random() < 0.1 else min(max(left, 1), rng.choice((1, 1, 2)))
-        return [self.section(name) for name in dict.fromkeys(names[:count])]
+        names = list(dict.fromkeys(names[:min(count, image.geometry.slots)]))
+        # A config has one volume at most with the autoresize flag.
+        return [self.section(name, (0, 0, 0, 0, k == 0)) for k, name in enumerate(names)]
 
-    def section(self, name):
-        """A section of a small volume."""
+    def section(self, name, flags):
+        """A section of a small volume. A dynamic one has one of the FLAGS."""
         rng, kind = self.rng, self.rng.choice((1, 1, 2))
-        flags = rng.choice((0, 0, 0, 0, 1) if kind == 1 else (0, 0, 2))
+        flags = rng.choice(tuple(map(int, flags)) if kind == 1 else (0, 0, 2))
         record = Record(1, 1, kind, 0, name, flags)
         usable = record.usable(self.geometry)
         data = self.contents(usable, rng.choice((1, 1, 2, 3))) or (b"" if kind == 2 else b"d")
