@@ -387,6 +387,12 @@ class Chip:
         command = [*SHELLS[shell], self.script, *words]
         return subprocess.Popen(command, cwd=self.folder, env=variables, start_new_session=True, **how)
 
+    def interrupt(self, child, sign, kill):
+        """Sends a signal while a slow tool works, which then goes on."""
+        wait_for(self.chip / 'reached')
+        kill(child.pid, sign)
+        (self.chip / 'sent').touch()
+
     def end(self, child):
         try:
             out, err = child.communicate(timeout=30)
@@ -1015,8 +1021,7 @@ class Cases:
             chip = self.chip()
             chip.set('fault', '2 slow')
             child = chip.start(chip.words('-d', 'dump'), shell)
-            wait_for(chip.chip / 'reached')
-            kill(child.pid, sign)
+            chip.interrupt(child, sign, kill)
             ran = chip.end(child)
             n = chip.plan.all_writes()[1][0]
             writes = [line for _, line in chip.plan.all_writes(1, n)]
@@ -1027,8 +1032,7 @@ class Cases:
             chip = self.chip()
             chip.set('mtdinfo', 'slow')
             child = chip.start(chip.words(), shell)
-            wait_for(chip.chip / 'reached')
-            kill(child.pid, signal.SIGTERM)
+            chip.interrupt(child, signal.SIGTERM, kill)
             ran = chip.end(child)
             is_said = ran.err.endswith('carry_out: interrupted; nothing was written\n')
             expect(ran.status == 2 and is_said, f'{shell}: {ran}')

@@ -29,6 +29,16 @@ listed() { # LIST NUMBER
   return 1
 }
 
+# Says that a slow work has begun, and waits until a signal was sent, ten seconds at most.
+await_signal() {
+  : > "$chip/reached"
+  waits=0
+  while [ ! -e "$chip/sent" ] && [ "$waits" -lt 200 ]; do
+    sleep 0.05
+    waits=$((waits + 1))
+  done
+}
+
 # Adds a write to the log, and sets `how` to what goes wrong with it.
 count_write() { # LINE
   how=
@@ -38,8 +48,7 @@ count_write() { # LINE
   read -r when what < "$chip/fault"
   [ "$when" != "$writes" ] || how=$what
   if [ "$how" = slow ]; then
-    : > "$chip/reached"
-    sleep 0.3
+    await_signal
   fi
 }
 
