@@ -1166,6 +1166,8 @@ def stub(chip, name):
 
 
 def main():
+    # A shell that starts this in the background has it ignore interrupts, and what it starts would ignore them too.
+    signal.signal(signal.SIGINT, signal.default_int_handler)
     words = argparse.ArgumentParser(description=__doc__, formatter_class=argparse.RawDescriptionHelpFormatter)
     words.add_argument('--tool', help='the program, whose plans are compared, and which says what a chip means')
     words.add_argument('--script', default=str(ROOT / 'carry_out.sh'), help='the script; ./carry_out.sh by default')
