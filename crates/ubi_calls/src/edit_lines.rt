@@ -3,30 +3,19 @@
 ghost use Rattle.std.specs.Prelude.{◌≡◌, ◌≢◌, ◌++◌, ◌<◌, ◌≤◌, ◌^◌, IfErr, IfOk, IfSome, List, MatchOption, OnOk, [], ◌∷◌, ℕ};
 ghost use Rattle.ubi_calls.specs.EditLines.{AreAsksOf, AsksFor, has_value, length_in, taken_by};
 ghost use Rattle.ubi_calls.specs.inner.EditLines.{IsNoEdits};
-ghost use Rattle.ubi_writing.specs.Asks.{value_in};
 ghost use Rattle.ubi_writing.specs.declared.asks.Ask.{Ask};
 ghost use Rattle.ubi_calls.specs.declared.edit_lines.NoEdits.{NoEdits};
 
 use std::alloc::{AllocError, Global};
 use std::str;
 use ubi_words::{cut, decimal_within};
-use ubi_writing::Ask;
+use ubi_writing::{Ask, parts_of};
 
 /// What stands in a line behind its first word, if it begins with that.
 fn word_after<'a>(line: &'a str, first: &str) -> Option<&'a str>
     ensures { MatchOption result ((word : List ℕ) → line.now ≢ first.now ++ word) (λ word. line.now ≡ first.now ++ word.now) }
 {
     line.strip_prefix(first)
-}
-
-/// What stands in a word behind its first `=`.
-fn value_in(word: &str) -> &str
-    ensures { result.now ≡ value_in word.now }
-{
-    match word.split_once('=') {
-        Some((_, value)) => value,
-        None => "",
-    }
 }
 
 /// Whether a word has a value, which stands behind its first `=`.
@@ -40,7 +29,7 @@ fn has_value(word: &str) -> bool
 fn length_in(largest: u64, word: &str) -> Option<u64>
     ensures { result ≡ length_in largest word.now }
 {
-    let digits = value_in(word).as_bytes();
+    let digits = parts_of(word).1.as_bytes();
     if digits.is_empty() {
         return None;
     }

@@ -27,7 +27,7 @@ mod update;
 mod volume_key;
 mod writers;
 
-pub use asks::{Ask, Edits};
+pub use asks::{Ask, Edits, parts_of};
 pub use build::build_file;
 pub use byte_numbers::bytes_within;
 pub use change::{NewBytes, run_change, run_change_from};
