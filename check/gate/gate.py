@@ -6,7 +6,7 @@ usage: gate.py COMMAND .. [-- COMMAND ..]
 `.ci/run` calls it with `rt ci`, and with `attacks/run --gate`, which plants bugs in what `rt ci` has proved. While the
 commands run, it looks at their processes each second, so it knows what a process took except for its last second. It
 prints processor minutes: for each crate those of its own proof, of its proof with tests, and of the checks of its bugs;
-those of everything, as the system counts them; and the ratio of that to the proof of ubi_table. A ratio of 90 is the
+those of everything, as the system counts them; and the ratio of that to the proof of ubi_table. A ratio of 105 is the
 budget of the gate. The exit status is that of the first command that fails; those after it aren't run.
 
 `rt ci` doesn't repeat what it has passed on the machine before, so a ratio is valid only if everything was proved anew,

@@ -15,7 +15,8 @@ reserved, the volume isn't there, or another one has the name, it checks the ref
 
 In half of the images one to four more eraseblocks are bad, and are listed so. They hold anything: equal bytes or random
 ones, a free eraseblock, headers that are at fault or name another number, or what would win a logical eraseblock or the
-table. No step may touch them, and other bytes in them must change neither the plan nor its pages nor what is written. A
+table. No step may touch them, and other bytes in them with headers that name no greater sequence number must change
+neither the plan nor its pages nor what is written. A
 quarter of the plans keep blank eraseblocks. The pages of each cut must be those that its steps programmed.
 check/second/rules.py judges each cut, too.
 
@@ -49,9 +50,9 @@ class Device:
     `image` is what the file holds, and `seen` what is read of it: 0xFF in the bad eraseblocks.
     """
 
-    def __init__(self, rng):
+    def __init__(self, rng, geometries=GEOMETRIES):
         self.rng = rng
-        self.peb, self.page, self.vid, self.data = rng.choice(GEOMETRIES)
+        self.peb, self.page, self.vid, self.data = rng.choice(geometries)
         self.leb = self.peb - self.data
         self.slots = min(128, self.leb // 172)
         self.names = rng.choice(({0: b"root"}, {0: b"root", 1: b"data"}))
@@ -83,9 +84,18 @@ class Device:
         blocks = [self.seen[at : at + self.peb] for at in range(0, len(self.seen), self.peb)]
         return b"".join(self.bad_block() if p in self.bad else block for p, block in enumerate(blocks))
 
+    def with_like(self):
+        """The same, with other bytes there, and with the last sequence number of the image."""
+        others = (self.with_bad() for _ in range(20))
+        return next((other for other in others if self.last(other) == self.last(self.image)), self.image)
+
+    def last(self, image):
+        """The sequence number before those of a plan."""
+        return rules.Image(self.geometry(), image, lambda p: p in self.bad).last
+
     def bad_block(self):
         """The bytes of a bad eraseblock: anything, or what would win, be taken or be refused if it were looked at."""
-        rng, sqnum = self.rng, self.rng.choice((1000, 2**63, 2**64 - 1))
+        rng, sqnum = self.rng, self.rng.choice((0, 1000, 2**63, 2**64 - 3))
         counted = counter_header(rng.randrange(100), self.vid, self.data, rng.choice((0, 0x12345678, 0x12345678, 7)))
         lebs = [*self.lebs, *((0, number) for number in range(RESERVED[0]))]
         member = dynamic_header(*rng.choice(lebs), sqnum)
@@ -179,6 +189,16 @@ class Device:
 
     def corrupt(self):
         return self.block(bytes(64), bytes(64))
+
+    def some_change(self):
+        """A logical eraseblock of the first volume, which may be the one beyond what is reserved, and new bytes."""
+        lnum, new = self.rng.randrange(RESERVED[0] + 1), self.pages()
+        mapped = [number for volume, number in self.lebs if volume == 0]
+        return (self.rng.choice(mapped) if mapped and self.rng.random() < 0.5 else lnum), new
+
+    def some_rename(self):
+        """The number of a volume, which may not be there, and a word for a name."""
+        return self.rng.randrange(2), self.rng.choice(list(NAMES))
 
     def words(self):
         return [*self.geometry().words(), *self.of_bad]
@@ -283,16 +303,13 @@ class Looker:
 
     def try_change(self, device):
         """Changes one logical eraseblock of an image, and checks each cut. Returns the number of steps of the plan."""
-        lnum, new = device.rng.randrange(RESERVED[0] + 1), device.pages()
-        mapped = [number for volume, number in device.lebs if volume == 0]
-        if mapped and device.rng.random() < 0.5:
-            lnum = device.rng.choice(mapped)
+        lnum, new = device.some_change()
         write(self.new, new)
         words = ["change", self.image, "--id", "0", "--lnum", str(lnum), "--from", self.new, *self.outs(device)]
         refusal = None
         if lnum == RESERVED[0]:
             refusal = "K5 OutOfRange"
-        elif len(device.takeable()) < (1 if lnum in mapped else 2):
+        elif len(device.takeable()) < (1 if (0, lnum) in device.lebs else 2):
             refusal = "K9 NoFree"
         steps, cuts = self.planned(device, words, refusal)
         if refusal:
@@ -308,7 +325,7 @@ class Looker:
 
     def try_rename(self, device):
         """Renames a volume of an image, and checks each cut. Returns the number of steps of the plan."""
-        volume, word = device.rng.randrange(2), device.rng.choice(list(NAMES))
+        volume, word = device.some_rename()
         words = ["rename", self.image, "--id", str(volume), "--name", word, *self.outs(device)]
         names = device.names | {volume: NAMES[word]}
         refusal = None
@@ -365,7 +382,7 @@ class Looker:
     def look_others(self, device, words, answer, *files):
         """Checks that an answer and the written files stay the same with other bytes in the bad eraseblocks."""
         if device.bad:
-            write(self.image, device.with_bad())
+            write(self.image, device.with_like())
             again = self.run(*words)
             expect(again == answer, f"other bytes in bad eraseblocks give {again}")
             is_same = not files or (read(self.cut), read(self.pages)) == files

@@ -405,9 +405,16 @@ class Meaning:
         return b"".join(content.get(lnum, blank) for lnum in range(record.reserved))
 
 
+def listed_sqnum(geometry, image, is_bad):
+    """The greatest sequence number that a valid header in a listed eraseblock names, 0 if none does."""
+    starts = [p * geometry.peb for p in range(len(image) // geometry.peb) if is_bad(p)]
+    read = [read_vid(geometry, image[at + geometry.vid : at + geometry.vid + 64]) for at in starts]
+    return max((vid.sqnum for state, vid in read if state == "valid"), default=0)
+
+
 class Image(Meaning):
-    """An accepted image, some of whose eraseblocks may be listed as bad: what it means, and the states of its
-    eraseblocks.
+    """An accepted image, some of whose eraseblocks may be listed as bad: what it means, the states of its
+    eraseblocks, and the last sequence number before those of a plan.
 
     It also says whether plans keep blank eraseblocks.
     """
@@ -424,6 +431,7 @@ class Image(Meaning):
         self.states = [self.state(p) for p in range(len(self.found.blocks))]
         counted = self.found.members.keys() | self.found.dropped
         self.top_sqnum = max((self.found.vids[p][1].sqnum for p in counted), default=0)
+        self.last = max(self.top_sqnum, listed_sqnum(geometry, image, is_bad))
         counters = [ec.counter for state, ec in self.found.ecs if state == "valid"]
         self.mean_counter = sum(counters) // len(counters) if counters else 0
 
@@ -672,7 +680,7 @@ def first_cause(image, new, needed, *causes):
     weak = weak_pages(image.geometry, new)
     causes += (
         (f"K7 WeakCheck pages={weak}", weak is not None),
-        ("K8 Exhausted", image.top_sqnum + needed > TOP_SQNUM),
+        ("K8 Exhausted", image.last + needed > TOP_SQNUM),
         ("K9 NoFree", len(takeable(image)) < needed),
     )
     return next((cause for cause, is_so in causes if is_so), None)
@@ -786,14 +794,14 @@ class Change(Plan):
 
     def __init__(self, image, number, lnum, new):
         super().__init__(image)
-        header = copy_header(number, lnum, new, image.top_sqnum + 1, pad=image.records[number].pad(image.geometry))
+        header = copy_header(number, lnum, new, image.last + 1, pad=image.records[number].pad(image.geometry))
         if (number, lnum) in image.winners:
             old, place = image.winners[(number, lnum)], takeable(image)[0]
         else:
             old, place = takeable(image)[:2]
             self.prepare(old)
             self.head(old, dataclasses.replace(header, copy=0, size=0, data_crc=0))
-            header = dataclasses.replace(header, sqnum=image.top_sqnum + 2)
+            header = dataclasses.replace(header, sqnum=image.last + 2)
         self.copy(old, place, header, new)
 
 
@@ -804,7 +812,7 @@ class Rename(Plan):
         super().__init__(image)
         new = named_table(image, number, name)
         for copy, place in enumerate(takeable(image)[:2]):
-            header = copy_header(LAYOUT, copy, new, image.top_sqnum + 1 + copy, compat=5)
+            header = copy_header(LAYOUT, copy, new, image.last + 1 + copy, compat=5)
             self.copy(image.winners[(LAYOUT, copy)], place, header, new)
 
 

@@ -306,7 +306,7 @@ def causes(image, edited):
     weak = rules.weak_pages(image.geometry, edited.table())
     if weak is not None:
         yield f"K7 WeakCheck pages={weak}"
-    if image.top_sqnum + edited.takes() > TOP_SQNUM:
+    if image.last + edited.takes() > TOP_SQNUM:
         yield "K8 Exhausted"
     free = len(rules.takeable(image))
     if free < edited.takes():
@@ -329,7 +329,7 @@ class Update(rules.Plan):
     def __init__(self, image, edited):
         super().__init__(image)
         self.edited, self.lebs, new = edited, edited.lebs(), edited.table()
-        self.places, self.sqnums = iter(rules.takeable(image)), itertools.count(image.top_sqnum + 1)
+        self.places, self.sqnums = iter(rules.takeable(image)), itertools.count(image.last + 1)
         for header, data in itertools.chain.from_iterable(self.lebs.values()):
             self.put_leb(header, data)
         self.commit, self.equal = (self.put_copy(copy, new) for copy in range(2))

@@ -159,7 +159,7 @@ pub extern "C" fn ubi_change(
     pages: &mut [u8],
     pages_len: &mut usize,
 ) -> u32
-    ensures { FillsBoth (λ programmed. Under sizes.now (λ s. PlansChange (image_without s bad.now image.now) (spared s bad.now keep_blank) id lnum new.now programmed)) out.old out.new len.new pages.old pages.new pages_len.new result }
+    ensures { FillsBoth (λ programmed. Under sizes.now (λ s. PlansChange (image_without s bad.now image.now) (spared s bad.now keep_blank image.now) id lnum new.now programmed)) out.old out.new len.new pages.old pages.new pages_len.new result }
 {
     ubi_calls::change(
         alloc, sizes, image, bad, keep_blank, id, lnum, new, out, len, pages, pages_len,
@@ -181,7 +181,7 @@ pub extern "C" fn ubi_rename(
     pages: &mut [u8],
     pages_len: &mut usize,
 ) -> u32
-    ensures { FillsBoth (λ programmed. Under sizes.now (λ s. PlansRename (image_without s bad.now image.now) (spared s bad.now keep_blank) id name.now programmed)) out.old out.new len.new pages.old pages.new pages_len.new result }
+    ensures { FillsBoth (λ programmed. Under sizes.now (λ s. PlansRename (image_without s bad.now image.now) (spared s bad.now keep_blank image.now) id name.now programmed)) out.old out.new len.new pages.old pages.new pages_len.new result }
 {
     ubi_calls::rename(
         alloc, sizes, image, bad, keep_blank, id, name, out, len, pages, pages_len,
@@ -204,7 +204,7 @@ pub extern "C" fn ubi_update(
     pages: &mut [u8],
     pages_len: &mut usize,
 ) -> u32
-    ensures { FillsBoth (λ programmed. Under sizes.now (λ s. PlansUpdate (image_without s bad.now image.now) (spared s bad.now keep_blank) edits.now contents.now programmed)) out.old out.new len.new pages.old pages.new pages_len.new result }
+    ensures { FillsBoth (λ programmed. Under sizes.now (λ s. PlansUpdate (image_without s bad.now image.now) (spared s bad.now keep_blank image.now) edits.now contents.now programmed)) out.old out.new len.new pages.old pages.new pages_len.new result }
 {
     ubi_calls::update(
         alloc, sizes, image, bad, keep_blank, edits, contents, out, len, pages, pages_len,

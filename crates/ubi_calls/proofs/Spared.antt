@@ -9,8 +9,8 @@ unmarked s bad bytes none =
     ∙ ap (image_of s) (masked_none s.peb_size bytes))
 
 pub for_chip : (e : Edit) (chip : Spared) (s : Sizes) (bytes : List ℕ) (image : Image) (av : Avoided) → image ≡ image_without s chip.bad.now bytes
-    → av ≡ spared s chip.bad.now chip.keeps_blank → (pages text : List ℕ) (status : ℕ) → edit_plan e image av pages text status
+    → av ≡ spared s chip.bad.now chip.keeps_blank bytes → (pages text : List ℕ) (status : ℕ) → edit_plan e image av pages text status
     → spared_plan e chip s bytes pages text status
 for_chip e chip s bytes image av same avoids pages text status h =
-    subst (λ (i : Image). edit_plan e i (spared s chip.bad.now chip.keeps_blank) pages text status) same
+    subst (λ (i : Image). edit_plan e i (spared s chip.bad.now chip.keeps_blank bytes) pages text status) same
     (subst (λ (a : Avoided). edit_plan e image a pages text status) avoids h)

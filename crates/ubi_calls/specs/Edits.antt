@@ -3,8 +3,10 @@ use Rattle.std.specs.Prelude.{◌≡◌, ℕ, Bool, List, ◌++◌, Some, None, 
 use Rattle.ubi_media.specs.Geometry.{Sizes}
 use Rattle.ubi_media.specs.declared.refusal.Refusal.{Refusal}
 use Rattle.ubi_scan.specs.Image.{Image, image_of}
+use Rattle.ubi_scan.specs.Source.{blocks_of}
 use Rattle.ubi_change.specs.Avoided.{Avoided}
 use Rattle.ubi_change.specs.ErrorTexts.{rename_refusal_text}
+use Rattle.ubi_change.specs.Listed.{listed_top}
 use Rattle.ubi_change.specs.Pages.{programmed}
 use Rattle.ubi_change.specs.Planned.{IsChangeRefusalAvoiding, PlanFacts}
 use Rattle.ubi_change.specs.RenamePlanned.{RenameFacts, IsRenameRefusalAvoiding}
@@ -26,9 +28,12 @@ use Rattle.ubi_writing.specs.Update.{AreEditsOf, AreLinesOf, IsNoEditOf, update_
 use Rattle.ubi_writing.specs.declared.asks.Ask.{Ask}
 use Rattle.ubi_calls.specs.EditLines.{AreAsksOf, IsWrongLine, by_words}
 
--- what a plan for a chip avoids: its bad eraseblocks, by their numbers, and Blank ones if they are kept
-abbrev pub spared : Sizes → List ℕ → Bool → Avoided
-spared s bad keeps_blank = record { marks = marks_by_number s.pebs bad; blank = keeps_blank }
+-- what a plan for a chip that holds these bytes avoids: its bad eraseblocks, by their numbers, and Blank ones if they are kept; and the
+-- sequence numbers up to the greatest one that a header in a bad eraseblock names
+abbrev pub spared : Sizes → List ℕ → Bool → List ℕ → Avoided
+spared s bad keeps_blank bytes =
+    let marks = marks_by_number s.pebs bad in
+    record { marks = marks; blank = keeps_blank; above = listed_top s (blocks_of s bytes) marks }
 
 -- the image of these bytes, in which bad eraseblocks read 0xFF
 abbrev pub image_without : Sizes → List ℕ → List ℕ → Image

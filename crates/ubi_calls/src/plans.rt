@@ -4,6 +4,8 @@ ghost use Rattle.std.specs.Prelude.{◌≡◌, ◌≢◌, ◌++◌, [], IfErr, I
 ghost use Rattle.ubi_files.specs.Answer.{Gives, says};
 ghost use Rattle.ubi_scan.specs.Image.{image_of, of_blocks};
 ghost use Rattle.ubi_change.specs.Avoided.{ReadBlank};
+ghost use Rattle.ubi_change.specs.Listed.{listed_top};
+ghost use Rattle.ubi_scan.specs.Source.{blocks_of};
 ghost use Rattle.ubi_calls.specs.Calls.{FillsBoth, Under};
 ghost use Rattle.ubi_calls.specs.EditLines.{AreAsksOf};
 ghost use Rattle.ubi_calls.specs.Edits.{PlansChange, PlansRename, PlansUpdate, image_without, spared, wrong_line};
@@ -14,7 +16,7 @@ use crate::edit_lines::{NoEdits, asks_in};
 use crate::numbers::{DeviceSizes, geometry_of};
 use std::alloc::{AllocError, Global};
 use std::io;
-use ubi_change::Avoided;
+use ubi_change::{Avoided, listed_top};
 use ubi_files::{DONE, FAILED, Outcome, ToolError, marks_by_number, mask, put_number, put_word};
 use ubi_media::Geometry;
 use ubi_scan::MemorySource;
@@ -247,6 +249,26 @@ fn hand_plan(
     }
 }
 
+/// The greatest sequence number that a header in a listed eraseblock of an image names, 0 if none does.
+///
+/// # Errors
+///
+/// Memory ran out.
+fn top_of(
+    alloc: Global,
+    geometry: &Geometry,
+    image: &[u8],
+    marks: &[bool],
+) -> Result<u64, AllocError>
+    ensures { IfOk result (λ n. n ≡ listed_top geometry.now (blocks_of geometry.now image.now) marks.now) }
+{
+    match listed_top(alloc, geometry, &mut MemorySource::new(image), marks) {
+        Ok(top) => Ok(top),
+        // Reading memory doesn't fail.
+        Err(_) => Err(AllocError),
+    }
+}
+
 impl Edit<'_> {
     /// Plans the edit of an image in which no listed eraseblock holds anything: returns what is printed for it, and adds the pages
     /// that it programs.
@@ -295,7 +317,8 @@ impl Edit<'_> {
     {
         let marks = marks_by_number(alloc, geometry.pebs(), spared.bad)?;
         let marks = marks.as_slice();
-        let avoided = Avoided::new(marks, spared.keeps_blank);
+        let above = top_of(alloc, geometry, image, marks)?;
+        let avoided = Avoided::new(marks, spared.keeps_blank, above);
         if marks.is_empty() {
             return self.plan(alloc, geometry, image, &avoided, pages);
         }
@@ -362,7 +385,7 @@ pub fn change(
     pages: &mut [u8],
     pages_len: &mut usize,
 ) -> u32
-    ensures { FillsBoth (λ programmed. Under sizes.now (λ s. PlansChange (image_without s bad.now image.now) (spared s bad.now keeps_blank) id lnum new.now programmed)) out.old out.new len.new pages.old pages.new pages_len.new result }
+    ensures { FillsBoth (λ programmed. Under sizes.now (λ s. PlansChange (image_without s bad.now image.now) (spared s bad.now keeps_blank image.now) id lnum new.now programmed)) out.old out.new len.new pages.old pages.new pages_len.new result }
 {
     let edit = Edit::Change(NewBytes {
         id,
@@ -389,7 +412,7 @@ pub fn rename(
     pages: &mut [u8],
     pages_len: &mut usize,
 ) -> u32
-    ensures { FillsBoth (λ programmed. Under sizes.now (λ s. PlansRename (image_without s bad.now image.now) (spared s bad.now keeps_blank) id word.now programmed)) out.old out.new len.new pages.old pages.new pages_len.new result }
+    ensures { FillsBoth (λ programmed. Under sizes.now (λ s. PlansRename (image_without s bad.now image.now) (spared s bad.now keeps_blank image.now) id word.now programmed)) out.old out.new len.new pages.old pages.new pages_len.new result }
 {
     let spared = Spared { bad, keeps_blank };
     Edit::Rename(id, word).tell(alloc, sizes, image, &spared, out, len, pages, pages_len)
@@ -415,7 +438,7 @@ pub fn update(
     pages: &mut [u8],
     pages_len: &mut usize,
 ) -> u32
-    ensures { FillsBoth (λ programmed. Under sizes.now (λ s. PlansUpdate (image_without s bad.now image.now) (spared s bad.now keeps_blank) text.now contents.now programmed)) out.old out.new len.new pages.old pages.new pages_len.new result }
+    ensures { FillsBoth (λ programmed. Under sizes.now (λ s. PlansUpdate (image_without s bad.now image.now) (spared s bad.now keeps_blank image.now) text.now contents.now programmed)) out.old out.new len.new pages.old pages.new pages_len.new result }
 {
     let spared = Spared { bad, keeps_blank };
     Edit::Update(text, contents).tell(alloc, sizes, image, &spared, out, len, pages, pages_len)

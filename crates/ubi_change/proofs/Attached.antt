@@ -226,7 +226,7 @@ module _ (change : Changing) where
     named = taken_beside s g bs a acc.records states b may a.scan.image_seq agrees
 
     wins : Wins s bs (id, lnum) old
-    wins = found_wins s bs a.scan att.scan (id, lnum) old found
+    wins = found_wins s bs (record a.scan { top_sqnum = att.top }) att.scan (id, lnum) old found
 
     pub made : (e : EcHeader) × (ready_ec s bs a b ≡ Some e)
         × IsPrepared s bs a.meaning b a.scan.image_seq (prepare s bs a b) (ready_bytes s bs a b) e
@@ -324,7 +324,7 @@ module _ (change : Changing) where
     apart z = two_apart s bs a.states enough (sym z)
 
     none : NoMember s bs (id, lnum)
-    none = none_found s bs a.scan att.scan (id, lnum) found
+    none = none_found s bs (record a.scan { top_sqnum = att.top }) att.scan (id, lnum) found
 
     named0 : NamedBeside s a.scan.image_seq bs e0
     named0 = taken_beside s g bs a acc.records states e0 may0 a.scan.image_seq agrees

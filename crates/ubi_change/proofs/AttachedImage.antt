@@ -46,7 +46,7 @@ module _ (image : Image) (g : IsGeometry image.sizes) (a : AttachValue) (att : I
 
   -- each sequence number of a member is below the next one
   pub above : AreBelow s bs (a.scan.top_sqnum + 1)
-  above of q m = let l = member_below s bs of q m in let e = att.scan.top_sqnum in omega arith
+  above of q m = let l = member_below s bs of q m in let e = att.scan.top_sqnum in let f = att.below in omega arith
 
   -- neither what makes an eraseblock ready nor what gives one up programs the header of a copy
   pub prepare_fails : (p : ℕ) → AllFail (programs_copy s) (prepare s bs a p)

@@ -97,7 +97,7 @@ module _ (image : Image) (av : Avoided) (from : AttachValue) (att : IsAttached i
           → option_map_or (λ _. 1) o 2 ≤ length (takeable s bs a.states)
           → MayTouch s bs av (option_map_or {U = ℕ × Option EcHeader} (λ p. (p, ec_at s bs p)) o (taken s bs a 0, ready_ec s bs a (taken s bs a 0))).0
       by_winner (Some p) e l = winner_may s bs av (records_of from.meaning) (id, lnum) p blank
-          (found_wins s bs a.scan att.scan (id, lnum) p e)
+          (found_wins s bs from.scan att.scan (id, lnum) p e)
       by_winner None e l = taken_may (taken s bs a 0) (may_be_taken s bs a.states 0 (omega arith))
 
   pub plan_avoids : (g : IsGeometry s) (id lnum : ℕ) (new : List ℕ) (v : Volume) → finite.get a.meaning.volumes id ≡ Some v

@@ -1,5 +1,5 @@
 -- What holds for the new bytes and the eraseblocks of a change with no cause against it, whatever the source holds.
-use Rattle.ubi_change.proofs.Prelude.{◌≡◌, ℕ, zero, suc, [], ◌∷◌, Some, same_Some, slice_get, AllByRecursion, ◌%◌, ◌^◌, ◌<◌, ◌≤◌, List, length, sym, subst, arith, IfSome, Option, IsGeometry, Sizes, leb_size, Records, AreSites, FitsPrepared, IsTarget, FitsIn, Prepared, Site, Target}
+use Rattle.ubi_change.proofs.Prelude.{Found, ◌≡◌, ℕ, zero, suc, [], ◌∷◌, Some, same_Some, slice_get, AllByRecursion, ◌%◌, ◌^◌, ◌<◌, ◌≤◌, List, length, sym, subst, arith, IfSome, Option, IsGeometry, Sizes, leb_size, Records, AreSites, FitsPrepared, IsTarget, FitsIn, Prepared, Site, Target}
 use Rattle.ubi_change.specs.declared.sites.Sites.{Sites as OnSites}
 use Rattle.ubi_change.specs.declared.sites.Sites.TheVariants as on
 use Rattle.ubi_change.proofs.Attached.{own_allowed}
@@ -29,8 +29,8 @@ taken_fits n (suc i) (x ∷ ts) t e all = taken_fits n i ts t e all.1
 pub some_fits : (n : ℕ) (o : Option Site) (t : Site) → o ≡ Some t → IfSome o (FitsIn n) → FitsIn n t
 some_fits n o t e h = subst (λ (o : Option Site). IfSome o (FitsIn n)) e h
 
-module _ (s : Sizes) (p : Prepared) (fits : FitsPrepared s p) where
-  pub sites_fit : (g : IsGeometry s) (sites : OnSites) → AreSites p.ground.surveyed.scan p.winner p.ground.taken.items sites
-      → SitesFit s (length p.ground.surveyed.states) g p.ground.surveyed.scan sites
+module _ (s : Sizes) (p : Prepared) (fits : FitsPrepared s p) (scan : Found) where
+  pub sites_fit : (g : IsGeometry s) (sites : OnSites) → AreSites scan p.winner p.ground.taken.items sites
+      → SitesFit s (length p.ground.surveyed.states) g scan sites
   sites_fit g (on.Mapped copy old) are = (taken_fits _ 0 _ copy are.1 fits.taken, some_fits _ _ old are.0 fits.winner)
   sites_fit g (on.Unmapped first copy) are = (taken_fits _ 0 _ first are.1 fits.taken, taken_fits _ 1 _ copy are.2 fits.taken)

@@ -92,8 +92,8 @@ module _ (c : Committing) where
     where
       by_found : (o : Option ℕ) → finite.get a.scan.winners (layout, k) ≡ o
           → Wins s bs (layout, k) (option_map_or (λ (p : ℕ). p) o 0)
-      by_found (Some q) e = found_wins s bs a.scan c.attached.scan (layout, k) q e
-      by_found None e = absurd (none_found s bs a.scan c.attached.scan (layout, k) e p w.member)
+      by_found (Some q) e = found_wins s bs (record a.scan { top_sqnum = c.attached.top }) c.attached.scan (layout, k) q e
+      by_found None e = absurd (none_found s bs (record a.scan { top_sqnum = c.attached.top }) c.attached.scan (layout, k) e p w.member)
 
   pub held : (k : ℕ) → k < 2 → Wins s bs (layout, k) (holder s bs a k)
   held zero l = holder_wins 0 c.both.0.0 c.both.0.1

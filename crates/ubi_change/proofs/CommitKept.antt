@@ -7,7 +7,8 @@ use Rattle.ubi_change.proofs.CommitSurvives.{is_committed, shown_both, shown_sur
 use Rattle.ubi_change.proofs.CommitTouches.{commit_avoids}
 use Rattle.ubi_change.proofs.Committed.{IsCommitted, committed_fits, committed_frugal, committed_harm, committed_holders, committed_rises, committed_tears}
 use Rattle.ubi_change.proofs.CopyFits.{bytes-filled}
-use Rattle.ubi_change.proofs.PlanPremises.{IsShown, shown, shown_avoiding}
+use Rattle.ubi_change.proofs.PlanPremises.{IsShown, shown_avoiding}
+use Rattle.ubi_change.proofs.TornImage.{image_harmed, image_torn}
 
 -- a text is written as bytes, and so is its header
 texts_have : (s : Sizes) (new : VolumeMap) → AllByRecursion (λ l. AreBytes l.text) (laid_blocks s (finite.entries new))
@@ -69,5 +70,14 @@ commit_avoiding image av from es g att blank may =
     }
 
 pub commit_survives_tears : CommitSurvivesTears
-commit_survives_tears image a es g att may =
-    let k = shown image a att in (torn image a k es may g, harmed image a k es may g)
+commit_survives_tears image av from es g att may =
+    let a = avoiding av from in
+    let k : IsShown image a = shown_avoiding image av from att in
+    let t = torn image a k es may g in
+    let h = harmed image a k es may g in (
+      t,
+      h,
+      λ bytes.
+          let fit = fits image a k es may g bytes in
+          (image_torn image g a k _ _ _ _ 0 fit t, image_harmed image g a k _ _ _ _ _ fit h),
+    )

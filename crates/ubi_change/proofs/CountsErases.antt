@@ -283,7 +283,7 @@ module _ (change : Changing) where
       made.2.ready h new (attached.paged change) (attached.room change) in
       let never : count_by (erases old) written ≡ 0 = erases_none s b old written on apart in
       release_counted s g bs a written old (ec_at s bs old) all
-      (found_wins s bs a.scan att.scan (id, lnum) old found).member.inside (next_counter s bs a (attached.few change) (attached.narrow change) old)
+      (found_wins s bs (record a.scan { top_sqnum = att.top }) att.scan (id, lnum) old found).member.inside (next_counter s bs a (attached.few change) (attached.narrow change) old)
       (next_due s g bs a old ∙ ap (λ n. ec_after s g bs a old (suc n)) (sym never))
 
   unmapped_counts : finite.get a.scan.winners (id, lnum) ≡ None

@@ -1,5 +1,5 @@
 -- A group of steps that takes another eraseblock than p, and gives up another, leaves p as it is.
-use Rattle.ubi_change.proofs.Prelude.{◌≡◌, ◌≢◌, ◌⊎◌, inl, inr, ℕ, ◌+◌, ◌<◌, ◌≤◌, List, [], ◌∷◌, ◌++◌, ◌-◌, ap₂, length, length-append, map, zero, suc, below_same_or_above, take, ap, sym, ◌∙◌, subst, arith, Some, same_Some, get_or, slice_get, slice_get-get_or, Sizes, Step, Site, Laying, UpdatePlan, FitsUpdate, IsApart, block_cut, header_at, in_order, piece_bytes, plan_groups, trimmed}
+use Rattle.ubi_change.proofs.Prelude.{base_of, ◌≡◌, ◌≢◌, ◌⊎◌, inl, inr, ℕ, ◌+◌, ◌<◌, ◌≤◌, List, [], ◌∷◌, ◌++◌, ◌-◌, ap₂, length, length-append, map, zero, suc, below_same_or_above, take, ap, sym, ◌∙◌, subst, arith, Some, same_Some, get_or, slice_get, slice_get-get_or, Sizes, Step, Site, Laying, UpdatePlan, FitsUpdate, IsApart, block_cut, header_at, in_order, piece_bytes, plan_groups, trimmed}
 use Rattle.ubi_change.proofs.AllGroups.{in_order_more}
 use Rattle.ubi_change.proofs.GroupPlaces.{first_at, lay_at, second_at}
 use Rattle.ubi_change.proofs.CutBlocks.{cut_both, each_first, untouched}
@@ -24,25 +24,25 @@ module _ (s : Sizes) (size : ℕ) (p : UpdatePlan) (fits : FitsUpdate s size p) 
 
   laid_elsewhere : (d : Laying) (t : Site) (group : List Step) → k < length ls → slice_get (plan_groups s p contents) k ≡ Some group → Elsewhere group
   laid_elsewhere d t group inside is =
-      let same = same_Some _ group (sym (lay_at s p.surveyed.scan contents p.pages.items p.holders 0 ls ts k d t inside (omega (arith, enough))) ∙ is) in
+      let same = same_Some _ group (sym (lay_at s (base_of p) contents p.pages.items p.holders 0 ls ts k d t inside (omega (arith, enough))) ∙ is) in
       subst Elsewhere same
-      (lay_each (λ x. x ≢ q) s p.surveyed.scan (get_or ts k t) (header_at s p.surveyed.scan contents (0 + k) (get_or ls k d).piece)
+      (lay_each (λ x. x ≢ q) s (base_of p) (get_or ts k t) (header_at s (base_of p) contents (0 + k) (get_or ls k d).piece)
       (trimmed s (piece_bytes s contents (get_or ls k d).piece)) (taken t (omega (arith, inside, enough))))
 
   first_elsewhere : (t : Site) (group : List Step) → k ≡ length ls → slice_get (plan_groups s p contents) k ≡ Some group → Elsewhere group
   first_elsewhere t group here is =
-      let at = ap (slice_get (plan_groups s p contents)) here ∙ first_at s p.surveyed.scan contents p.pages.items p.holders ls ts t enough in
+      let at = ap (slice_get (plan_groups s p contents)) here ∙ first_at s (base_of p) contents p.pages.items p.holders ls ts t enough in
       let same = same_Some _ group (sym at ∙ is) in
       subst Elsewhere same
-      (copy_each (λ x. x ≢ q) s p.surveyed.scan (get_or ts (length ls) t) _ p.pages.items p.holders.first p.holders.first.ec
+      (copy_each (λ x. x ≢ q) s (base_of p) (get_or ts (length ls) t) _ p.pages.items p.holders.first p.holders.first.ec
       (subst (λ n. (get_or ts n t).pnum ≢ q) here (taken t (omega (arith, here, enough)))) (apart.first (omega (arith, here))))
 
   second_elsewhere : (t : Site) (group : List Step) → k ≡ length ls + 1 → slice_get (plan_groups s p contents) k ≡ Some group → Elsewhere group
   second_elsewhere t group here is =
-      let at = second_at s p.surveyed.scan contents p.pages.items p.holders ls ts k t here enough in
+      let at = second_at s (base_of p) contents p.pages.items p.holders ls ts k t here enough in
       let same = same_Some _ group (sym at ∙ is) in
       subst Elsewhere same
-      (copy_each (λ x. x ≢ q) s p.surveyed.scan (get_or ts k t) _ p.pages.items p.holders.second p.holders.second.ec
+      (copy_each (λ x. x ≢ q) s (base_of p) (get_or ts k t) _ p.pages.items p.holders.second p.holders.second.ec
       (taken t (omega (arith, here, enough))) (apart.second (omega (arith, here))))
 
   some_of : {A : Type 0} (xs : List A) → 0 < length xs → A

@@ -115,6 +115,7 @@ pub mod TopSqnum
 pub mod Torn
 pub mod TornBlocks
 pub mod TornCopy
+pub mod TornImage
 pub mod TornPlan
 pub mod TornRuns
 pub mod TornText

@@ -1,5 +1,5 @@
 -- The steps of a plan of edits without the bytes that they program.
-use Rattle.ubi_change.proofs.Prelude.{Bool, FitsUpdate, Found, IsGeometry, Laying, LiesIn, List, Piece, Site, Sizes, Some, Step, UpdatePlan, VidHeader, [], ap, ap₂, arith, cond, copy_on, copy_steps, div-mul-add, div-mul-le_self, drop, ec_bytes, enumerate_from, false, first_chunks, fits, get_or, header_at, lay_on, lay_steps, layout_header, leb_size, length, map, map-append, mul-le, next_ec, pages_needed, pages_of, piece_bytes, plan_groups, program_header, program_text, refl, release_on, renew, slice_get, stays_on, subst, suc, sym, trimmed, true, whole_text, zero, ℕ, ◌*◌, ◌++◌, ◌+◌, ◌/◌, ◌<◌, ◌∙◌, ◌∷◌, ◌≡◌, ◌≤◌, ◌⊎◌, line_of, IsLaidFrom, IsOutline, HavePageNumbers, lay_lines, page_lines, release_lines, renew_lines}
+use Rattle.ubi_change.proofs.Prelude.{base_of, Bool, FitsUpdate, Found, IsGeometry, Laying, LiesIn, List, Piece, Site, Sizes, Some, Step, UpdatePlan, VidHeader, [], ap, ap₂, arith, cond, copy_on, copy_steps, div-mul-add, div-mul-le_self, drop, ec_bytes, enumerate_from, false, first_chunks, fits, get_or, header_at, lay_on, lay_steps, layout_header, leb_size, length, map, map-append, mul-le, next_ec, pages_needed, pages_of, piece_bytes, plan_groups, program_header, program_text, refl, release_on, renew, slice_get, stays_on, subst, suc, sym, trimmed, true, whole_text, zero, ℕ, ◌*◌, ◌++◌, ◌+◌, ◌/◌, ◌<◌, ◌∙◌, ◌∷◌, ◌≡◌, ◌≤◌, ◌⊎◌, line_of, IsLaidFrom, IsOutline, HavePageNumbers, lay_lines, page_lines, release_lines, renew_lines}
 use Rattle.ubi_change.specs.declared.step.Step.TheVariants as step
 use Rattle.ubi_change.proofs.GroupPlaces.{first_at, lay_at, second_at}
 use Rattle.ubi_change.proofs.PlanLaid.{AllCounted, IsCounted, all_counted, piece_short}
@@ -104,30 +104,30 @@ module _ (s : Sizes) (size : ℕ) (p : UpdatePlan) (fits : FitsUpdate s size p) 
     pub laid_outline : OutlineIs (lay_lines s (get_or ts k t) (get_or ls k d).pages)
     laid_outline =
         let enough = fits.enough in
-        let group = lay_steps s p.surveyed.scan contents (0 + k) q (get_or ts k t) in (
+        let group = lay_steps s (base_of p) contents (0 + k) q (get_or ts k t) in (
           group,
-          lay_at s p.surveyed.scan contents p.pages.items p.holders 0 ls ts k d t inside (omega (arith, enough)),
+          lay_at s (base_of p) contents p.pages.items p.holders 0 ls ts k d t inside (omega (arith, enough)),
           ap (lay_lines s (get_or ts k t)) (sym pages)
-              ∙ sym (lay_lined s p.surveyed.scan (get_or ts k t) (header_at s p.surveyed.scan contents (0 + k) q) (trimmed s (piece_bytes s contents q))),
+              ∙ sym (lay_lined s (base_of p) (get_or ts k t) (header_at s (base_of p) contents (0 + k) q) (trimmed s (piece_bytes s contents q))),
         )
 
   pub table_numbered : HavePageNumbers (s.data_offset / s.page) (pages_of s p.pages.items)
   table_numbered = are_numbered s fits.sound (pages_of s p.pages.items) (pages_in s fits.sound p.pages.items fits.fit)
 
   abbrev copy_lines : Site → Site → List Step
-  copy_lines t old = lay_lines s t (pages_of s p.pages.items) ++ release_lines p.surveyed.scan old
+  copy_lines t old = lay_lines s t (pages_of s p.pages.items) ++ release_lines (base_of p) old
 
   pub first_outline : (t : Site) → k ≡ length ls → OutlineIs (copy_lines (get_or ts k t) p.holders.first)
   first_outline t here = (
-    copy_steps s p.surveyed.scan p.pages.items 0 k (get_or ts k t) p.holders.first,
-    ap (slice_get (plan_groups s p contents)) here ∙ first_at s p.surveyed.scan contents p.pages.items p.holders ls ts t fits.enough
-        ∙ ap (λ n. Some (copy_steps s p.surveyed.scan p.pages.items 0 n (get_or ts n t) p.holders.first)) (sym here),
-    sym (copy_lined s p.surveyed.scan (get_or ts k t) (layout_header 0 (p.surveyed.scan.top_sqnum + 1 + k) p.pages.items) p.pages.items p.holders.first),
+    copy_steps s (base_of p) p.pages.items 0 k (get_or ts k t) p.holders.first,
+    ap (slice_get (plan_groups s p contents)) here ∙ first_at s (base_of p) contents p.pages.items p.holders ls ts t fits.enough
+        ∙ ap (λ n. Some (copy_steps s (base_of p) p.pages.items 0 n (get_or ts n t) p.holders.first)) (sym here),
+    sym (copy_lined s (base_of p) (get_or ts k t) (layout_header 0 ((base_of p).top_sqnum + 1 + k) p.pages.items) p.pages.items p.holders.first),
   )
 
   pub second_outline : (t : Site) → k ≡ length ls + 1 → OutlineIs (copy_lines (get_or ts k t) p.holders.second)
   second_outline t here = (
-    copy_steps s p.surveyed.scan p.pages.items 1 k (get_or ts k t) p.holders.second,
-    second_at s p.surveyed.scan contents p.pages.items p.holders ls ts k t here fits.enough,
-    sym (copy_lined s p.surveyed.scan (get_or ts k t) (layout_header 1 (p.surveyed.scan.top_sqnum + 1 + k) p.pages.items) p.pages.items p.holders.second),
+    copy_steps s (base_of p) p.pages.items 1 k (get_or ts k t) p.holders.second,
+    second_at s (base_of p) contents p.pages.items p.holders ls ts k t here fits.enough,
+    sym (copy_lined s (base_of p) (get_or ts k t) (layout_header 1 ((base_of p).top_sqnum + 1 + k) p.pages.items) p.pages.items p.holders.second),
   )

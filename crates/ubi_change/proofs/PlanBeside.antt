@@ -77,7 +77,7 @@ module _ (image : Image) (av : Avoided) (seen : Seen) (is : IsSurvey image seen)
       → is_listed av.marks t.pnum ≡ false
   holder_beside c p t e same =
       ap (λ (t : Site). is_listed av.marks t.pnum) same
-      ∙ (winner_may s bs av (records_of is.meaning) (layout, c) p blank (found_wins s bs a.scan is.attached.scan (layout, c) p e)).0
+      ∙ (winner_may s bs av (records_of is.meaning) (layout, c) p blank (found_wins s bs seen.scan is.attached.scan (layout, c) p e)).0
 
   pub survey_beside : (p : UpdatePlan) (n : ℕ) → AreHolders s bs av seen (Some p.holders)
       → p.sites.items ≡ first_taken s bs (states_avoiding av seen.states) n → IsBeside av.marks p

@@ -84,7 +84,7 @@ module _ (change : Changing) (are : AreBytes change.new) where
       copy_fits s g bs a bs (taken s bs a 0) may.0 (ready_bytes s bs a (taken s bs a 0)) made.2.size
       (copy_header (leb_header s v.entry id lnum) (a.scan.top_sqnum + 1) new) (omega arith)
       made.2.ready new (attached.paged change) (attached.room change) are old (ec_at s bs old)
-      (found_wins s bs a.scan att.scan (id, lnum) old found).member.inside
+      (found_wins s bs (record a.scan { top_sqnum = att.top }) att.scan (id, lnum) old found).member.inside
 
   unmapped_fits : finite.get a.scan.winners (id, lnum) ≡ None
       → FitAll s bs (unmapped_plan s bs a v.entry id lnum new (taken s bs a 0) (taken s bs a 1))

@@ -1,5 +1,5 @@
 -- The steps of a plan of edits work within eraseblocks, and on none that is listed.
-use Rattle.ubi_change.proofs.Prelude.{AllBeside, AllByRecursion, AllWithin, Bool, FitsIn, FitsUpdate, Found, IsBeside, Laying, LiesIn, List, Site, Sizes, Step, UpdatePlan, [], arith, copy_steps, false, groups_from, header_at, in_order, is_listed, laid, lay_steps, layout_header, leb_size, length, piece_bytes, plan_groups, subst, suc, sym, trimmed, ℕ, ◌+◌, ◌<◌, ◌∷◌, ◌≡◌, ◌≤◌, All, IsLaidFrom}
+use Rattle.ubi_change.proofs.Prelude.{base_of, AllBeside, AllByRecursion, AllWithin, Bool, FitsIn, FitsUpdate, Found, IsBeside, Laying, LiesIn, List, Site, Sizes, Step, UpdatePlan, [], arith, copy_steps, false, groups_from, header_at, in_order, is_listed, laid, lay_steps, layout_header, leb_size, length, piece_bytes, plan_groups, subst, suc, sym, trimmed, ℕ, ◌+◌, ◌<◌, ◌∷◌, ◌≡◌, ◌≤◌, All, IsLaidFrom}
 use Rattle.ubi_change.proofs.AllGroups.{all_beside_append, all_within_append}
 use Rattle.ubi_change.proofs.PlanLaid.{AllCounted, IsCounted, all_counted, checked_compat, piece_short}
 use Rattle.ubi_change.proofs.StepPages.{copy_all_within, lay_all_within}
@@ -17,7 +17,7 @@ module _ (s : Sizes) (size : ℕ) (p : UpdatePlan) (fits : FitsUpdate s size p) 
   n = length p.surveyed.states
 
   abbrev scan : Found
-  scan = p.surveyed.scan
+  scan = base_of p
 
   abbrev pages : List ℕ
   pages = p.pages.items
@@ -65,29 +65,29 @@ module _ (s : Sizes) (p : UpdatePlan) (contents : List ℕ) (marks : List Bool) 
   IsFree q = is_listed marks q ≡ false
 
   copy_beside : (c k : ℕ) (t old : Site) → IsFree t.pnum → IsFree old.pnum
-      → AllBeside marks (copy_steps s p.surveyed.scan p.pages.items c k t old)
+      → AllBeside marks (copy_steps s (base_of p) p.pages.items c k t old)
   copy_beside c k t old a b =
-      each_on IsFree _ (copy_each IsFree s p.surveyed.scan t (layout_header c (p.surveyed.scan.top_sqnum + 1 + k) p.pages.items) p.pages.items old old.ec a b)
+      each_on IsFree _ (copy_each IsFree s (base_of p) t (layout_header c ((base_of p).top_sqnum + 1 + k) p.pages.items) p.pages.items old old.ec a b)
 
-  laid_beside : (k : ℕ) (l : Laying) (t : Site) → IsFree t.pnum → AllBeside marks (lay_steps s p.surveyed.scan contents k l.piece t)
+  laid_beside : (k : ℕ) (l : Laying) (t : Site) → IsFree t.pnum → AllBeside marks (lay_steps s (base_of p) contents k l.piece t)
   laid_beside k l t a =
-      each_on IsFree _ (lay_each IsFree s p.surveyed.scan t (header_at s p.surveyed.scan contents k l.piece) (trimmed s (piece_bytes s contents l.piece)) a)
+      each_on IsFree _ (lay_each IsFree s (base_of p) t (header_at s (base_of p) contents k l.piece) (trimmed s (piece_bytes s contents l.piece)) a)
 
   abbrev AllFree : List Site → Type 0
   AllFree ts = All (λ t. IsFree t.pnum) ts
 
   beside_from : (k : ℕ) (ls : List Laying) (ts : List Site) → AllFree ts
-      → AllBeside marks (in_order (groups_from s p.surveyed.scan contents p.pages.items p.holders k ls ts))
+      → AllBeside marks (in_order (groups_from s (base_of p) contents p.pages.items p.holders k ls ts))
   beside_from k [] [] all = none_beside marks
   beside_from k [] (t ∷ []) all = none_beside marks
   beside_from k [] (t ∷ u ∷ ts) all =
-      all_beside_append marks (copy_steps s p.surveyed.scan p.pages.items 0 k t p.holders.first) _
+      all_beside_append marks (copy_steps s (base_of p) p.pages.items 0 k t p.holders.first) _
       (copy_beside 0 k t p.holders.first (all 0 t (omega arith)) apart.first)
-      (all_beside_append marks (copy_steps s p.surveyed.scan p.pages.items 1 (k + 1) u p.holders.second) []
+      (all_beside_append marks (copy_steps s (base_of p) p.pages.items 1 (k + 1) u p.holders.second) []
       (copy_beside 1 (k + 1) u p.holders.second (all 1 u (omega arith)) apart.second) (none_beside marks))
   beside_from k (l ∷ ls) [] all = none_beside marks
   beside_from k (l ∷ ls) (t ∷ ts) all =
-      all_beside_append marks (lay_steps s p.surveyed.scan contents k l.piece t) _ (laid_beside k l t (all 0 t (omega arith)))
+      all_beside_append marks (lay_steps s (base_of p) contents k l.piece t) _ (laid_beside k l t (all 0 t (omega arith)))
       (beside_from (k + 1) ls ts (λ j u l. all (suc j) u (omega (arith, l))))
 
   pub groups_beside : AllBeside marks (in_order (plan_groups s p contents))

@@ -1,16 +1,19 @@
 -- What plans need of attaching: only the states in which nothing is lost have to be right. What attaching shows is so,
 -- and so is what a plan that avoids something sees of it.
-use Rattle.ubi_change.proofs.Prelude.{◌≡◌, ℕ, zero, suc, ◌+◌, Bool, true, false, cond, List, [], ◌∷◌, map, refl, ap, sym, ◌∙◌, subst, arith, IfSome, None, Option, Some, option_map, slice_get, enumerate_from, Sizes, Image, eraseblocks, of_blocks, IsScan, Records, Accepts, AreBlockStates, IsAttached, BlockStateIs, AttachValue, records_of, BlockState, Avoided, is_avoided, nothing, avoiding, state_avoiding, states_avoiding, is_unused}
+use Rattle.ubi_change.proofs.Prelude.{ap₂, ◌≤◌, ◌≡◌, ℕ, zero, suc, ◌+◌, Bool, true, false, cond, List, [], ◌∷◌, map, refl, ap, sym, ◌∙◌, subst, arith, IfSome, None, Option, Some, option_map, slice_get, enumerate_from, Sizes, Image, eraseblocks, of_blocks, IsScan, Records, Accepts, AreBlockStates, IsAttached, BlockStateIs, AttachValue, records_of, BlockState, Avoided, is_avoided, nothing, avoiding, state_avoiding, states_avoiding, is_unused}
+use Rattle.std.proofs.Math.Nat as nat
 use Rattle.ubi_volume.specs.declared.attached.BlockState.TheVariants as state
 
 -- each eraseblock in a state in which nothing is lost with it has this state
 abbrev pub SayUnused : Sizes → List (List ℕ) → Records → List BlockState → Type 0
 SayUnused s bs t states = (p : ℕ) → IfSome (slice_get states p) (λ st. is_unused st ≡ true → BlockStateIs s bs t p st)
 
--- it is that of the image, as far as plans ask
+-- it is that of the image, as far as plans ask; the sequence numbers may count on from a greater one than the image has
 pub record IsShown (image : Image) (a : AttachValue) : Type 0 where
   pub accepted : Accepts image a.meaning
-  pub scan : of_blocks IsScan image a.scan
+  pub top : ℕ
+  pub scan : of_blocks IsScan image (record a.scan { top_sqnum = top })
+  pub below : top ≤ a.scan.top_sqnum
   pub states : of_blocks SayUnused image (records_of a.meaning) a.states
 
 -- the state that a plan sees
@@ -52,7 +55,9 @@ module _ (s : Sizes) (bs : List (List ℕ)) (t : Records) (av : Avoided) (states
 pub shown : (image : Image) (a : AttachValue) → IsAttached image a → IsShown image a
 shown image a att = record {
   accepted = att.accepted;
+  top = a.scan.top_sqnum;
   scan = att.scan;
+  below = omega arith;
   states = λ p. all (slice_get a.states p) p (att.states.1 p);
 }
   where
@@ -65,7 +70,9 @@ shown image a att = record {
 pub shown_avoiding : (image : Image) (av : Avoided) (a : AttachValue) → IsAttached image a → IsShown image (avoiding av a)
 shown_avoiding image av a att = record {
   accepted = att.accepted;
+  top = a.scan.top_sqnum;
   scan = att.scan;
+  below = nat.le-max_left a.scan.top_sqnum av.above;
   states = say_avoiding image.sizes (eraseblocks image) (records_of a.meaning) av a.states att.states;
 }
 
@@ -78,4 +85,6 @@ states_nothing states = from 0 states
     from n (st ∷ states) = ap (λ xs. st ∷ xs) (from (n + 1) states)
 
 pub avoiding_nothing : (a : AttachValue) → avoiding nothing a ≡ a
-avoiding_nothing a = ap (λ (states : List BlockState). record { meaning = a.meaning; scan = a.scan; states = states }) (states_nothing a.states)
+avoiding_nothing a =
+    ap₂ (λ (n : ℕ) (states : List BlockState). record { meaning = a.meaning; scan = record a.scan { top_sqnum = n }; states = states })
+    (nat.max-eq_left (omega arith)) (states_nothing a.states)

@@ -10,7 +10,7 @@ pub use Rattle.std.proofs.lemmas.Iterator.Adapters.{position_from-zero}
 pub use Rattle.std.proofs.lemmas.List.{at_drop_more, drop-drop, drop-take, drop_all, drop_at, get_or-map, get_or_default, length-map, length-replicate, length-take, length-take-le, map-append, set-get_or, set-set, take-append-drop, take-append-le, take-replicate, take-take, take_all, take_at, take_min, take_more}
 pub use Rattle.std.proofs.lemmas.List.Elements.{All-head, All-tail, filter-append, filter_map-append}
 pub use Rattle.std.proofs.lemmas.List.Folds.{concat-append, list_all-append}
-pub use Rattle.std.proofs.lemmas.List.FromFn.{get_or-enumerate_from, length-enumerate_from}
+pub use Rattle.std.proofs.lemmas.List.FromFn.{get_or-enumerate_from, length-enumerate_from, map-range_with_len_more}
 pub use Rattle.std.proofs.lemmas.List.Sums.{count_by_more_no, count_by_more_yes, fold-append, fold_more, sum_by-append, sum_by-cons, sum_by-le}
 pub use Rattle.std.proofs.lemmas.Nat.{div-mul-add, mod-mul-add, mul-le}
 pub use Rattle.std.proofs.lemmas.Option.{get_or_from_slice_get, same_Some, slice_get-get_or, slice_get_within}
@@ -138,7 +138,7 @@ pub use Rattle.ubi_volume.specs.declared.attached.BlockState.{BlockState}
 pub use Rattle.ubi_volume.specs.declared.content.Content.{Content}
 pub use Rattle.ubi_volume.specs.declared.content.Volume.{Volume}
 pub use Rattle.ubi_volume.specs.declared.places.PlaceContent.{PlaceContent}
-pub use Rattle.ubi_change.specs.Avoided.{AllBeside, Avoided, Avoids, BlankBelow, MayTouch, ReadBlank, avoiding, is_avoided, is_blank_one, nothing, state_avoiding, states_avoiding, touchable}
+pub use Rattle.ubi_change.specs.Avoided.{AllBeside, Avoided, Avoids, BlankBelow, MayTouch, ReadBlank, avoiding, is_avoided, is_blank_one, nothing, raised, state_avoiding, states_avoiding, touchable}
 pub use Rattle.ubi_change.specs.CommitAllowed.{AllThere, IsWhole, MayBeCommitted, MayBeSized, commit_needs}
 pub use Rattle.ubi_change.specs.CommitPlan.{commit_plan, edits_plan, lay, lay_all, numbered, table_plan, trimmed, whole_text}
 pub use Rattle.ubi_change.specs.CommitPlanned.{IsFrugalCommit, LeavesBoth, SurvivesCommit, WritesBytes}
@@ -150,6 +150,7 @@ pub use Rattle.ubi_change.specs.Fitting.{AllFit, AllWithin, FitsBlock, fits, onl
 pub use Rattle.ubi_change.specs.Frugal.{CountsErases, IsFrugal, TouchesOnly, counter_after, erases, given_up, touched}
 pub use Rattle.ubi_change.specs.Laws.{AcceptsHarmed, AcceptsTorn, CommitAvoiding, CommitSurvives, CommitSurvivesTears, EditsAllowed, PlanSurvives, PlanSurvivesTears, RenameSurvives, RenameSurvivesTears, left}
 pub use Rattle.ubi_change.specs.Laying.{StaysOpen, after_contents, all_layings, laying_of, laying_with, layings_of, piece_bytes}
+pub use Rattle.ubi_change.specs.Listed.{listed_sqnum, listed_top_of}
 pub use Rattle.ubi_change.specs.Order.{ComesFirst, Erases, NoErase, Programs, RisesBetweenErases}
 pub use Rattle.ubi_change.specs.Pages.{PagesCarry, line_of, programmed, with_pages}
 pub use Rattle.ubi_change.specs.Placed.{autoresized_twice, edited_parts, edited_records, flagged_twice, free_slots, is_free, parts_of, records_with}
@@ -164,7 +165,7 @@ pub use Rattle.ubi_change.specs.Sites.{BothFit, FitsIn, copy_on, is_sole_on, lay
 pub use Rattle.ubi_change.specs.Steps.{after_text, block_after, block_cut, block_step, blocks_after, step_done, target}
 pub use Rattle.ubi_change.specs.Takeable.{able, ec_at, is_clean, is_sole_carrier, is_takeable, is_unused, is_worn, stays, takeable}
 pub use Rattle.ubi_change.specs.Tears.{IsHarmless, MayBeHarmed, MayBeLeft, NoChance, OnlyClears, SurvivesHarm, SurvivesTears, TearsCover}
-pub use Rattle.ubi_change.specs.UpdatePlan.{FitsUpdate, IsBeside, IsLaidFrom, IsOutline, IsPlanOf, contents_after_update, copy_steps, groups_from, header_at, in_order, lay_steps, plan_groups, table_groups}
+pub use Rattle.ubi_change.specs.UpdatePlan.{FitsUpdate, IsBeside, IsLaidFrom, IsOutline, IsPlanOf, base_of, contents_after_update, copy_steps, groups_from, header_at, in_order, lay_steps, plan_groups, table_groups}
 pub use Rattle.ubi_change.specs.UpdatePlanned.{IsUpdateCause, IsUpdateError, IsUpdateFor, StopsIfRenames}
 pub use Rattle.ubi_change.specs.UpdateRefused.{IsRename, RecordsStand, UpdateStands, asked_records, update_rank}
 pub use Rattle.ubi_change.specs.Weak.{is_weak, is_whole, pages_needed, pages_of, torn, weak_pages}

@@ -30,7 +30,7 @@ module _ (s : Sizes) (k : Source) (agrees : Agreed) (av : Avoided) (id lnum : �
     abbrev a : AttachValue
     a = avoiding av from
 
-    pub plan_is : (steps : List Step) → AreStepsOf s p id lnum new steps → IsPlanAvoiding image av id lnum new steps
+    pub plan_is : (steps : List Step) → AreStepsOf s av p id lnum new steps → IsPlanAvoiding image av id lnum new steps
     plan_is steps made =
         let h = has_volume image seen survey id made.asked.entry made.asked.there in
         let v : Volume = record { entry = made.asked.entry; content = h.0 } in
@@ -48,7 +48,7 @@ module _ (s : Sizes) (k : Source) (agrees : Agreed) (av : Avoided) (id lnum : �
               ∙ make.steps_are s bs a same id lnum p.winner p.ground.taken.items won taking made.asked.entry new made.sites made.are made.target made.asked.is;
         }
 
-    pub refused_is : (c : ChangeRefusal) → IsUnplanned s p id lnum new c → IsChangeRefusalAvoiding image av id lnum new c
+    pub refused_is : (c : ChangeRefusal) → IsUnplanned s av p id lnum new c → IsChangeRefusalAvoiding image av id lnum new c
     refused_is c (inl memory) = subst (IsChangeRefusalAvoiding image av id lnum new) (sym memory) tt
     refused_is c (inr (inl (inl none))) = subst (IsChangeRefusalAvoiding image av id lnum new) (sym none.1)
         (causes.no_volume image av from survey.attached id lnum new (has_none image seen survey id none.0))
@@ -63,7 +63,7 @@ module _ (s : Sizes) (k : Source) (agrees : Agreed) (av : Avoided) (id lnum : �
         (is.ground.taken.held bytes holds) c sites.2)
 
   -- attaching was no cause
-  no_attach : (x : Refusal) → IsUnplanned s p id lnum new (refusal.Attach x) → ⊥
+  no_attach : (x : Refusal) → IsUnplanned s av p id lnum new (refusal.Attach x) → ⊥
   no_attach x (inl memory) = absurd (cc)
   no_attach x (inr (inl (inl none))) = let e = none.1 in absurd (cc)
   no_attach x (inr (inl (inr own))) = causes.no_attach s [] (shown seen) own.0 id lnum new x own.2
@@ -71,11 +71,11 @@ module _ (s : Sizes) (k : Source) (agrees : Agreed) (av : Avoided) (id lnum : �
 
   -- no listed eraseblock holds anything
   module _ (blank : WhereHeld agrees (λ bytes. of_blocks ReadBlank (image_of s bytes) av)) where
-    other : (c : ChangeRefusal) → IsUnplanned s p id lnum new c
+    other : (c : ChangeRefusal) → IsUnplanned s av p id lnum new c
         → IsWholeSize s k.size × WhereHeld agrees (λ bytes. of_blocks ReadBlank (image_of s bytes) av × IsChangeRefusalAvoiding (image_of s bytes) av id lnum new c)
     other c h = (is.ground.survey.scan.whole, λ bytes holds. (blank bytes holds, refused_is bytes holds c h))
 
-    pub error_is : (c : ChangeRefusal) → IsUnplanned s p id lnum new c → IsChangeError s k agrees av id lnum new (error.Refused c)
+    pub error_is : (c : ChangeRefusal) → IsUnplanned s av p id lnum new c → IsChangeError s k agrees av id lnum new (error.Refused c)
     error_is refusal.Memory h = tt
     error_is (refusal.Attach x) h = absurd (no_attach x h)
     error_is refusal.NoVolume h = other refusal.NoVolume h

@@ -1,5 +1,5 @@
 -- What was read for edits holds for whatever the sources may hold.
-use Rattle.ubi_change.proofs.Prelude.{UpdateRefusal, slice_get, ◌≡◌, ℕ, ◌+◌, ◌≤◌, List, length, Err, None, Some, AllByRecursion, IsGeometry, Sizes, Source, image_of, blocks_of, IsSurvey, Seen, Avoided, states_avoiding, Holders, first_taken, subst, sym, ap, ap₂, ◌∙◌, Agreed, touchable, all_asked, first_beyond, news_of, all_layings, groups_from, in_order, IsUpdateFor, IsBased, IsBeside, AreHolders, Edit, UpdatePlan, Based, refl, Part, Narrows, WhereHeld, contents_after_update, IsUpdateCause, IsUpdateError, IsContentsError, IsSitesError, IsUnbased, Laying, UpdateError}
+use Rattle.ubi_change.proofs.Prelude.{raised, UpdateRefusal, slice_get, ◌≡◌, ℕ, ◌+◌, ◌≤◌, List, length, Err, None, Some, AllByRecursion, IsGeometry, Sizes, Source, image_of, blocks_of, IsSurvey, Seen, Avoided, states_avoiding, Holders, first_taken, subst, sym, ap₂, ◌∙◌, Agreed, touchable, all_asked, first_beyond, news_of, all_layings, groups_from, in_order, IsUpdateFor, IsBased, IsBeside, AreHolders, Edit, UpdatePlan, Based, refl, Part, Narrows, WhereHeld, contents_after_update, IsUpdateCause, IsUpdateError, IsContentsError, IsSitesError, IsUnbased, Laying, UpdateError}
 use Rattle.ubi_change.proofs.BlankListed.{survey_blank}
 use Rattle.ubi_change.proofs.CommitKept.{commit_avoiding}
 use Rattle.ubi_change.proofs.PlanBeside.{survey_beside}
@@ -22,13 +22,13 @@ module _ (s : Sizes) (g : IsGeometry s) (k : Source) (agrees : Agreed) (av : Avo
   reach : AllByRecursion (λ v. v.start + v.len ≤ length contents) (news_of es)
   reach = subst (λ n. AllByRecursion (λ v. v.start + v.len ≤ n) (news_of es)) (sym sized) (none_beyond size es inside)
 
-  pub update_is : (p : UpdatePlan) → p.surveyed ≡ b.surveyed → p.pages.items ≡ b.ready.pages.items → p.holders ≡ b.ready.holders
+  pub update_is : (p : UpdatePlan) → p.surveyed ≡ b.surveyed → p.above ≡ av.above → p.pages.items ≡ b.ready.pages.items → p.holders ≡ b.ready.holders
       → p.parts.items ≡ b.ready.parts.items → p.layings.items ≡ all_layings s contents b.ready.parts.items
       → p.sites.items ≡ first_taken s (blocks_of s bytes) (states_avoiding av seen.states) (length p.layings.items + 2)
       → length p.layings.items + 2 ≤ length p.sites.items
-      → seen.scan.top_sqnum + (length p.layings.items + 2) ≤ 0xFFFFFFFFFFFFFFFF
+      → (raised av.above seen.scan).top_sqnum + (length p.layings.items + 2) ≤ 0xFFFFFFFFFFFFFFFF
       → IsUpdateFor (image_of s bytes) av contents es p
-  update_is p surveyed pages holders parts laid taking enough few =
+  update_is p surveyed above pages holders parts laid taking enough few =
       let image = image_of s bytes in
       let room = touchable av seen.states in
       let are = is.read bytes holds survey in
@@ -46,8 +46,9 @@ module _ (s : Sizes) (g : IsGeometry s) (k : Source) (agrees : Agreed) (av : Avo
         parts = parts ∙ make.parts_are image av seen survey contents room es is.wholes are (Some b.ready.holders) b.ready is.ready;
         pages = pages ∙ make.pages_are image av seen survey contents room es is.wholes are (Some b.ready.holders) b.ready is.ready;
         layings = make.layings_are image av seen survey contents room es is.wholes are (Some b.ready.holders) b.ready is.ready reach p.layings.items laid;
-        plan = ap (λ (v : Seen). in_order (groups_from s v.scan contents p.pages.items p.holders 0 p.layings.items p.sites.items)) surveyed
-            ∙ ap₂ (λ (pages : List ℕ) (old : Holders). in_order (groups_from s seen.scan contents pages old 0 p.layings.items p.sites.items)) pages holders
+        plan = ap₂ (λ (v : Seen) (n : ℕ). in_order (groups_from s (raised n v.scan) contents p.pages.items p.holders 0 p.layings.items p.sites.items))
+            surveyed above
+            ∙ ap₂ (λ (pages : List ℕ) (old : Holders). in_order (groups_from s (raised av.above seen.scan) contents pages old 0 p.layings.items p.sites.items)) pages holders
             ∙ make.plan_is image av seen survey contents room es is.wholes are (Some b.ready.holders) b.ready is.ready reach p.layings.items laid
             held is.most p.sites.items taking enough few g;
         facts = commit_avoiding image av (whole image seen survey) (all_asked s contents es) g survey.attached blank may;

@@ -1,5 +1,5 @@
 -- What was read and judged for edits makes the plan of their commit.
-use Rattle.ubi_change.proofs.Prelude.{◌≡◌, ◌<◌, ℕ, ◌+◌, ◌≤◌, Bool, List, length, map, refl, ap, sym, ◌∙◌, subst, arith, None, Option, Some, AllByRecursion, IsGeometry, Sizes, Image, eraseblocks, IsSurvey, Seen, AttachValue, Records, records_of, avoiding, Avoided, MayBeCommitted, Holders, holder, Site, site_at, takeable, taken, first_taken, weak_pages, table_pages, edits_plan, AreHolders, layout, edited_in, ◌++◌, length-map, length-take, option_map_or, Laid, lay_all, table_plan, AreRecords, commit_needs, first_edit_fault, is_used, reads_whole, all_asked, news_of, all_layings, edited_parts, edited_records, groups_from, in_order, RecordsStand, UpdateStands, asked_records, IsMade, IsReady, Edit, EditFault, UpdateRefusal, Laying, Ready, ReadBlank, touchable, IsUpdateCause, update_rank, of_blocks}
+use Rattle.ubi_change.proofs.Prelude.{raised, ◌≡◌, ◌<◌, ℕ, ◌+◌, ◌≤◌, Bool, List, length, map, refl, ap, sym, ◌∙◌, subst, arith, None, Option, Some, AllByRecursion, IsGeometry, Sizes, Image, eraseblocks, IsSurvey, Seen, AttachValue, Records, records_of, avoiding, Avoided, MayBeCommitted, Holders, holder, Site, site_at, takeable, taken, first_taken, weak_pages, table_pages, edits_plan, AreHolders, layout, edited_in, ◌++◌, length-map, length-take, option_map_or, Laid, lay_all, table_plan, AreRecords, commit_needs, first_edit_fault, is_used, reads_whole, all_asked, news_of, all_layings, edited_parts, edited_records, groups_from, in_order, RecordsStand, UpdateStands, asked_records, IsMade, IsReady, Edit, EditFault, UpdateRefusal, Laying, Ready, ReadBlank, touchable, IsUpdateCause, update_rank, of_blocks}
 use Rattle.ubi_change.proofs.PartLayings.{laid_as}
 use Rattle.std.specs.FinMap as finite
 use Rattle.ubi_change.specs.declared.errors.UpdateRefusal.TheVariants as refusal
@@ -73,7 +73,7 @@ module _ (image : Image) (av : Avoided) (seen : Seen) (is : IsSurvey image seen)
         before_numbers (refusal.Attach x) l h = h
         before_numbers refusal.Memory l h = h
 
-        before_free : seen.scan.top_sqnum + (length layings + 2) ≤ 0xFFFFFFFFFFFFFFFF → (c : UpdateRefusal) → update_rank c < 9
+        before_free : (raised av.above seen.scan).top_sqnum + (length layings + 2) ≤ 0xFFFFFFFFFFFFFFFF → (c : UpdateRefusal) → update_rank c < 9
             → UpdateStands s bs a contents room es c → ⊥
         before_free few refusal.Exhausted l h = absurd (omega (arith, h, few, needed))
         before_free few (refusal.NoFree n k) l h = absurd (omega arith)
@@ -98,16 +98,16 @@ module _ (image : Image) (av : Avoided) (seen : Seen) (is : IsSurvey image seen)
             first = λ d l h. first d l (subst (λ n. UpdateStands s bs a contents n es d) (sym told) h);
           }
 
-          pub exhausted_is : 0xFFFFFFFFFFFFFFFF < seen.scan.top_sqnum + (length layings + 2) → IsUpdateCause image av contents es refusal.Exhausted
+          pub exhausted_is : 0xFFFFFFFFFFFFFFFF < (raised av.above seen.scan).top_sqnum + (length layings + 2) → IsUpdateCause image av contents es refusal.Exhausted
           exhausted_is more = cause refusal.Exhausted before_numbers (omega (arith, more, needed))
 
-          pub free_is : seen.scan.top_sqnum + (length layings + 2) ≤ 0xFFFFFFFFFFFFFFFF → (has : ℕ) → has < length layings + 2
+          pub free_is : (raised av.above seen.scan).top_sqnum + (length layings + 2) ≤ 0xFFFFFFFFFFFFFFFF → (has : ℕ) → has < length layings + 2
               → has ≡ length (takeable s bs a.states) → IsUpdateCause image av contents es (refusal.NoFree (length layings + 2) has)
           free_is few has less is = cause (refusal.NoFree (length layings + 2) has) (before_free few) (sym needed, is, less)
 
       module _ (held : AreHolders s bs av seen (Some r.holders)) (most : room ≤ s.pebs) (sites : List Site)
           (taking : sites ≡ first_taken s bs a.states (length layings + 2)) (enough : length layings + 2 ≤ length sites)
-          (few : seen.scan.top_sqnum + (length layings + 2) ≤ 0xFFFFFFFFFFFFFFFF) where
+          (few : (raised av.above seen.scan).top_sqnum + (length layings + 2) ≤ 0xFFFFFFFFFFFFFFFF) where
         as_many : length layings + 2 ≤ length (takeable s bs a.states)
         as_many =
             let n = length layings + 2 in
@@ -133,7 +133,7 @@ module _ (image : Image) (av : Avoided) (seen : Seen) (is : IsSurvey image seen)
         allowed = may_be s bs a contents room es is.attached.accepted.accepted most held.0.0 held.0.1
             (subst AreRecords table_is ready.records) no_cause
 
-        pub plan_is : IsGeometry s → in_order (groups_from s seen.scan contents r.pages.items r.holders 0 layings sites)
+        pub plan_is : IsGeometry s → in_order (groups_from s (raised av.above seen.scan) contents r.pages.items r.holders 0 layings sites)
             ≡ edits_plan s bs a (all_asked s contents es)
         plan_is g =
             let n = edited_in s bs a.meaning (all_asked s contents es) in

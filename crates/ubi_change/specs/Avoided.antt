@@ -1,31 +1,38 @@
--- What a plan may not touch, and what attaching shows of an image to a plan that avoids it.
-use Rattle.std.specs.Prelude.{◌≡◌, ℕ, ◌<◌, ◌&&◌, ◌||◌, Bool, true, false, not, if◌then◌else◌, List, [], count_by, length, map, Some, slice_get, refl}
-use Rattle.std.specs.Coded.{Coded, code_by, coded×, coded_bool, coded_list}
+-- What a plan may not touch or give out, and what attaching shows of an image to a plan that avoids it.
+use Rattle.std.specs.Prelude.{◌≡◌, ℕ, ◌<◌, ◌&&◌, ◌||◌, Bool, true, false, not, if◌then◌else◌, List, [], count_by, length, map, max, Some, slice_get, refl}
+use Rattle.std.specs.Coded.{Coded, code_by, coded×, coded_bool, coded_list, coded_ℕ}
 use Rattle.std.specs.List.{enumerate_from}
 use Rattle.ubi_media.specs.Geometry.{Sizes}
 use Rattle.ubi_media.specs.declared.ec.EcRead.TheVariants as ec_read
 use Rattle.ubi_scan.specs.Image.{block, ec}
 use Rattle.ubi_scan.specs.Marks.{is_listed}
+use Rattle.ubi_scan.specs.Scan.{Found}
 use Rattle.ubi_volume.specs.Attached.{AttachValue}
 use Rattle.ubi_volume.specs.declared.attached.BlockState.{BlockState}
 use Rattle.ubi_volume.specs.declared.attached.BlockState.TheVariants as state
 use Rattle.ubi_change.specs.Steps.{target}
 use Rattle.ubi_change.specs.declared.step.Step.{Step}
 
--- the eraseblocks that a plan may not touch: whether each one is listed, and whether no Blank one may be touched
+-- what a plan keeps off: the eraseblocks that it may not touch, whether each one is listed, and whether no Blank one may be touched; and the
+-- sequence numbers up to one that it may not give out
 pub record Avoided : Type 0 where
   pub marks : List Bool
   pub blank : Bool
+  pub above : ℕ
 
--- the eraseblocks to avoid, as a pair
+-- what is avoided, as nested pairs
 abbrev pub avoided_code : Coded Avoided
 avoided_code =
-    code_by (List Bool × Bool) (coded× (coded_list coded_bool) coded_bool) (λ e. (e.marks, e.blank))
-    (λ p. record { marks = p.0; blank = p.1 }) (λ _. refl)
+    code_by (List Bool × (Bool × ℕ)) (coded× (coded_list coded_bool) (coded× coded_bool coded_ℕ)) (λ e. (e.marks, (e.blank, e.above)))
+    (λ p. record { marks = p.0; blank = p.1.0; above = p.1.1 }) (λ _. refl)
 
 -- nothing is avoided
 abbrev pub nothing : Avoided
-nothing = record { marks = []; blank = false }
+nothing = record { marks = []; blank = false; above = 0 }
+
+-- what a scan found, as a plan sees it that may not give out the sequence numbers up to n: it counts on from there
+abbrev pub raised : ℕ → Found → Found
+raised n scan = record scan { top_sqnum = max scan.top_sqnum n }
 
 -- whether an eraseblock in this state is Blank
 abbrev pub is_blank_one : BlockState → Bool
@@ -47,7 +54,7 @@ module _ (av : Avoided) where
 
   -- what attaching shows, as the plan sees it
   abbrev pub avoiding : AttachValue → AttachValue
-  avoiding a = record a { states = states_avoiding a.states }
+  avoiding a = record a { scan = raised av.above a.scan; states = states_avoiding a.states }
 
   -- how many of the eraseblocks, which are in these states, may be touched
   abbrev pub touchable : List BlockState → ℕ

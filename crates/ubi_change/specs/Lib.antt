@@ -4,6 +4,7 @@ pub mod Order
 pub mod Pages
 pub mod Takeable
 pub mod Avoided
+pub mod Listed
 pub mod Weak
 pub mod Plan
 pub mod Refused

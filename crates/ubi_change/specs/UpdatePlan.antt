@@ -10,6 +10,7 @@ use Rattle.ubi_scan.specs.Scan.{Found}
 use Rattle.ubi_scan.specs.Source.{Source, blocks_in, failed}
 use Rattle.ubi_laid.specs.Pieces.{LiesIn, checked_header}
 use Rattle.ubi_laid.specs.declared.pieces.Piece.{Piece}
+use Rattle.ubi_change.specs.Avoided.{raised}
 use Rattle.ubi_change.specs.CommitPlan.{trimmed}
 use Rattle.ubi_change.specs.Laying.{IsReadOfPiece, all_layings, piece_bytes}
 use Rattle.ubi_change.specs.Pages.{line_of}
@@ -51,9 +52,13 @@ module _ (s : Sizes) (scan : Found) where
   groups_from contents pages old k (l ∷ ls) [] = []
   groups_from contents pages old k (l ∷ ls) (t ∷ ts) = lay_steps contents k l.piece t ∷ groups_from contents pages old (k + 1) ls ts
 
+-- what the headers of a plan are made from: what a scan found, with sequence numbers from those on that it may give out
+abbrev pub base_of : UpdatePlan → Found
+base_of p = raised p.above p.surveyed.scan
+
 -- the groups of steps of a plan, by the bytes of the source of contents
 abbrev pub plan_groups : Sizes → UpdatePlan → List ℕ → List (List Step)
-plan_groups s p contents = groups_from s p.surveyed.scan contents p.pages.items p.holders 0 p.layings.items p.sites.items
+plan_groups s p contents = groups_from s (base_of p) contents p.pages.items p.holders 0 p.layings.items p.sites.items
 
 -- how many LEBs of the volume in a slot are written
 abbrev pub leb_count : UpdatePlan → ℕ → ℕ
@@ -75,7 +80,7 @@ pub record FitsUpdate (s : Sizes) (size : ℕ) (p : UpdatePlan) : Type 0 where
   pub short : length p.pages.items < 2 ^ 31
   pub fit : length p.pages.items ≤ leb_size s
   pub bytes : AreBytes p.pages.items
-  pub few : p.surveyed.scan.top_sqnum + (length p.layings.items + 2) ≤ 0xFFFFFFFFFFFFFFFF
+  pub few : (base_of p).top_sqnum + (length p.layings.items + 2) ≤ 0xFFFFFFFFFFFFFFFF
 
 -- of each volume that a plan writes it has what there is to be written, if the source of contents holds these bytes
 abbrev pub IsLaidFrom : Sizes → List ℕ → UpdatePlan → Type 0

@@ -1,24 +1,28 @@
-//! What a plan may not touch.
+//! What a plan may not touch or give out.
 
 ghost use Rattle.std.specs.Prelude.{◌≡◌, ◌<◌, ◌≤◌, Some, length, slice_get};
 ghost use Rattle.ubi_change.specs.inner.Taking.{ListedIs, NotBlankIs, listed_site};
-ghost use Rattle.ubi_change.specs.Avoided.{is_avoided, is_blank_one, state_avoiding, states_avoiding};
-ghost use Rattle.ubi_change.specs.Avoided.{touchable};
+ghost use Rattle.ubi_change.specs.Avoided.{is_avoided, is_blank_one, nothing, raised, state_avoiding, states_avoiding, touchable};
 ghost use Rattle.ubi_scan.specs.Marks.{is_listed};
 
+use crate::basis::Basis;
 use crate::sites::Site;
 use crate::step::Step;
 use std::marker::Model;
 use ubi_media::Geometry;
+use ubi_scan::Scan;
 use ubi_volume::{BlockState, Surveyed};
 
-/// Eraseblocks that a plan may not touch, such as the bad ones of a flash device.
+/// What a plan keeps off: eraseblocks that it may not touch, such as the bad ones of a flash device, and sequence numbers that it may not
+/// give out.
 #[derive(Drop)]
 pub struct Avoided<'a> {
     /// Whether each eraseblock is listed, by its number. One that has no mark isn't.
     marks: &'a [bool],
     /// Whether no Blank eraseblock may be touched.
     blank: bool,
+    /// The sequence number that those of the plan have to be above.
+    above: u64,
 }
 
 impl<'a> Model for Avoided<'a> {
@@ -28,7 +32,7 @@ impl<'a> Model for Avoided<'a> {
 
     ghost coded = { avoided_code };
 
-    ghost view = { λ a. record { marks = a.marks.now; blank = a.blank } };
+    ghost view = { λ a. record { marks = a.marks.now; blank = a.blank; above = a.above } };
 }
 
 /// Whether an eraseblock in this state is Blank.
@@ -39,7 +43,7 @@ fn is_blank(state: BlockState) -> bool
 }
 
 /// Whether an eraseblock is listed.
-fn is_listed(marks: &[bool], p: u32) -> bool
+pub(crate) fn is_listed(marks: &[bool], p: u32) -> bool
     ensures { result ≡ is_listed marks.now p }
 {
     match marks.get(p as usize) {
@@ -77,11 +81,37 @@ fn listed(marks: &[bool], steps: &[Step]) -> Option<u32>
 }
 
 impl<'a> Avoided<'a> {
-    /// The eraseblocks whose marks say so, and if `blank`, the Blank ones.
-    pub fn new(marks: &'a [bool], blank: bool) -> Avoided<'a>
-        ensures { result ≡ record { marks = marks.now; blank = blank } }
+    /// The eraseblocks whose marks say so, and if `blank`, the Blank ones; and the sequence numbers up to `above`, which is that of a header
+    /// that a kernel may still read in one of these eraseblocks.
+    pub fn new(marks: &'a [bool], blank: bool, above: u64) -> Avoided<'a>
+        ensures { result ≡ record { marks = marks.now; blank = blank; above = above } }
     {
-        Avoided { marks, blank }
+        Avoided {
+            marks,
+            blank,
+            above,
+        }
+    }
+
+    /// Nothing.
+    pub fn nothing() -> Avoided<'a>
+        ensures { result ≡ nothing }
+    {
+        Avoided::new(&[], false, 0)
+    }
+
+    /// The sequence number that those of a plan have to be above.
+    pub(crate) fn above(&self) -> u64
+        ensures { result ≡ self.now.above }
+    {
+        self.above
+    }
+
+    /// What the headers of a plan are made from that avoids this, by what a scan found.
+    pub(crate) fn basis<'s>(&self, scan: &'s Scan) -> Basis<'s>
+        ensures { result ≡ raised self.now.above scan.now }
+    {
+        Basis::new(scan, self.above)
     }
 
     /// Whether an eraseblock in this state is one of them.

@@ -14,6 +14,7 @@ ghost use Rattle.ubi_scan.specs.Stream.{NamesBlock, after};
 ghost use Rattle.ubi_volume.specs.Places.{ArePlacesError};
 
 use crate::avoided::Avoided;
+use crate::basis::Basis;
 use crate::errors::{ChangeRefusal, PlanError};
 use crate::ground::{Ground, ground_of, winner_site};
 use crate::plan_steps::{Replacement, Target, push_copy, push_mount, ready_ec};
@@ -22,7 +23,7 @@ use crate::step::Step;
 use crate::weak_check::weak_place;
 use std::alloc::{AllocError, Global};
 use ubi_media::{Geometry, VolKind, VolumeRecord};
-use ubi_scan::{BlockSource, MemorySource, Scan, StreamError};
+use ubi_scan::{BlockSource, MemorySource, StreamError};
 use ubi_table::Table;
 
 /// What the plan of a change reads of a source.
@@ -102,7 +103,7 @@ fn target_of(
 fn mapped_steps(
     alloc: Global,
     geometry: &Geometry,
-    scan: &Scan,
+    basis: &Basis,
     target: &Target,
     new: &[u8],
     copy: &Site,
@@ -110,19 +111,19 @@ fn mapped_steps(
 ) -> Result<Vec<Step>, AllocError>
     requires paged { length new.now % geometry.now.page ≡ 0 }
     requires short { length new.now < 2 ^ 31 }
-    requires few { scan.now.top_sqnum + 1 ≤ 0xFFFFFFFFFFFFFFFF }
+    requires few { basis.now.top_sqnum + 1 ≤ 0xFFFFFFFFFFFFFFFF }
     requires copy { HasCounter copy.now }
     requires old { HasCounter old.now }
-    ensures { IfOk result (λ steps. steps.items ≡ mapped_steps geometry.now scan.now target.now new.now copy.now old.now) }
+    ensures { IfOk result (λ steps. steps.items ≡ mapped_steps geometry.now basis.now target.now new.now copy.now old.now) }
 {
     let copy = Replacement {
         target: *copy,
-        header: target.copy_header(scan.top_sqnum() + 1, new),
+        header: target.copy_header(basis.top_sqnum() + 1, new),
         old: *old,
         old_ec: old.ec,
     };
     let mut steps = Vec::new(alloc);
-    push_copy(alloc, &mut steps, geometry, scan, &copy, new)?;
+    push_copy(alloc, &mut steps, geometry, basis, &copy, new)?;
     Ok(steps)
 }
 
@@ -130,7 +131,7 @@ fn mapped_steps(
 fn unmapped_steps(
     alloc: Global,
     geometry: &Geometry,
-    scan: &Scan,
+    basis: &Basis,
     target: &Target,
     new: &[u8],
     first: &Site,
@@ -138,22 +139,22 @@ fn unmapped_steps(
 ) -> Result<Vec<Step>, AllocError>
     requires paged { length new.now % geometry.now.page ≡ 0 }
     requires short { length new.now < 2 ^ 31 }
-    requires few { scan.now.top_sqnum + 2 ≤ 0xFFFFFFFFFFFFFFFF }
-    requires mean { scan.now.mean_ec ≤ 0x7FFFFFFF }
+    requires few { basis.now.top_sqnum + 2 ≤ 0xFFFFFFFFFFFFFFFF }
+    requires mean { basis.now.mean_ec ≤ 0x7FFFFFFF }
     requires first { HasCounter first.now }
     requires copy { HasCounter copy.now }
-    ensures { IfOk result (λ steps. steps.items ≡ unmapped_steps geometry.now scan.now target.now new.now first.now copy.now) }
+    ensures { IfOk result (λ steps. steps.items ≡ unmapped_steps geometry.now basis.now target.now new.now first.now copy.now) }
 {
-    let header = target.blank_header(scan.top_sqnum() + 1);
+    let header = target.blank_header(basis.top_sqnum() + 1);
     let copy = Replacement {
         target: *copy,
-        header: target.copy_header(scan.top_sqnum() + 2, new),
+        header: target.copy_header(basis.top_sqnum() + 2, new),
         old: *first,
-        old_ec: ready_ec(scan, first),
+        old_ec: ready_ec(basis, first),
     };
     let mut steps = Vec::new(alloc);
-    push_mount(alloc, &mut steps, geometry, scan, first, &header)?;
-    push_copy(alloc, &mut steps, geometry, scan, &copy, new)?;
+    push_mount(alloc, &mut steps, geometry, basis, first, &header)?;
+    push_copy(alloc, &mut steps, geometry, basis, &copy, new)?;
     Ok(steps)
 }
 
@@ -161,23 +162,23 @@ fn unmapped_steps(
 fn steps_on(
     alloc: Global,
     geometry: &Geometry,
-    scan: &Scan,
+    basis: &Basis,
     target: &Target,
     new: &[u8],
     sites: &Sites,
 ) -> Result<Vec<Step>, AllocError>
     requires paged { length new.now % geometry.now.page ≡ 0 }
     requires short { length new.now < 2 ^ 31 }
-    requires mean { scan.now.mean_ec ≤ 0x7FFFFFFF }
-    requires sites { HasRoom scan.now sites.now }
-    ensures { IfOk result (λ steps. steps.items ≡ steps_on geometry.now scan.now target.now new.now sites.now) }
+    requires mean { basis.now.mean_ec ≤ 0x7FFFFFFF }
+    requires sites { HasRoom basis.now sites.now }
+    ensures { IfOk result (λ steps. steps.items ≡ steps_on geometry.now basis.now target.now new.now sites.now) }
 {
     match sites {
         Sites::Mapped { copy, old } => {
-            mapped_steps(alloc, geometry, scan, target, new, copy, old)
+            mapped_steps(alloc, geometry, basis, target, new, copy, old)
         }
         Sites::Unmapped { first, copy } => {
-            unmapped_steps(alloc, geometry, scan, target, new, first, copy)
+            unmapped_steps(alloc, geometry, basis, target, new, first, copy)
         }
     }
 }
@@ -191,22 +192,23 @@ fn change_steps(
     alloc: Global,
     geometry: &Geometry,
     prepared: &Prepared,
+    avoided: &Avoided,
     id: u32,
     lnum: u32,
     new: &[u8],
 ) -> Result<Vec<Step>, ChangeRefusal>
     requires { FitsPrepared geometry.now prepared.now }
-    ensures steps { IfOk result (λ steps. AreStepsOf geometry.now prepared.now id lnum new.now steps.items) }
+    ensures steps { IfOk result (λ steps. AreStepsOf geometry.now avoided.now prepared.now id lnum new.now steps.items) }
     ensures within { IfOk result (λ steps. AllWithin geometry.now (length prepared.now.ground.surveyed.states) steps.items) }
-    ensures refused { IfErr result (IsUnplanned geometry.now prepared.now id lnum new.now) }
+    ensures refused { IfErr result (IsUnplanned geometry.now avoided.now prepared.now id lnum new.now) }
 {
     let Ground { surveyed, taken } = &prepared.ground;
-    let scan = surveyed.scan();
+    let basis = avoided.basis(surveyed.scan());
     // By the limits of the geometry, the new bytes fit into an eraseblock.
     prove!(geometry.page() >= 64);
     let target = target_of(geometry, surveyed.table(), id, lnum, new)?;
-    let sites = sites_of(scan, prepared.winner, taken.as_slice())?;
-    Ok(steps_on(alloc, geometry, scan, &target, new, &sites)?)
+    let sites = sites_of(&basis, prepared.winner, taken.as_slice())?;
+    Ok(steps_on(alloc, geometry, &basis, &target, new, &sites)?)
 }
 
 /// Why what a plan needs couldn't be read.
@@ -253,7 +255,7 @@ pub fn plan_change_from<S: BlockSource>(
     match prepare(alloc, geometry, source, avoided, id, lnum) {
         Ok(prepared) => match avoided.not_blank(geometry, &prepared.ground.surveyed) {
             Some(p) => Err(PlanError::NotBlank(p)),
-            None => match change_steps(alloc, geometry, &prepared, id, lnum, new) {
+            None => match change_steps(alloc, geometry, &prepared, avoided, id, lnum, new) {
                 Ok(steps) => match avoided.listed(steps.as_slice()) {
                     Some(p) => Err(PlanError::NotBlank(p)),
                     None => Ok(steps),
@@ -307,7 +309,7 @@ pub fn plan_change(
         alloc,
         geometry,
         &mut MemorySource::new(image),
-        &Avoided::new(&[], false),
+        &Avoided::nothing(),
         id,
         lnum,
         new,

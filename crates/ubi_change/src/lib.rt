@@ -30,6 +30,7 @@
 #![tactic(auto)]
 
 mod avoided;
+mod basis;
 mod block_steps;
 mod change;
 mod copies;
@@ -38,6 +39,7 @@ mod edit;
 mod errors;
 mod first_steps;
 mod ground;
+mod hidden;
 mod image_after;
 mod judging;
 mod known;
@@ -65,6 +67,7 @@ pub use errors::{
     ChangeRefusal, ContentsError, EditFault, PlanError, RenameRefusal, UpdateError, UpdateRefusal,
 };
 pub use first_steps::FirstSteps;
+pub use hidden::listed_top;
 pub use image_after::{apply, step_fits, write_after};
 pub use rename::{plan_rename, plan_rename_from};
 pub use step::Step;

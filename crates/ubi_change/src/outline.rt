@@ -5,6 +5,7 @@ ghost use Rattle.ubi_change.specs.UpdatePlan.{FitsUpdate, IsLaidFrom, IsOutline}
 ghost use Rattle.ubi_change.specs.declared.step.Step.{Step};
 ghost use Rattle.ubi_change.specs.inner.Outline.{HavePageNumbers, lay_lines, page_lines, release_lines, renew_lines};
 
+use crate::basis::Basis;
 use crate::copies::Holders;
 use crate::sites::Site;
 use crate::step::Step;
@@ -12,7 +13,6 @@ use crate::takeable::stays;
 use crate::update::UpdatePlan;
 use std::alloc::{AllocError, Global};
 use ubi_media::Geometry;
-use ubi_scan::Scan;
 use ubi_volume::Bytes;
 
 /// Adds the program of a page.
@@ -79,12 +79,12 @@ fn push_lay(
 fn push_released(
     alloc: Global,
     steps: &mut Vec<Step>,
-    scan: &Scan,
+    basis: &Basis,
     old: &Site,
 ) -> Result<(), AllocError>
-    ensures { OnOk result (steps.new.items ≡ steps.old.items ++ release_lines scan.now old.now) }
+    ensures { OnOk result (steps.new.items ≡ steps.old.items ++ release_lines basis.now old.now) }
 {
-    if stays(scan, old, old.ec) {
+    if stays(basis, old, old.ec) {
         return Ok(());
     }
     push_renewed(alloc, steps, old.pnum)
@@ -136,7 +136,7 @@ impl UpdatePlan {
         let mut steps = Vec::new(alloc);
         let count = self.pages.len() as u32 / geometry.page();
         push_lay(alloc, &mut steps, geometry, &self.sites[k], count)?;
-        push_released(alloc, &mut steps, self.surveyed.scan(), self.given_up(k))?;
+        push_released(alloc, &mut steps, &self.basis(), self.given_up(k))?;
         Ok(steps)
     }
 

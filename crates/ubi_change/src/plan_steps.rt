@@ -6,13 +6,13 @@ ghost use Rattle.ubi_change.specs.Sites.{copy_on, lay_on, mount_on, release_on};
 ghost use Rattle.ubi_change.specs.inner.Sites.{ready_on};
 ghost use Rattle.ubi_change.specs.Plan.{blank_header, copy_header, next_ec, program_header, program_text, renew};
 
+use crate::basis::Basis;
 use crate::pages::{ec_page, vid_page};
 use crate::sites::Site;
 use crate::step::Step;
 use crate::takeable::stays;
 use std::alloc::{AllocError, Global};
 use ubi_media::{EcHeader, Geometry, LAYOUT_VOLUME, REJECT, VidHeader, VolKind, crc, write_ec};
-use ubi_scan::Scan;
 use ubi_volume::Bytes;
 
 /// A copy that takes the place of the winner of a logical eraseblock.
@@ -30,30 +30,30 @@ pub struct Replacement {
 
 /// The erase-counter header after an erase: its counter is one above that of the header before, or the mean if there was
 /// none.
-fn next_ec(scan: &Scan, old: Option<EcHeader>) -> EcHeader
+fn next_ec(basis: &Basis, old: Option<EcHeader>) -> EcHeader
     requires { IfSome old (λ header. header.counter ≤ 2 ^ 31) }
-    ensures { result ≡ next_ec scan.now old }
+    ensures { result ≡ next_ec basis.now old }
 {
     EcHeader {
         counter: match old {
             Some(header) => header.counter + 1,
-            None => scan.mean_ec(),
+            None => basis.mean_ec(),
         },
-        image_seq: scan.image_seq(),
+        image_seq: basis.image_seq(),
     }
 }
 
 /// The erase-counter header of an eraseblock that was made ready.
-pub fn ready_ec(scan: &Scan, site: &Site) -> Option<EcHeader>
-    requires mean { scan.now.mean_ec ≤ 0x7FFFFFFF }
+pub fn ready_ec(basis: &Basis, site: &Site) -> Option<EcHeader>
+    requires mean { basis.now.mean_ec ≤ 0x7FFFFFFF }
     requires counter { IfSome site.now.ec (λ header. header.counter ≤ 0x7FFFFFFF) }
-    ensures value { result ≡ ready_on scan.now site.now }
+    ensures value { result ≡ ready_on basis.now site.now }
     ensures small { IfSome result (λ header. header.counter ≤ 2 ^ 31) }
 {
     if site.is_clean {
         site.ec
     } else {
-        Some(next_ec(scan, site.ec))
+        Some(next_ec(basis, site.ec))
     }
 }
 
@@ -129,17 +129,17 @@ pub fn push_mount(
     alloc: Global,
     steps: &mut Vec<Step>,
     geometry: &Geometry,
-    scan: &Scan,
+    basis: &Basis,
     site: &Site,
     header: &VidHeader,
 ) -> Result<(), AllocError>
     requires { IfSome site.now.ec (λ header. header.counter ≤ 0x7FFFFFFF) }
-    ensures { OnOk result (steps.new.items ≡ steps.old.items ++ mount_on geometry.now scan.now site.now header.now) }
+    ensures { OnOk result (steps.new.items ≡ steps.old.items ++ mount_on geometry.now basis.now site.now header.now) }
 {
     if site.is_clean {
         return push_header(alloc, steps, geometry, site.pnum, &site.ec_area, header);
     }
-    let ec = next_ec(scan, site.ec);
+    let ec = next_ec(basis, site.ec);
     push_renew(alloc, steps, geometry, site.pnum, &ec)?;
     push_header(
         alloc,
@@ -157,17 +157,17 @@ fn push_release(
     alloc: Global,
     steps: &mut Vec<Step>,
     geometry: &Geometry,
-    scan: &Scan,
+    basis: &Basis,
     site: &Site,
     ec: Option<EcHeader>,
 ) -> Result<(), AllocError>
     requires { IfSome ec (λ header. header.counter ≤ 2 ^ 31) }
-    ensures { OnOk result (steps.new.items ≡ steps.old.items ++ release_on geometry.now scan.now site.now ec) }
+    ensures { OnOk result (steps.new.items ≡ steps.old.items ++ release_on geometry.now basis.now site.now ec) }
 {
-    if stays(scan, site, ec) {
+    if stays(basis, site, ec) {
         return Ok(());
     }
-    push_renew(alloc, steps, geometry, site.pnum, &next_ec(scan, ec))
+    push_renew(alloc, steps, geometry, site.pnum, &next_ec(basis, ec))
 }
 
 /// Adds what makes an eraseblock ready, and gives it a volume-identifier header and a text behind it.
@@ -175,7 +175,7 @@ pub fn push_laid(
     alloc: Global,
     steps: &mut Vec<Step>,
     geometry: &Geometry,
-    scan: &Scan,
+    basis: &Basis,
     site: &Site,
     header: &VidHeader,
     text: &[u8],
@@ -183,9 +183,9 @@ pub fn push_laid(
     requires counter { IfSome site.now.ec (λ header. header.counter ≤ 0x7FFFFFFF) }
     requires paged { length text.now % geometry.now.page ≡ 0 }
     requires short { length text.now < 2 ^ 31 }
-    ensures { OnOk result (steps.new.items ≡ steps.old.items ++ lay_on geometry.now scan.now site.now header.now text.now) }
+    ensures { OnOk result (steps.new.items ≡ steps.old.items ++ lay_on geometry.now basis.now site.now header.now text.now) }
 {
-    push_mount(alloc, steps, geometry, scan, site, header)?;
+    push_mount(alloc, steps, geometry, basis, site, header)?;
     push_text(alloc, steps, geometry, site.pnum, text)
 }
 
@@ -194,7 +194,7 @@ pub fn push_copy(
     alloc: Global,
     steps: &mut Vec<Step>,
     geometry: &Geometry,
-    scan: &Scan,
+    basis: &Basis,
     copy: &Replacement,
     new: &[u8],
 ) -> Result<(), AllocError>
@@ -203,18 +203,18 @@ pub fn push_copy(
     requires paged { length new.now % geometry.now.page ≡ 0 }
     requires short { length new.now < 2 ^ 31 }
     ensures { OnOk result (steps.new.items ≡ steps.old.items
-        ++ copy_on geometry.now scan.now copy.now.target copy.now.header new.now copy.now.old copy.now.old_ec) }
+        ++ copy_on geometry.now basis.now copy.now.target copy.now.header new.now copy.now.old copy.now.old_ec) }
 {
     push_laid(
         alloc,
         steps,
         geometry,
-        scan,
+        basis,
         &copy.target,
         &copy.header,
         new,
     )?;
-    push_release(alloc, steps, geometry, scan, &copy.old, copy.old_ec)
+    push_release(alloc, steps, geometry, basis, &copy.old, copy.old_ec)
 }
 
 /// A logical eraseblock of a dynamic volume, a user's or the layout volume.

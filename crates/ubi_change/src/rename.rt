@@ -178,7 +178,7 @@ pub fn plan_rename(
     ensures plan { IfOk result (λ steps. IsTheRename (image_of geometry.now image.now) id name.now steps.items) }
     ensures refused { IfErr result (IsRenameRefusal (image_of geometry.now image.now) id name.now) }
 {
-    let nothing = Avoided::new(&[], false);
+    let nothing = Avoided::nothing();
     match plan_rename_from(
         alloc,
         geometry,

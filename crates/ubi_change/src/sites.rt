@@ -10,9 +10,10 @@ ghost use Rattle.ubi_scan.specs.Numbers.{valid_ec};
 ghost use Rattle.ubi_scan.specs.Source.{Narrows, WhereHeld, blocks_in, blocks_of};
 ghost use Rattle.ubi_scan.specs.Stream.{IsReadFault, NamesBlock, after};
 
+use crate::basis::Basis;
 use crate::errors::ChangeRefusal;
 use ubi_media::{EcHeader, EcRead, Geometry, read_ec};
-use ubi_scan::{BlockSource, Scan, StreamError, read_part};
+use ubi_scan::{BlockSource, StreamError, read_part};
 use ubi_volume::{BlockState, is_blank_part};
 
 /// The size of an erase-counter header in bytes.
@@ -138,12 +139,12 @@ pub enum Sites {
 /// # Errors
 ///
 /// `Exhausted`, and else `NoFree`.
-pub fn sites_of(scan: &Scan, winner: Option<Site>, taken: &[Site]) -> Result<Sites, ChangeRefusal>
-    ensures sites { IfOk result (AreSites scan.now winner taken.now) }
-    ensures refused { IfErr result (IsSitesRefusal scan.now winner taken.now) }
+pub fn sites_of(basis: &Basis, winner: Option<Site>, taken: &[Site]) -> Result<Sites, ChangeRefusal>
+    ensures sites { IfOk result (AreSites basis.now winner taken.now) }
+    ensures refused { IfErr result (IsSitesRefusal basis.now winner taken.now) }
 {
     let needed = if winner.is_some() { 1 } else { 2 };
-    if scan.top_sqnum() > u64::MAX - needed {
+    if basis.top_sqnum() > u64::MAX - needed {
         return Err(ChangeRefusal::Exhausted);
     }
     match (winner, taken.first(), taken.get(1)) {

@@ -10,10 +10,11 @@ ghost use Rattle.ubi_scan.specs.Stream.{IsReadFailure, IsReadFault, NamesBlock, 
 ghost use Rattle.ubi_volume.specs.Survey.{IsSurveyOf};
 
 use crate::avoided::Avoided;
+use crate::basis::Basis;
 use crate::sites::{Site, read_site};
 use std::alloc::{AllocError, Global};
 use ubi_media::{EcHeader, Geometry};
-use ubi_scan::{BlockSource, Scan, StreamError};
+use ubi_scan::{BlockSource, StreamError};
 use ubi_volume::{BlockState, Surveyed};
 
 /// The greatest erase counter.
@@ -90,21 +91,21 @@ fn is_worn(header: Option<EcHeader>) -> bool
 }
 
 /// Whether an eraseblock is the only one that names the image.
-fn is_sole_carrier(scan: &Scan, site: &Site) -> bool
-    ensures { result ≡ is_sole_on scan.now site.now }
+fn is_sole_carrier(basis: &Basis, site: &Site) -> bool
+    ensures { result ≡ is_sole_on basis.now site.now }
 {
     match site.ec {
-        Some(header) => header.image_seq != 0 && scan.carriers() == 1,
+        Some(header) => header.image_seq != 0 && basis.carriers() == 1,
         None => false,
     }
 }
 
 /// Whether an eraseblock that then has this erase-counter header is never erased: it can't count another erase, or it is
 /// the only one that names the image.
-pub fn stays(scan: &Scan, site: &Site, ec: Option<EcHeader>) -> bool
-    ensures { result ≡ stays_on scan.now site.now ec }
+pub fn stays(basis: &Basis, site: &Site, ec: Option<EcHeader>) -> bool
+    ensures { result ≡ stays_on basis.now site.now ec }
 {
-    is_worn(ec) || is_sole_carrier(scan, site)
+    is_worn(ec) || is_sole_carrier(basis, site)
 }
 
 /// An eraseblock that may be taken: nothing is lost with it, it isn't avoided, and it can be erased. `None` if it may not. The
@@ -132,7 +133,7 @@ fn takeable_site<S: BlockSource>(
         return Ok(None);
     }
     let site = read_site(geometry, source, p, state, buffer)?;
-    if stays(surveyed.scan(), &site, site.ec) {
+    if stays(&avoided.basis(surveyed.scan()), &site, site.ec) {
         Ok(None)
     } else {
         Ok(Some(site))

@@ -3,7 +3,7 @@
 ghost use Rattle.std.specs.Prelude.{◌≡◌, ℕ, ◌+◌, ◌<◌, IfErr, IfOk, List, Some, length, slice_get};
 ghost use Rattle.ubi_change.specs.Fitting.{AllWithin};
 ghost use Rattle.ubi_change.specs.Laying.{after_contents};
-ghost use Rattle.ubi_change.specs.UpdatePlan.{copy_steps, in_order, leb_count, plan_groups};
+ghost use Rattle.ubi_change.specs.UpdatePlan.{base_of, copy_steps, in_order, leb_count, plan_groups};
 ghost use Rattle.ubi_change.specs.declared.sites.Site.{Site};
 ghost use Rattle.ubi_change.specs.Sites.{FitsIn};
 ghost use Rattle.ubi_change.specs.UpdatePlan.{FitsUpdate, IsGroupError};
@@ -11,6 +11,7 @@ ghost use Rattle.ubi_change.specs.inner.Updating.{listed_in};
 ghost use Rattle.ubi_scan.specs.Source.{Narrows, WhereHeld};
 
 use crate::avoided::Avoided;
+use crate::basis::Basis;
 use crate::copies::Holders;
 use crate::errors::ContentsError;
 use crate::laying::{Laying, read_piece};
@@ -30,6 +31,8 @@ use ubi_volume::Surveyed;
 #[derive(Drop)]
 pub struct UpdatePlan {
     pub(crate) surveyed: Surveyed,
+    /// The sequence number that those of the plan are above, as far as it isn't the image that asks for it.
+    pub(crate) above: u64,
     /// The volumes that are written, each with its slot.
     pub(crate) parts: Vec<Part>,
     /// The logical eraseblocks that are written.
@@ -64,16 +67,16 @@ fn lay_group<T: BlockSource>(
     ensures within { IfOk result (λ steps. AllWithin geometry.now (length plan.now.surveyed.states) steps.items) }
     ensures refused { IfErr result (IsGroupError geometry.now plan.now k (T.failed_at contents.new)) }
 {
-    let scan = plan.surveyed.scan();
+    let basis = plan.basis();
     let (laying, site) = (plan.layings[k], plan.sites[k]);
     read_piece(geometry, &laying.piece, contents, buffer)?;
     let header = VidHeader {
-        sqnum: scan.top_sqnum() + 1 + k as u64,
+        sqnum: basis.top_sqnum() + 1 + k as u64,
         ..header_of(geometry, &laying.piece, buffer)
     };
     let text = trimmed_text(geometry, laying.piece.len, buffer);
     let mut steps = Vec::new(alloc);
-    push_laid(alloc, &mut steps, geometry, scan, &site, &header, text)?;
+    push_laid(alloc, &mut steps, geometry, &basis, &site, &header, text)?;
     Ok(steps)
 }
 
@@ -95,19 +98,19 @@ fn copy_group(
     requires fits { (n : ℕ) × FitsUpdate geometry.now n plan.now }
     requires inside { k < length plan.now.layings.items + 2 }
     ensures steps { IfOk result (λ steps. (t : Site) × (slice_get plan.now.sites.items k ≡ Some t)
-        × (steps.items ≡ copy_steps geometry.now plan.now.surveyed.scan plan.now.pages.items copy k t old.now)) }
+        × (steps.items ≡ copy_steps geometry.now (base_of plan.now) plan.now.pages.items copy k t old.now)) }
     ensures within { IfOk result (λ steps. AllWithin geometry.now (length plan.now.surveyed.states) steps.items) }
 {
-    let scan = plan.surveyed.scan();
+    let basis = plan.basis();
     let pages = plan.pages.as_slice();
     let replacement = Replacement {
         target: plan.sites[k],
-        header: Target::of_table(copy).copy_header(scan.top_sqnum() + 1 + k as u64, pages),
+        header: Target::of_table(copy).copy_header(basis.top_sqnum() + 1 + k as u64, pages),
         old: *old,
         old_ec: old.ec,
     };
     let mut steps = Vec::new(alloc);
-    push_copy(alloc, &mut steps, geometry, scan, &replacement, pages)?;
+    push_copy(alloc, &mut steps, geometry, &basis, &replacement, pages)?;
     Ok(steps)
 }
 
@@ -115,11 +118,12 @@ impl UpdatePlan {
     /// The plan that writes this.
     pub(crate) fn of(
         surveyed: Surveyed,
+        above: u64,
         ready: Ready,
         layings: Vec<Laying>,
         sites: Vec<Site>,
     ) -> UpdatePlan
-        ensures { result ≡ record { surveyed = surveyed; parts = ready.parts; layings = layings; sites = sites; holders = ready.holders; pages = ready.pages } }
+        ensures { result ≡ record { surveyed = surveyed; above = above; parts = ready.parts; layings = layings; sites = sites; holders = ready.holders; pages = ready.pages } }
     {
         let Ready {
             parts,
@@ -128,12 +132,20 @@ impl UpdatePlan {
         } = ready;
         UpdatePlan {
             surveyed,
+            above,
             parts,
             layings,
             sites,
             holders,
             pages,
         }
+    }
+
+    /// What its headers are made from.
+    pub(crate) fn basis(&self) -> Basis<'_>
+        ensures { result ≡ base_of self.now }
+    {
+        Basis::new(self.surveyed.scan(), self.above)
     }
 
     /// The number of the first listed eraseblock that the plan works on, if there is one.

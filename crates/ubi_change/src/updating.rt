@@ -139,7 +139,7 @@ pub fn plan_update_from<S: BlockSource, T: BlockSource>(
     let layings = layings_from(alloc, geometry, ready.parts.as_slice(), contents, buffer)?;
     let needs = layings.len() + 2;
     let sites = take_sites(alloc, geometry, source, &surveyed, avoided, needs, buffer)?;
-    let plan = UpdatePlan::of(surveyed, ready, layings, sites);
+    let plan = UpdatePlan::of(surveyed, avoided.above(), ready, layings, sites);
     match plan.listed(avoided) {
         Some(p) => Err(UpdateError::NotBlank(p)),
         None => Ok(plan),

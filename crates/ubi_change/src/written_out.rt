@@ -99,7 +99,7 @@ pub fn take_sites<S: BlockSource>(
     ensures refused { IfErr result (IsSitesError geometry.now (S.known source.old) (S.agrees source.new) avoided.now surveyed.now needs) }
     ensures named { IfErr result (NamesUnread geometry.now (S.failed_at source.new)) }
 {
-    if surveyed.top_sqnum() > u64::MAX - needs as u64 {
+    if avoided.basis(surveyed.scan()).top_sqnum() > u64::MAX - needs as u64 {
         return Err(UpdateError::Refused(UpdateRefusal::Exhausted));
     }
     match first_takeable(alloc, geometry, source, surveyed, avoided, needs, buffer) {

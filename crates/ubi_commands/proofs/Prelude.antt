@@ -60,7 +60,9 @@ pub use Rattle.clap.specs.declared.parser.matches.ArgMatches.{ArgMatches}
 pub use Rattle.clap.specs.declared.parser.matches.Found.{Found}
 pub use Rattle.clap.specs.declared.parser.matches.ValueSource.TheVariants.{CommandLine}
 pub use Rattle.ubi_change.proofs.Carried.{rebuilt_within}
+pub use Rattle.ubi_change.proofs.CommitKept.{commit_survives_tears}
 pub use Rattle.ubi_change.proofs.PlanSurvives.{plan_survives_law}
+pub use Rattle.ubi_change.proofs.TornPlan.{plan_survives_tears_law, rename_survives_tears_law}
 pub use Rattle.ubi_change.specs.Fitting.{FitsBlock}
 pub use Rattle.ubi_change.specs.Pages.{line_of, programmed, with_pages}
 pub use Rattle.ubi_change.specs.Steps.{target}

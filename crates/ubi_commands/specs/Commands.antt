@@ -18,6 +18,7 @@ use Rattle.ubi_reading.specs.Geometry.{DetectsOf}
 use Rattle.ubi_reading.specs.Map.{AnswersMap, LeavesMap}
 use Rattle.ubi_writing.specs.Normalise.{HasMeaning, NormalisesOf}
 use Rattle.ubi_dumps.specs.Asked.{OfAsked}
+use Rattle.ubi_writing.specs.PlanImage.{AboveListed}
 use Rattle.ubi_writing.specs.Outputs.{KeepsImage, KeepsPart, OfText, OnGrid, PlanStays, WithList, WritesInto, WritesPlan, avoided}
 use Rattle.ubi_files.specs.OverFile.{OfFile, OfImage}
 use Rattle.ubi_reading.specs.InFormat.{OfAskedIn, OfBothIn, OfFileIn}
@@ -208,42 +209,42 @@ said_of (request.Change dump change_it) =
     let plan = change_it.plan in
     let image = plan.paths.image.now in
     let out = plan.paths.out.now in
-    let kept = avoided dump plan in record {
+    record {
       command = change;
       asks = λ words. AsksDump words dump × AsksChange words change_it;
-      answers = λ d e o. WithList d e dump.bad image (OnGrid d e dump image (OfFile d dump image
-          (λ s k agrees. OfImage d dump.numbers change_it.from.now
+      answers = λ d e o. WithList d e dump.bad image (OnGrid d e dump image (AboveListed d dump image
+          (λ above. OfFile d dump image (λ s k agrees. OfImage d dump.numbers change_it.from.now
           (λ f. WritesPlan out plan.pages d e
-          (ChangesFrom kept change_it.id change_it.lnum f.bytes plan.stop s k agrees)
-          (HasPlan kept change_it.id change_it.lnum f.bytes s k agrees))))) o × KeepsImage d e image o;
+          (ChangesFrom (avoided dump plan above) change_it.id change_it.lnum f.bytes plan.stop s k agrees)
+          (HasPlan (avoided dump plan above) change_it.id change_it.lnum f.bytes s k agrees)))))) o × KeepsImage d e image o;
       leaves = λ d e. PlanStays d e plan × Stays d e change_it.from.now × KeepsPart d e dump image;
     }
 said_of (request.Rename dump rename_it) =
     let plan = rename_it.plan in
     let image = plan.paths.image.now in
     let out = plan.paths.out.now in
-    let kept = avoided dump plan in record {
+    record {
       command = rename;
       asks = λ words. AsksDump words dump × AsksRename words rename_it;
-      answers = λ d e o. WithList d e dump.bad image (OnGrid d e dump image (OfFile d dump image
-          (λ s k agrees. WritesPlan out plan.pages d e
-          (RenamesFrom kept rename_it.id rename_it.name.now plan.stop s k agrees)
-          (HasRename kept rename_it.id rename_it.name.now s k agrees)))) o × KeepsImage d e image o;
+      answers = λ d e o. WithList d e dump.bad image (OnGrid d e dump image (AboveListed d dump image
+          (λ above. OfFile d dump image (λ s k agrees. WritesPlan out plan.pages d e
+          (RenamesFrom (avoided dump plan above) rename_it.id rename_it.name.now plan.stop s k agrees)
+          (HasRename (avoided dump plan above) rename_it.id rename_it.name.now s k agrees))))) o × KeepsImage d e image o;
       leaves = λ d e. PlanStays d e plan × KeepsPart d e dump image;
     }
 said_of (request.Update dump update_it) =
     let plan = update_it.plan in
     let image = plan.paths.image.now in
     let out = plan.paths.out.now in
-    let kept = avoided dump plan in record {
+    record {
       command = update;
       asks = λ words. AsksDump words dump × AsksUpdate words update_it;
-      answers = λ d e o. WithList d e dump.bad image (OnGrid d e dump image (OfFile d dump image
-          (λ s k agrees. OfConfig d dump.numbers update_it.config
+      answers = λ d e o. WithList d e dump.bad image (OnGrid d e dump image (AboveListed d dump image
+          (λ above. OfFile d dump image (λ s k agrees. OfConfig d dump.numbers update_it.config
           (λ xs. OfContents d dump.numbers update_it.contents.now (config_path update_it.config) xs
           (λ fs gs bytes. WritesPlan out plan.pages d e
-          (UpdatesFrom kept (all_asked_edits update_it xs fs gs) bytes plan.stop s k agrees)
-          (HasUpdate kept (all_asked_edits update_it xs fs gs) bytes s k agrees)))))) o × KeepsImage d e image o;
+          (UpdatesFrom (avoided dump plan above) (all_asked_edits update_it xs fs gs) bytes plan.stop s k agrees)
+          (HasUpdate (avoided dump plan above) (all_asked_edits update_it xs fs gs) bytes s k agrees))))))) o × KeepsImage d e image o;
       leaves = λ d e. PlanStays d e plan × All (λ word. Stays d e (value_in word.now)) update_it.contents.now
           × IfSome update_it.config (λ path. Stays d e path.now) × KeepsPart d e dump image;
     }

@@ -12,7 +12,8 @@ ghost use Rattle.ubi_commands.specs.UntypedLaws.{UntypedIsTyped};
 /// Of accepted images of one geometry, two mean the same exactly if their normalised images are equal byte for byte;
 /// normalising keeps the meaning and twice is once; an image has at most one meaning; it is refused exactly where a stated
 /// fault stands, with its cause and its eraseblock, if one is at fault, named; and an atomic change cut after any whole step
-/// means the old or the new, and touches no bad eraseblock.
+/// means the old or the new, and touches no bad eraseblock; it means one of them too if the power fails at any instant, where what is left
+/// of the step's eraseblock meets the premises of `ubi_change::laws::plan_survives_tears`.
 pub fn headline()
     ensures { Headline }
 {}

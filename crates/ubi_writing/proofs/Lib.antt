@@ -18,6 +18,7 @@ pub mod KeptReads
 pub mod MadeGroups
 pub mod NamedLines
 pub mod Normalised
+pub mod PlanImages
 pub mod Planned
 pub mod PlannedAll
 pub mod Prelude

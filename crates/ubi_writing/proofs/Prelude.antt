@@ -4,11 +4,11 @@ pub use Rattle.std.proofs.KnownBytes.{Appends-trans, Keeps-refl}
 pub use Rattle.std.proofs.Math.Nat.{mul-le-mul_left}
 pub use Rattle.std.proofs.lemmas.Bool.Decides.{nat_tests}
 pub use Rattle.std.proofs.lemmas.Grind.{flat_map-append}
-pub use Rattle.std.proofs.lemmas.List.{at_drop_more, length-append, length-map, map-append, take_all, take_more}
+pub use Rattle.std.proofs.lemmas.List.{at_drop_more, length-append, length-map, map-append, same_lists, take_all, take_more, with_items_is}
 pub use Rattle.std.proofs.lemmas.List.Elements.{All-cons, All-contains_itself, All-head, All-map, All-nil, All-tail, filter_map-append}
 pub use Rattle.std.proofs.lemmas.List.Folds.{list_all_more}
 pub use Rattle.std.proofs.lemmas.List.Sums.{fold-append, fold_more, sum_by-append}
-pub use Rattle.std.proofs.lemmas.Option.{get_or_from_slice_get, same_Some, slice_get-get_or, slice_get_cases, slice_get_read, slice_get_within}
+pub use Rattle.std.proofs.lemmas.Option.{IfSome_then, get_or_from_slice_get, same_Some, slice_get-get_or, slice_get_cases, slice_get_read, slice_get_within}
 pub use Rattle.std.proofs.lemmas.Result.{IfErr-at_err, IfErr-weaker, IfOk-at_ok, IfOk-weaker, err_from_is_err_and, on_ok_weaker}
 pub use Rattle.std.specs.Bool.{then_some}
 pub use Rattle.std.specs.Borrow.{Bor}
@@ -18,7 +18,7 @@ pub use Rattle.std.specs.Io.KnownBytes.{Appends}
 pub use Rattle.std.specs.List.{AllByRecursion, concat, cons_option, flat_map, list_all, position_or_len}
 pub use Rattle.std.specs.Option.{ForSome, option_map_or}
 unfoldable pub use Rattle.std.specs.Path.{path_with_file_name}
-pub use Rattle.std.specs.Prelude.{Contains, Err, IfErr, IfOk, IfSome, IsOk, IsSome, MatchOption, MatchResult, None, Ok, OnErr, OnOk, Option, Result, codes, fold, if◌then◌else◌, is_ok, is_some, min, nat_le, nat_lt, option_and_then, option_map, slice_get, sum_by, unwrap_or}
+pub use Rattle.std.specs.Prelude.{Contains, Err, IfErr, IfOk, IfSome, IsOk, IsSome, MatchOption, MatchResult, None, Ok, OnErr, OnOk, Option, Result, codes, fold, if◌then◌else◌, is_ok, is_some, min, nat_le, nat_lt, option_and_then, option_map, replicate, slice_get, sum_by, unwrap_or}
 pub use Rattle.std.specs.Result.{result_map_both}
 pub use Rattle.std.specs.declared.alloc.AllocError.{AllocError}
 pub use Rattle.std.specs.declared.alloc.Global.{Global}
@@ -34,13 +34,14 @@ pub use Rattle.ubi_change.specs.Edited.{edited_in}
 pub use Rattle.ubi_change.specs.EditsAsked.{all_asked, first_beyond}
 pub use Rattle.ubi_change.specs.Fitting.{AllWithin}
 pub use Rattle.ubi_change.specs.Laying.{StaysOpen, after_contents, all_layings}
+pub use Rattle.ubi_change.specs.Listed.{listed_top}
 pub use Rattle.ubi_change.specs.Pages.{line_of, programmed}
 pub use Rattle.ubi_change.specs.Planned.{IsChangeError, PlanFactsOfSource}
 pub use Rattle.ubi_change.specs.RenamePlan.{renamed_pages, table_pages}
 pub use Rattle.ubi_change.specs.RenamePlanned.{IsPlannedRename, IsRenameError}
 pub use Rattle.ubi_change.specs.Renamed.{renamed}
 pub use Rattle.ubi_change.specs.Steps.{after_text, blocks_after, step_done}
-pub use Rattle.ubi_change.specs.UpdatePlan.{IsLaidFrom, IsPlanOf, in_order, plan_groups}
+pub use Rattle.ubi_change.specs.UpdatePlan.{IsLaidFrom, IsPlanOf, base_of, in_order, plan_groups}
 pub use Rattle.ubi_change.specs.UpdatePlanned.{ArePlannedSteps, AreUpdateSteps, IsAskedAt, IsPlannedUpdate, IsUpdateCause, IsUpdateError, IsUpdateErrorIn, IsUpdateFor}
 pub use Rattle.ubi_change.specs.UpdateRefused.{asked_parts}
 pub use Rattle.ubi_change.specs.declared.edit.Edit.{Edit}
@@ -74,17 +75,19 @@ pub use Rattle.ubi_dumps.specs.Asked.{of_dump, untold}
 pub use Rattle.ubi_dumps.specs.Ended.{IsEnded, Works, answered, no_read, no_source, no_write, outcome, read_failed, unopened}
 pub use Rattle.ubi_dumps.specs.FileAnswers.{WritesFile}
 pub use Rattle.ubi_files.proofs.FileRows.{row_sized, sum_cons}
+pub use Rattle.ubi_files.proofs.MaskedBytes.{get_or-masked, length-masked, masked-take}
 pub use Rattle.ubi_files.proofs.Tells.{Tells-weaker}
 pub use Rattle.ubi_files.specs.AfterRun.{WhereNotDone, after_run}
 pub use Rattle.ubi_files.specs.Answer.{Gives, says}
-pub use Rattle.ubi_files.specs.BadBlocks.{masked}
-pub use Rattle.ubi_files.specs.Disk.{AllStay, Files, Holds, IsKept, IsLeft, IsTextOf, OthersStay, OutsideStay, Receives, Stays, fresh, full_of}
+pub use Rattle.ubi_files.specs.BadBlocks.{bad_marks, masked}
+pub use Rattle.ubi_files.specs.Disk.{AllStay, Files, Holds, IsJudgedOf, IsKept, IsLeft, IsTextOf, OthersStay, OutsideStay, Receives, Stays, fresh, full_of}
+pub use Rattle.ubi_files.specs.Dump.{before, blocks_before, marks_of, seen, viewed}
 pub use Rattle.ubi_files.specs.Late.{contents_of}
 pub use Rattle.ubi_files.specs.Lines.{file_line, refused_line}
 pub use Rattle.ubi_files.specs.Numbers.{sizes_of}
-pub use Rattle.ubi_files.specs.OverFile.{IsUnread, OfFile, bad_limit, cannot_read, file, image, no_file, places, unfit, unfit_whole, unreadable, whole}
+pub use Rattle.ubi_files.specs.OverFile.{IsRead, IsUnread, IsUnseen, OfFile, bad_limit, cannot_read, file, image, no_file, places, unfit, unfit_whole, unreadable, whole}
 pub use Rattle.ubi_files.specs.Row.{row_bytes}
-pub use Rattle.ubi_files.specs.Views.{pages_of}
+pub use Rattle.ubi_files.specs.Views.{pages_of, part_of}
 pub use Rattle.ubi_files.specs.declared.dump.Dump.{Dump}
 pub use Rattle.ubi_files.specs.declared.numbers.Numbers.{Numbers}
 pub use Rattle.ubi_files.specs.declared.outcome.Outcome.{Outcome}
@@ -98,7 +101,8 @@ pub use Rattle.ubi_media.specs.Record.{rec_fault}
 pub use Rattle.ubi_media.specs.declared.record.VolumeRecord.{VolumeRecord}
 pub use Rattle.ubi_scan.proofs.InMemory.{still}
 pub use Rattle.ubi_scan.proofs.NarrowedSource.{source_narrowed}
-pub use Rattle.ubi_scan.specs.Image.{Image, IsWholeImage, IsWholeSize, eraseblocks, image_of, of_blocks}
+pub use Rattle.ubi_scan.specs.Image.{Image, IsWholeImage, IsWholeSize, eraseblocks, image_of, of_blocks, seen_of}
+pub use Rattle.ubi_scan.specs.Marks.{is_listed}
 pub use Rattle.ubi_scan.specs.Promised.{keeps_promise}
 pub use Rattle.ubi_scan.specs.Source.{Agreed, Narrows, Source, WhereHeld, blocks_in, blocks_of, holds, known_by, memory}
 pub use Rattle.ubi_scan.specs.declared.errors.StreamError.{StreamError}
@@ -133,6 +137,7 @@ pub use Rattle.ubi_writing.specs.Normalise.{HasMeaning, IsNormaliseError, Normal
 pub use Rattle.ubi_writing.specs.Outputs.{OfText, OnGrid, WithList, WritesInto, WritesPlan, avoided, no_bytes, no_first_pages, no_last_image, no_list, no_pages, no_sizes, no_text, off_grid, on_grid, planned, text_limit, unwritten, with_list, written}
 pub use Rattle.ubi_writing.specs.Pages.{IsReadyFor, IsSoundPlan, made_steps, pages_made}
 pub use Rattle.ubi_writing.specs.Plan.{CutAccepts, IsCarryFault, IsWriteFault, cut_bytes, cut_text, plan_answer, plan_lines, step_line, steps_done}
+pub use Rattle.ubi_writing.specs.PlanImage.{AboveListed, IsListedTop, IsTopOf, bare}
 pub use Rattle.ubi_writing.specs.Rename.{CutIsNamed, HasRename, IsRenameFault, Renames, RenamesFrom, nameless_from}
 pub use Rattle.ubi_writing.specs.Unpack.{AreUnpacked, AreUnpackedUntil, IsNewFile, IsUnpacked, Listed, Unpacks, UnpacksOf, all_described, described, file_byte, file_path, folder_config, listed, no_config, no_folder, unpacked, unpacked_line, unpacked_lines, unpacked_status}
 unfoldable pub use Rattle.ubi_writing.specs.Unpack.{file_name}

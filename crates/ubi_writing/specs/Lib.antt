@@ -9,6 +9,7 @@ pub mod Key
 pub mod Lines
 pub mod Normalise
 pub mod Outputs
+pub mod PlanImage
 pub mod Pages
 pub mod Plan
 pub mod Rename

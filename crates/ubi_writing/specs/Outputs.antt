@@ -84,9 +84,10 @@ pub data OnGrid (d e : Files) (dump : Dump) (path : List ℕ) (answers : Outcome
       → Gives o (says (start_line dump) 1) → AllStay d e → OnGrid d e dump path answers o
   on_grid : {o : Outcome} → IsTrue (begins_with_block dump) → answers o → OnGrid d e dump path answers o
 
--- what a plan avoids in a dump: its bad eraseblocks, those before its part, and Blank ones if they are kept
-abbrev pub avoided : Dump → Plan → Avoided
-avoided dump plan = record { marks = marks_of dump; blank = plan.keeps_blank }
+-- what a plan avoids in a dump: its bad eraseblocks, those before its part, and Blank ones if they are kept; and the sequence numbers up to
+-- one
+abbrev pub avoided : Dump → Plan → ℕ → Avoided
+avoided dump plan above = record { marks = marks_of dump; blank = plan.keeps_blank; above = above }
 
 -- each file holds what it held, except those that a plan writes; and the image does, unless it is itself the file that the
 -- changed image is written to

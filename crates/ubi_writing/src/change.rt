@@ -112,7 +112,7 @@ pub fn run_change(
     };
     let mut file = Vec::new(alloc);
     let mut source = MemorySource::new(image);
-    let nothing = Avoided::new(&[], false);
+    let nothing = Avoided::nothing();
     let mut pages = Vec::new(alloc);
     let work = run_change_from(
         alloc,

@@ -19,6 +19,7 @@ mod orders;
 mod pages;
 mod pages_file;
 mod plan;
+mod plan_image;
 mod planners;
 mod rename;
 mod spec_file;

@@ -14,6 +14,7 @@ ghost use Rattle.ubi_writing.specs.Rename.{HasRename, RenamesFrom};
 ghost use Rattle.ubi_dumps.specs.Ended.{Works};
 ghost use Rattle.ubi_writing.specs.inner.Replaced.{FinishesAtOnce};
 ghost use Rattle.ubi_change.specs.Laying.{StaysOpen};
+ghost use Rattle.ubi_writing.specs.PlanImage.{AboveListed, bare};
 ghost use Rattle.ubi_writing.specs.Pages.{IsSoundPages, pages_made};
 ghost use Rattle.ubi_writing.specs.declared.pages.Made.{Made};
 ghost use Rattle.ubi_files.specs.Lines.{file_line};
@@ -31,6 +32,7 @@ use crate::contents::Contents;
 use crate::orders::{Change, Plan, Rename, Update};
 use crate::pages::Pages;
 use crate::pages_file::write_pages_file;
+use crate::plan_image::{PlanFrame, bare, open_plan_image};
 use crate::writers::{Way, Writing, replaced, write_opened};
 use std::alloc::{AllocError, Global};
 use std::marker::Brand;
@@ -38,8 +40,7 @@ use ubi_change::Avoided;
 use ubi_dumps::{Opening, Output, Paths, opening_of, unwritten_line};
 use ubi_files::{
     DONE, Disk, Dump, DumpSource, FAILED, FileRow, Frame, HeldFile, OpenImage, Outcome, Seen,
-    Target, ToolError, Unread, frame_of, load, nothing, open_beside, put_number, put_word,
-    unread_line,
+    Target, ToolError, Unread, frame_of, load, nothing, put_number, put_word, unread_line,
 };
 use ubi_media::Geometry;
 use ubi_scan::{BlockSource, FileSource, MemorySource, PlacedFile};
@@ -469,8 +470,9 @@ fn plan_frame<'a, D: Disk + Eprint>(
     alloc: Global,
     dump: &Dump<'a>,
     image: &str,
-) -> Result<Frame<'a>, Unread>
-    ensures dump { IfOk result (λ frame. frame.dump ≡ dump.now) }
+) -> Result<PlanFrame<'a>, Unread>
+    ensures dump { IfOk result (λ frame. frame.frame.dump ≡ dump.now) }
+    ensures bare { IfOk result (λ frame. frame.bare.dump ≡ bare dump.now) }
     ensures grid { IfOk result (λ _. IsTrue (begins_with_block dump.now)) }
     ensures unplanned { IfErr result (Tells (NamesNoBlocks (D.files disk.now) dump.now image.now)) }
 {
@@ -480,7 +482,10 @@ fn plan_frame<'a, D: Disk + Eprint>(
     let frame = frame_of(alloc, dump)?;
     match off_grid(alloc, &frame)? {
         Some(outcome) => Err(Unread::Told(outcome)),
-        None => Ok(frame),
+        None => {
+            let bare = frame_of(alloc, &bare(dump))?;
+            Ok(PlanFrame { frame, bare })
+        }
     }
 }
 
@@ -491,7 +496,7 @@ pub fn change_file<D: Disk + Eprint>(
     dump: &Dump<'_>,
     asked: &Change<'_>,
 ) -> Result<Outcome, AllocError>
-    ensures answer { IfOk result (WithList (D.files disk.old) (D.files disk.new) dump.now.bad asked.now.plan.paths.image.now (OnGrid (D.files disk.old) (D.files disk.new) dump.now asked.now.plan.paths.image.now (OfFile (D.files disk.old) dump.now asked.now.plan.paths.image.now (λ s k agrees. OfImage (D.files disk.old) dump.now.numbers asked.now.from.now (λ f. WritesPlan asked.now.plan.paths.out.now asked.now.plan.pages (D.files disk.old) (D.files disk.new) (ChangesFrom (avoided dump.now asked.now.plan) asked.now.id asked.now.lnum f.bytes asked.now.plan.stop s k agrees) (HasPlan (avoided dump.now asked.now.plan) asked.now.id asked.now.lnum f.bytes s k agrees)))))) }
+    ensures answer { IfOk result (WithList (D.files disk.old) (D.files disk.new) dump.now.bad asked.now.plan.paths.image.now (OnGrid (D.files disk.old) (D.files disk.new) dump.now asked.now.plan.paths.image.now (AboveListed (D.files disk.old) dump.now asked.now.plan.paths.image.now (λ above. OfFile (D.files disk.old) dump.now asked.now.plan.paths.image.now (λ s k agrees. OfImage (D.files disk.old) dump.now.numbers asked.now.from.now (λ f. WritesPlan asked.now.plan.paths.out.now asked.now.plan.pages (D.files disk.old) (D.files disk.new) (ChangesFrom (avoided dump.now asked.now.plan above) asked.now.id asked.now.lnum f.bytes asked.now.plan.stop s k agrees) (HasPlan (avoided dump.now asked.now.plan above) asked.now.id asked.now.lnum f.bytes s k agrees))))))) }
     ensures stays { PlanStays (D.files disk.old) (D.files disk.new) asked.now.plan }
     ensures image { IfOk result (KeepsImage (D.files disk.old) (D.files disk.new) asked.now.plan.paths.image.now) }
     ensures part { KeepsPart (D.files disk.old) (D.files disk.new) dump.now asked.now.plan.paths.image.now }
@@ -503,7 +508,7 @@ pub fn change_file<D: Disk + Eprint>(
         Ok(frame) => frame,
         Err(unplanned) => return unplanned.answer(),
     };
-    let opened = match open_beside(disk, alloc, &frame, image, out) {
+    let opened = match open_plan_image(disk, alloc, &frame, image, out) {
         Ok(opened) => opened,
         Err(unread) => return unread.answer(),
     };
@@ -511,7 +516,11 @@ pub fn change_file<D: Disk + Eprint>(
         Ok(file) => file,
         Err(unread) => return unread.answer(),
     };
-    let avoided = Avoided::new(frame.marks.as_slice(), asked.plan.keeps_blank);
+    let avoided = Avoided::new(
+        frame.frame.marks.as_slice(),
+        asked.plan.keeps_blank,
+        opened.above,
+    );
     let new = NewBytes {
         id: asked.id,
         lnum: asked.lnum,
@@ -524,7 +533,7 @@ pub fn change_file<D: Disk + Eprint>(
         disk,
         alloc,
         dump,
-        opened,
+        opened.image,
         &asked.plan,
         &reads,
         &command,
@@ -539,7 +548,7 @@ pub fn rename_file<D: Disk + Eprint>(
     dump: &Dump<'_>,
     asked: &Rename<'_>,
 ) -> Result<Outcome, AllocError>
-    ensures answer { IfOk result (WithList (D.files disk.old) (D.files disk.new) dump.now.bad asked.now.plan.paths.image.now (OnGrid (D.files disk.old) (D.files disk.new) dump.now asked.now.plan.paths.image.now (OfFile (D.files disk.old) dump.now asked.now.plan.paths.image.now (λ s k agrees. WritesPlan asked.now.plan.paths.out.now asked.now.plan.pages (D.files disk.old) (D.files disk.new) (RenamesFrom (avoided dump.now asked.now.plan) asked.now.id asked.now.name.now asked.now.plan.stop s k agrees) (HasRename (avoided dump.now asked.now.plan) asked.now.id asked.now.name.now s k agrees))))) }
+    ensures answer { IfOk result (WithList (D.files disk.old) (D.files disk.new) dump.now.bad asked.now.plan.paths.image.now (OnGrid (D.files disk.old) (D.files disk.new) dump.now asked.now.plan.paths.image.now (AboveListed (D.files disk.old) dump.now asked.now.plan.paths.image.now (λ above. OfFile (D.files disk.old) dump.now asked.now.plan.paths.image.now (λ s k agrees. WritesPlan asked.now.plan.paths.out.now asked.now.plan.pages (D.files disk.old) (D.files disk.new) (RenamesFrom (avoided dump.now asked.now.plan above) asked.now.id asked.now.name.now asked.now.plan.stop s k agrees) (HasRename (avoided dump.now asked.now.plan above) asked.now.id asked.now.name.now s k agrees)))))) }
     ensures stays { PlanStays (D.files disk.old) (D.files disk.new) asked.now.plan }
     ensures image { IfOk result (KeepsImage (D.files disk.old) (D.files disk.new) asked.now.plan.paths.image.now) }
     ensures part { KeepsPart (D.files disk.old) (D.files disk.new) dump.now asked.now.plan.paths.image.now }
@@ -550,11 +559,15 @@ pub fn rename_file<D: Disk + Eprint>(
         Ok(frame) => frame,
         Err(unplanned) => return unplanned.answer(),
     };
-    let opened = match open_beside(disk, alloc, &frame, image, out) {
+    let opened = match open_plan_image(disk, alloc, &frame, image, out) {
         Ok(opened) => opened,
         Err(unread) => return unread.answer(),
     };
-    let avoided = Avoided::new(frame.marks.as_slice(), asked.plan.keeps_blank);
+    let avoided = Avoided::new(
+        frame.frame.marks.as_slice(),
+        asked.plan.keeps_blank,
+        opened.above,
+    );
     let word = asked.name.as_bytes();
     let command = Writing::Rename(asked.id, word, &avoided, asked.plan.stop);
     let mut pages = Pages::of(alloc, MemorySource::new(&[]));
@@ -562,7 +575,7 @@ pub fn rename_file<D: Disk + Eprint>(
         disk,
         alloc,
         dump,
-        opened,
+        opened.image,
         &asked.plan,
         &[],
         &command,
@@ -610,7 +623,7 @@ pub fn update_file<D: Disk + Eprint>(
     dump: &Dump<'_>,
     asked: &Update<'_>,
 ) -> Result<Outcome, AllocError>
-    ensures answer { IfOk result (WithList (D.files disk.old) (D.files disk.new) dump.now.bad asked.now.plan.paths.image.now (OnGrid (D.files disk.old) (D.files disk.new) dump.now asked.now.plan.paths.image.now (OfFile (D.files disk.old) dump.now asked.now.plan.paths.image.now (λ s k agrees. OfConfig (D.files disk.old) dump.now.numbers asked.now.config (λ xs. OfContents (D.files disk.old) dump.now.numbers asked.now.contents.now (config_path asked.now.config) xs (λ fs gs bytes. WritesPlan asked.now.plan.paths.out.now asked.now.plan.pages (D.files disk.old) (D.files disk.new) (UpdatesFrom (avoided dump.now asked.now.plan) (all_asked_edits asked.now xs fs gs) bytes asked.now.plan.stop s k agrees) (HasUpdate (avoided dump.now asked.now.plan) (all_asked_edits asked.now xs fs gs) bytes s k agrees))))))) }
+    ensures answer { IfOk result (WithList (D.files disk.old) (D.files disk.new) dump.now.bad asked.now.plan.paths.image.now (OnGrid (D.files disk.old) (D.files disk.new) dump.now asked.now.plan.paths.image.now (AboveListed (D.files disk.old) dump.now asked.now.plan.paths.image.now (λ above. OfFile (D.files disk.old) dump.now asked.now.plan.paths.image.now (λ s k agrees. OfConfig (D.files disk.old) dump.now.numbers asked.now.config (λ xs. OfContents (D.files disk.old) dump.now.numbers asked.now.contents.now (config_path asked.now.config) xs (λ fs gs bytes. WritesPlan asked.now.plan.paths.out.now asked.now.plan.pages (D.files disk.old) (D.files disk.new) (UpdatesFrom (avoided dump.now asked.now.plan above) (all_asked_edits asked.now xs fs gs) bytes asked.now.plan.stop s k agrees) (HasUpdate (avoided dump.now asked.now.plan above) (all_asked_edits asked.now xs fs gs) bytes s k agrees)))))))) }
     ensures stays { PlanStays (D.files disk.old) (D.files disk.new) asked.now.plan }
     ensures image { IfOk result (KeepsImage (D.files disk.old) (D.files disk.new) asked.now.plan.paths.image.now) }
     ensures part { KeepsPart (D.files disk.old) (D.files disk.new) dump.now asked.now.plan.paths.image.now }
@@ -623,7 +636,7 @@ pub fn update_file<D: Disk + Eprint>(
         Ok(frame) => frame,
         Err(unplanned) => return unplanned.answer(),
     };
-    let opened = match open_beside(disk, alloc, &frame, image, out) {
+    let opened = match open_plan_image(disk, alloc, &frame, image, out) {
         Ok(opened) => opened,
         Err(unread) => return unread.answer(),
     };
@@ -643,14 +656,18 @@ pub fn update_file<D: Disk + Eprint>(
         volumes: volumes.as_slice(),
         paths: reads.as_slice(),
     };
-    let avoided = Avoided::new(frame.marks.as_slice(), asked.plan.keeps_blank);
+    let avoided = Avoided::new(
+        frame.frame.marks.as_slice(),
+        asked.plan.keeps_blank,
+        opened.above,
+    );
     let command = Writing::Update(&edits, &avoided, asked.plan.stop);
     let mut pages = Pages::of(alloc, FileSource::of(FileRow::new(files), total));
     let work = write_plan(
         disk,
         alloc,
         dump,
-        opened,
+        opened.image,
         &asked.plan,
         reads.as_slice(),
         &command,

@@ -103,7 +103,7 @@ pub fn run_rename(
 {
     let mut file = Vec::new(alloc);
     let mut source = MemorySource::new(image);
-    let nothing = Avoided::new(&[], false);
+    let nothing = Avoided::nothing();
     let mut pages = Vec::new(alloc);
     let work = run_rename_from(
         alloc,

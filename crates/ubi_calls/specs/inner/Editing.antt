@@ -20,7 +20,7 @@ edit_plan (edit.Update text contents) image av = PlansUpdate image av text.now c
 
 -- the same for bytes on a chip, some of whose eraseblocks are spared
 abbrev pub spared_plan : Edit → Spared → Sizes → List ℕ → List ℕ → MayTell
-spared_plan e chip s bytes = edit_plan e (image_without s chip.bad.now bytes) (spared s chip.bad.now chip.keeps_blank)
+spared_plan e chip s bytes = edit_plan e (image_without s chip.bad.now bytes) (spared s chip.bad.now chip.keeps_blank bytes)
 
 -- the pages of a plan, of which there are none if the status isn't 0
 abbrev pub given_pages : ℕ → List ℕ → List ℕ

@@ -20,7 +20,7 @@ use Rattle.ubi_volume.specs.Attached.{AttachValue}
 use Rattle.ubi_volume.specs.Survey.{Seen}
 use Rattle.ubi_change.specs.Plan.{blank_header, copy_header, needs}
 use Rattle.ubi_change.specs.Refused.{first_of, is_bad_length}
-use Rattle.ubi_change.specs.Avoided.{Avoided, states_avoiding}
+use Rattle.ubi_change.specs.Avoided.{Avoided, raised, states_avoiding}
 use Rattle.ubi_change.specs.Takeable.{takeable}
 use Rattle.ubi_change.specs.Weak.{weak_pages}
 use Rattle.ubi_change.specs.Sites.{FitsIn, HasCounter, copy_on, mount_on}
@@ -139,20 +139,20 @@ module _ (s : Sizes) (scan : Found) (t : Target) (new : List ℕ) where
   steps_on (on.Unmapped first copy) = unmapped_steps first copy
 
 -- the steps by what was read for them
-pub record AreStepsOf (s : Sizes) (p : Prepared) (id lnum : ℕ) (new : List ℕ) (steps : List Step) : Type 0 where
+pub record AreStepsOf (s : Sizes) (av : Avoided) (p : Prepared) (id lnum : ℕ) (new : List ℕ) (steps : List Step) : Type 0 where
   pub target : Target
   pub asked : IsTarget s p.ground.surveyed.records id lnum new target
   pub sites : OnSites
-  pub are : AreSites p.ground.surveyed.scan p.winner p.ground.taken.items sites
-  pub is : steps ≡ steps_on s p.ground.surveyed.scan target new sites
+  pub are : AreSites (raised av.above p.ground.surveyed.scan) p.winner p.ground.taken.items sites
+  pub is : steps ≡ steps_on s (raised av.above p.ground.surveyed.scan) target new sites
 
 -- why there are no steps: memory ran out, or the first cause that applies
-abbrev pub IsUnplanned : Sizes → Prepared → ℕ → ℕ → List ℕ → ChangeRefusal → Type 0
-IsUnplanned s p id lnum new c =
+abbrev pub IsUnplanned : Sizes → Avoided → Prepared → ℕ → ℕ → List ℕ → ChangeRefusal → Type 0
+IsUnplanned s av p id lnum new c =
     (c ≡ refusal.Memory)
     ⊎ IsTargetRefusal s p.ground.surveyed.records id lnum new c
     ⊎ ((target : Target) × IsTarget s p.ground.surveyed.records id lnum new target
-    × IsSitesRefusal p.ground.surveyed.scan p.winner p.ground.taken.items c)
+    × IsSitesRefusal (raised av.above p.ground.surveyed.scan) p.winner p.ground.taken.items c)
 
 -- an error of a call that writes nothing
 abbrev pub IsNoWrite : StreamError → Type 0

@@ -4,7 +4,7 @@ use Rattle.ubi_media.specs.Geometry.{Sizes}
 use Rattle.ubi_scan.specs.Source.{Agreed, Source, WhereHeld, blocks_in, blocks_of}
 use Rattle.ubi_table.specs.Records.{AreRecords, Records}
 use Rattle.ubi_volume.specs.Survey.{Seen}
-use Rattle.ubi_change.specs.Avoided.{Avoided, states_avoiding}
+use Rattle.ubi_change.specs.Avoided.{Avoided, raised, states_avoiding}
 use Rattle.ubi_change.specs.RenamePlan.{table_pages}
 use Rattle.ubi_change.specs.Takeable.{takeable}
 use Rattle.ubi_change.specs.Weak.{weak_pages}
@@ -43,14 +43,14 @@ module _ (s : Sizes) (k : Source) (agrees : Agreed) (av : Avoided) (seen : Seen)
   pub record AreSitesTaken (ts : List Site) : Type 0 where
     pub taken : AreTaken s k agrees (states_avoiding av seen.states) needs ts
     pub enough : needs ≤ length ts
-    pub few : seen.scan.top_sqnum + needs ≤ 0xFFFFFFFFFFFFFFFF
+    pub few : (raised av.above seen.scan).top_sqnum + needs ≤ 0xFFFFFFFFFFFFFFFF
 
   -- why they aren't
   abbrev pub IsSitesError : UpdateError → Type 0
   IsSitesError (error.Read p) = p < blocks_in s k
-  IsSitesError (error.Refused refusal.Exhausted) = 0xFFFFFFFFFFFFFFFF < seen.scan.top_sqnum + needs
+  IsSitesError (error.Refused refusal.Exhausted) = 0xFFFFFFFFFFFFFFFF < (raised av.above seen.scan).top_sqnum + needs
   IsSitesError (error.Refused (refusal.NoFree n has)) =
-      (seen.scan.top_sqnum + needs ≤ 0xFFFFFFFFFFFFFFFF) × (n ≡ needs) × (has < needs)
+      ((raised av.above seen.scan).top_sqnum + needs ≤ 0xFFFFFFFFFFFFFFFF) × (n ≡ needs) × (has < needs)
       × WhereHeld agrees (λ bytes. has ≡ length (takeable s (blocks_of s bytes) (states_avoiding av seen.states)))
   IsSitesError (error.Refused refusal.Memory) = Unit {0}
   IsSitesError _ = ⊥

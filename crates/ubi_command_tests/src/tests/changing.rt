@@ -171,7 +171,7 @@ fn is_edited(alloc: Global, first: &[u8], then: &[u8], left: u64) -> Result<bool
         lnum: 0,
         bytes: &[0x61; 64],
     };
-    let nothing = Avoided::new(&[], false);
+    let nothing = Avoided::nothing();
     let mut pages = Vec::new(alloc);
     let mut source = ChangingSource::new(first, then, left);
     let mut writer = ProbeWriter::new(alloc, 8192, 1000, Failure::Nothing)?;

@@ -119,7 +119,7 @@ fn is_updated(rt: &impl Abort, alloc: Global, geometry: &Geometry, image: &[u8])
         alloc,
         geometry,
         &mut MemorySource::new(image),
-        &Avoided::new(&[], false),
+        &Avoided::nothing(),
         &Edits {
             asks: &[Ask::Contents("root=none.img", 0, 0)],
             volumes: &[],

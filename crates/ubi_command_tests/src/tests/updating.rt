@@ -61,7 +61,7 @@ fn answer_with<S: BlockSource, T: BlockSource + Drop>(
         alloc,
         geometry,
         source,
-        &Avoided::new(&LISTED, false),
+        &Avoided::new(&LISTED, false, 0),
         &asked,
         stop,
         writer,

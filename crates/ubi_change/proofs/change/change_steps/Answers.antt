@@ -1,4 +1,4 @@
-use Rattle.ubi_change.proofs.Prelude.{length, subst, sym, AllWithin, Step, List, IsTarget}
+use Rattle.ubi_change.proofs.Prelude.{raised, length, subst, sym, AllWithin, Step, List, IsTarget}
 use Rattle.ubi_change.proofs.ChangeSteps.{bytes_fit, bytes_paged, bytes_short, compat_small, sites_fit}
 use Rattle.ubi_change.proofs.StepPages.{change_within}
 use Rattle.ubi_change.proofs.change.change_steps.Goals as goal
@@ -15,10 +15,10 @@ returns-clause-within c =
     let n = length p.ground.surveyed.states in
     let new = c.args.new.now in
     let asked : IsTarget s c.table.result.now c.args.id c.args.lnum new c.in_ok-target.target = c.in_ok-target.ensures.target in
-    let sites = rw (c.scan-scan.ensures, c.as_slice.ensures.value) at c.in_ok-sites.ensures.sites in
-    subst (λ (steps : List Step). AllWithin s n steps) (sym (rw c.scan-scan.ensures at c.in_ok-steps_on.ensures))
-    (change_within s n c.page.ensures.limits p.ground.surveyed.scan c.in_ok-target.target new c.in_ok-sites.sites
-    (sites_fit s p c.requires c.page.ensures.limits c.in_ok-sites.sites sites)
+    let sites = rw (c.basis-basis.ensures, c.scan.ensures, c.as_slice.ensures.value) at c.in_ok-sites.ensures.sites in
+    subst (λ (steps : List Step). AllWithin s n steps) (sym (rw (c.basis-basis.ensures, c.scan.ensures) at c.in_ok-steps_on.ensures))
+    (change_within s n c.page.ensures.limits (raised c.args.avoided.now.above p.ground.surveyed.scan) c.in_ok-target.target new c.in_ok-sites.sites
+    (sites_fit s p c.requires (raised c.args.avoided.now.above p.ground.surveyed.scan) c.page.ensures.limits c.in_ok-sites.sites sites)
     (compat_small s _ c.args.id c.args.lnum new c.in_ok-target.target asked)
     (bytes_paged s _ c.args.id c.args.lnum new c.in_ok-target.target asked)
     (bytes_fit s _ c.args.id c.args.lnum new c.in_ok-target.target asked))

@@ -9,7 +9,7 @@ planned c =
     let image = c.args.image.now in
     let left = c.plan_change_from.new.source in
     let is : PlanFactsOfSource c.args.geometry.now (memory image) (holds left) nothing c.args.id c.args.lnum c.args.new.now c.in-Ok.steps.items =
-    rw (c.new.ensures, c.new-2.ensures) at c.in-Ok.ensures.plan in
+    rw (c.new.ensures, c.nothing.ensures) at c.in-Ok.ensures.plan in
     is.held image (still image left (rw c.new.ensures at c.in-Ok.ensures.narrows))
 
 pub returns-in-Ok-clause-survives : goal.returns-in-Ok-clause-survives
@@ -36,4 +36,4 @@ pub returns-in-Err-Refused-clause-refused : goal.returns-in-Err-Refused-clause-r
 returns-in-Err-Refused-clause-refused c =
     error_in_memory c.args.geometry.now c.args.image.now c.new.result c.plan_change_from.new.source c.new.ensures
     c.in-Err-Refused.ensures.narrows c.args.id c.args.lnum c.args.new.now _ c.in-Err-Refused.cause c.in-Err-Refused.field-0-is
-    (rw c.new-2.ensures at c.in-Err-Refused.ensures.refused)
+    (rw c.nothing.ensures at c.in-Err-Refused.ensures.refused)

@@ -1,4 +1,4 @@
-use Rattle.ubi_change.proofs.Prelude.{List, Part, ◌≡◌, err_from_is_err_and, ◌+◌, ◌<◌, ◌^◌, refl, length, None, AllByRecursion, sym, ap, subst, ◌∙◌, arith, Source, states_avoiding, blocks_in, blocks_of, BothFit, FitsIn, FitsUpdate, IsPlanOf, IsUpdateFor, image_of, first_taken, first_beyond, all_layings, IsPartReadable, UpdatePlan, IsContentsError, IsSitesError, UpdateError, IsLaidFrom}
+use Rattle.ubi_change.proofs.Prelude.{raised, ◌≤◌, List, Part, ◌≡◌, err_from_is_err_and, ◌+◌, ◌<◌, ◌^◌, refl, length, None, AllByRecursion, sym, ap, subst, ◌∙◌, arith, Source, states_avoiding, blocks_in, blocks_of, BothFit, FitsIn, FitsUpdate, IsPlanOf, IsUpdateFor, image_of, first_taken, first_beyond, all_layings, IsPartReadable, UpdatePlan, IsContentsError, IsSitesError, UpdateError, IsLaidFrom}
 use Rattle.ubi_change.proofs.PlanBeside.{beside_is, never_in}
 use Rattle.ubi_change.proofs.Touchable.{none_beyond}
 use Rattle.ubi_change.proofs.UpdateKept.{contents_known, contents_unread_is, sites_are, sites_known, unbased_is, unbased_known, update_beside, update_is}
@@ -38,7 +38,8 @@ returns-clause-fits g c =
       short = is.pages.short;
       fit = is.pages.fit;
       bytes = is.pages.bytes;
-      few = let f = taken.few in omega (arith, f, count);
+      few = subst (λ n. (raised n c.in_ok-surveyed.field-0.surveyed.scan).top_sqnum + (length c.in_ok-layings.layings.items + 2) ≤ 0xFFFFFFFFFFFFFFFF)
+          (sym c.above.ensures) (let f = taken.few in omega (arith, f, count));
     })
 
 pub returns-clause-laid : goal.returns-clause-laid
@@ -68,6 +69,7 @@ returns-clause-plan g c bytes held contents agreed =
     let p : UpdatePlan =
     (record {
       surveyed = read.surveyed;
+      above = c.above.result;
       parts = read.ready.parts;
       layings = c.in_ok-layings.layings;
       sites = c.in_ok-sites.sites;
@@ -78,7 +80,7 @@ returns-clause-plan g c bytes held contents agreed =
     subst (IsUpdateFor (image_of s bytes) c.args.avoided.now contents es) (sym c.of-plan.ensures)
     (update_is s c.peb_size.ensures.limits (g.S.BlockSource.known c.args.source.now) agrees c.args.avoided.now es c.in_ok-surveyed.field-0
     c.in_ok-surveyed.ensures.based bytes (c.in_ok-sites.ensures.narrows bytes held) contents size
-    (sized ∙ ap (λ (k : Source). k.size) laid.known) inside p refl refl refl refl
+    (sized ∙ ap (λ (k : Source). k.size) laid.known) inside p refl c.above.ensures refl refl refl
     (laid.layings contents agreed ∙ ap (all_layings s contents) c.as_slice.ensures.value)
     (taken.taken.held bytes held
     ∙ ap (λ n. first_taken s (blocks_of s bytes) (states_avoiding c.args.avoided.now c.in_ok-surveyed.field-0.surveyed.states) (n + 2)) count)

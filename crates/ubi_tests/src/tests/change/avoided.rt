@@ -20,7 +20,7 @@ fn changed(
     blank: bool,
 ) -> Result<Result<Vec<Step>, PlanError<ChangeRefusal>>, Fail> {
     let geometry = small()?;
-    let avoided = Avoided::new(marks, blank);
+    let avoided = Avoided::new(marks, blank, 0);
     let mut source = MemorySource::new(image);
     let new = [0x61; 64];
     Ok(plan_change_from(alloc, &geometry, &mut source, &avoided, 0, lnum, &new))
@@ -34,7 +34,7 @@ fn unrenamed(
     blank: bool,
 ) -> Result<Option<PlanError<RenameRefusal>>, Fail> {
     let geometry = small()?;
-    let avoided = Avoided::new(marks, blank);
+    let avoided = Avoided::new(marks, blank, 0);
     let mut source = MemorySource::new(image);
     let plan = plan_rename_from(alloc, &geometry, &mut source, &avoided, 0, b"data");
     Ok(plan.err())

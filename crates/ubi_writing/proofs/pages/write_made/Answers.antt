@@ -1,4 +1,4 @@
-use Rattle.ubi_writing.proofs.Prelude.{◌<◌, List, Step, Ok, ◌∙◌, subst, arith, length, Appends, programmed, plan_groups, groups_count}
+use Rattle.ubi_writing.proofs.Prelude.{base_of, ◌<◌, List, Step, Ok, ◌∙◌, subst, arith, length, Appends, programmed, plan_groups, groups_count}
 use Rattle.ubi_writing.proofs.MadeGroups.{fewer_left, pages_more, stays_after}
 use Rattle.ubi_writing.proofs.pages.write_made.Goals as goal
 
@@ -19,14 +19,14 @@ loop-k-preserved g c =
       narrows = λ bytes held. c.loop-k.invariant.narrows bytes (made.narrows bytes held);
       left = λ bytes held.
           (let gs = plan_groups s p bytes in
-          let count = groups_count s p.surveyed.scan bytes p.pages.items p.holders 0 p.layings.items p.sites.items c.requires.fits.enough in
+          let count = groups_count s (base_of p) bytes p.pages.items p.holders 0 p.layings.items p.sites.items c.requires.fits.enough in
           let inside : k < length gs = (let end = c.group_count-k-end.ensures in omega (arith, count, end, c.loop-k-test.true)) in
           c.saturating_sub-left.ensures
           ∙ fewer_left gs k group inside (made.steps bytes held) m.stop left c.len-count.result
           (c.loop-k.invariant.left bytes (made.narrows bytes held)) (c.len-count.ensures ∙ c.in-Ok.steps.ok.0));
       written = λ bytes held.
           (let gs = plan_groups s p bytes in
-          let count = groups_count s p.surveyed.scan bytes p.pages.items p.holders 0 p.layings.items p.sites.items c.requires.fits.enough in
+          let count = groups_count s (base_of p) bytes p.pages.items p.holders 0 p.layings.items p.sites.items c.requires.fits.enough in
           let inside : k < length gs = (let end = c.group_count-k-end.ensures in omega (arith, count, end, c.loop-k-test.true)) in
           pages_more gs k group inside (made.steps bytes held) m.stop left (c.loop-k.invariant.left bytes (made.narrows bytes held)) before middle after
           (c.loop-k.invariant.written bytes (made.narrows bytes held))

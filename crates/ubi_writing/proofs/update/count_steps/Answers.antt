@@ -1,4 +1,4 @@
-use Rattle.ubi_writing.proofs.Prelude.{◌≡◌, ◌<◌, ◌∙◌, List, Step, ap, arith, length, line_of, subst, take, take_all, AreStepCounts, plan_groups, groups_count, length-map}
+use Rattle.ubi_writing.proofs.Prelude.{base_of, ◌≡◌, ◌<◌, ◌∙◌, List, Step, ap, arith, length, line_of, subst, take, take_all, AreStepCounts, plan_groups, groups_count, length-map}
 use Rattle.ubi_writing.proofs.MadeGroups.{counts_more, one_more, total_more}
 use Rattle.ubi_writing.proofs.update.count_steps.Goals as goal
 
@@ -11,7 +11,7 @@ loop-k-preserved c =
     record {
       counted = λ bytes laid.
           (let gs = plan_groups s p bytes in
-          let count = groups_count s p.surveyed.scan bytes p.pages.items p.holders 0 p.layings.items p.sites.items c.requires.1.enough in
+          let count = groups_count s (base_of p) bytes p.pages.items p.holders 0 p.layings.items p.sites.items c.requires.1.enough in
           let inside : k < length gs = (let end = c.group_count-k-end.ensures in omega (arith, count, end, c.loop-k-test.true)) in
           let outline = c.in_ok-group.ensures bytes laid in
           let group : List Step = outline.0 in
@@ -29,7 +29,7 @@ returns-clause-counted c bytes laid =
     let s = c.args.geometry.now in
     let p = c.args.plan.now in
     let gs = plan_groups s p bytes in
-    let count = groups_count s p.surveyed.scan bytes p.pages.items p.holders 0 p.layings.items p.sites.items c.requires.1.enough in
+    let count = groups_count s (base_of p) bytes p.pages.items p.holders 0 p.layings.items p.sites.items c.requires.1.enough in
     subst (λ (xs : List (List Step)). AreStepCounts xs c.loop-k.counted)
     (take_all c.loop-k.k gs (let end = c.group_count-k-end.ensures in omega (arith, count, end, c.loop-k-test.false)))
     (c.loop-k.invariant.counted bytes laid)

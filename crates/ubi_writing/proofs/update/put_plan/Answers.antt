@@ -1,4 +1,4 @@
-use Rattle.ubi_writing.proofs.Prelude.{◌<◌, ◌∙◌, ◌++◌, List, Step, ap, append-nil, arith, flat_map, in_order, length, step_line, sym, take_all, plan_groups, groups_count}
+use Rattle.ubi_writing.proofs.Prelude.{base_of, ◌<◌, ◌∙◌, ◌++◌, List, Step, ap, append-nil, arith, flat_map, in_order, length, step_line, sym, take_all, plan_groups, groups_count}
 use Rattle.ubi_writing.proofs.MadeGroups.{lines_more}
 use Rattle.ubi_writing.proofs.update.put_plan.Goals as goal
 
@@ -11,7 +11,7 @@ loop-k-preserved c bytes laid =
     let p = c.args.plan.now in
     let k = c.loop-k.k in
     let gs = plan_groups s p bytes in
-    let count = groups_count s p.surveyed.scan bytes p.pages.items p.holders 0 p.layings.items p.sites.items c.requires.1.enough in
+    let count = groups_count s (base_of p) bytes p.pages.items p.holders 0 p.layings.items p.sites.items c.requires.1.enough in
     let inside : k < length gs = (let end = c.group_count-k-end.ensures in omega (arith, count, end, c.loop-k-test.true)) in
     let outline = c.in_ok-group.ensures bytes laid in
     lines_more gs k outline.0 inside outline.1 c.args.text.now.items c.loop-k.text.items _ c.as_slice.result.now (c.loop-k.invariant bytes laid)
@@ -22,7 +22,7 @@ returns c bytes laid =
     let s = c.args.geometry.now in
     let p = c.args.plan.now in
     let gs = plan_groups s p bytes in
-    let count = groups_count s p.surveyed.scan bytes p.pages.items p.holders 0 p.layings.items p.sites.items c.requires.1.enough in
+    let count = groups_count s (base_of p) bytes p.pages.items p.holders 0 p.layings.items p.sites.items c.requires.1.enough in
     c.loop-k.invariant bytes laid
     ∙ ap (λ (xs : List (List Step)). c.args.text.now.items ++ flat_map step_line (in_order xs))
     (take_all c.loop-k.k gs (let end = c.group_count-k-end.ensures in omega (arith, count, end, c.loop-k-test.false)))

@@ -1,4 +1,4 @@
-use Rattle.ubi_change.proofs.Prelude.{◌≡◌, ◌+◌, ◌<◌, List, [], ℕ, ap, sym, ◌∙◌, arith, length, take, get_or, slice_get-get_or, Step, block_cut, plan_groups}
+use Rattle.ubi_change.proofs.Prelude.{base_of, ◌≡◌, ◌+◌, ◌<◌, List, [], ℕ, ap, sym, ◌∙◌, arith, length, take, get_or, slice_get-get_or, Step, block_cut, plan_groups}
 use Rattle.ubi_change.proofs.AllGroups.{groups_count}
 use Rattle.ubi_change.proofs.CutBlocks.{first_within}
 use Rattle.ubi_change.proofs.GroupsApart.{carried_more, counted_group, group_apart, left_less}
@@ -16,7 +16,7 @@ count : (g : given.Over) (c : goal.After-saturating_sub-left g) (bytes : List �
     → length (plan_groups c.args.geometry.now c.args.self.now.plan.now bytes) ≡ length c.args.self.now.plan.now.layings.items + 2
 count g c bytes =
     let p = c.args.self.now.plan.now in
-    groups_count c.args.geometry.now p.surveyed.scan bytes p.pages.items p.holders 0 p.layings.items p.sites.items c.requires.fits.enough
+    groups_count c.args.geometry.now (base_of p) bytes p.pages.items p.holders 0 p.layings.items p.sites.items c.requires.fits.enough
 
 inside : (g : given.Over) (c : goal.After-saturating_sub-left g) (bytes : List ℕ)
     → c.loop-k.k < length (plan_groups c.args.geometry.now c.args.self.now.plan.now bytes)

@@ -1,4 +1,4 @@
-use Rattle.ubi_change.proofs.Prelude.{◌≡◌, ◌<◌, ◌+◌, ◌++◌, ap, sym, ◌∙◌, subst, arith, List, length, AllWithin, plan_groups, Step}
+use Rattle.ubi_change.proofs.Prelude.{base_of, ◌≡◌, ◌<◌, ◌+◌, ◌++◌, ap, sym, ◌∙◌, subst, arith, List, length, AllWithin, plan_groups, Step}
 use Rattle.ubi_change.proofs.AllGroups.{all_within_append, groups_count, in_order_all, in_order_more}
 use Rattle.ubi_change.proofs.update.UpdatePlan.steps.Goals as goal
 
@@ -18,7 +18,7 @@ loop-k-preserved g c =
       steps = λ bytes held.
           (let gs = plan_groups s p bytes in
           let count : length gs ≡ length p.layings.items + 2 =
-          groups_count s p.surveyed.scan bytes p.pages.items p.holders 0 p.layings.items p.sites.items c.requires.fits.enough in
+          groups_count s (base_of p) bytes p.pages.items p.holders 0 p.layings.items p.sites.items c.requires.fits.enough in
           let inside : k < length gs = omega (arith, c.loop-k-test.true, c.group_count-k-end.ensures, count) in
           more ∙ ap (λ (xs : List Step). xs ++ group) (c.loop-k.invariant.steps bytes (made.narrows bytes held))
           ∙ in_order_more gs k group inside (made.steps bytes held));
@@ -29,7 +29,7 @@ pub returns-clause-steps : goal.returns-clause-steps
 returns-clause-steps g c bytes held =
     let s = c.args.geometry.now in
     let p = c.args.self.now in
-    let count = groups_count s p.surveyed.scan bytes p.pages.items p.holders 0 p.layings.items p.sites.items c.requires.fits.enough in
+    let count = groups_count s (base_of p) bytes p.pages.items p.holders 0 p.layings.items p.sites.items c.requires.fits.enough in
     c.loop-k.invariant.steps bytes held
     ∙ in_order_all (plan_groups s p bytes) c.loop-k.k
     (omega (arith, count, c.loop-k-test.false, c.loop-k.auto.k-end, c.group_count-k-end.ensures))

@@ -117,7 +117,7 @@ fn begin_with(groups: &[Vec<Step>], targets: &[u32]) -> bool {
 fn is_answered(alloc: Global, (pebs, marks, keeps, asked, want): &Case) -> Result<bool, Fail> {
     let image = small_image(alloc, pebs)?;
     let edits = edits_of(alloc, asked)?;
-    let (avoided, contents) = (Avoided::new(marks, *keeps), [0x61; 64]);
+    let (avoided, contents) = (Avoided::new(marks, *keeps, 0), [0x61; 64]);
     let plan = planned(
         alloc,
         &small()?,

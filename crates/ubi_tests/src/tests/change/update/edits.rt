@@ -97,7 +97,7 @@ pub fn planned_anywhere(
     asked: &[Asked],
 ) -> Result<Result<Vec<Vec<Step>>, UpdateError>, Fail> {
     let edits = edits_of(alloc, asked)?;
-    let avoided = Avoided::new(&[], false);
+    let avoided = Avoided::nothing();
     Ok(planned(alloc, geometry, image, &avoided, contents, edits.as_slice()))
 }
 

@@ -41,7 +41,7 @@ fn error_at(
     let image = small_image(alloc, &PEBS)?;
     let mut source = ProbeSource::new(alloc, &geometry, image.as_slice(), at)?;
     let mut contents = ProbeSource::new(alloc, &geometry, CONTENTS, contents_at)?;
-    let (avoided, edits) = (Avoided::new(&[], false), edits_of(alloc, asked)?);
+    let (avoided, edits) = (Avoided::nothing(), edits_of(alloc, asked)?);
     let plan = plan_update_from(
         alloc,
         &geometry,
@@ -116,7 +116,7 @@ fn group_errors(alloc: Global) -> Result<Vec<Option<ContentsError>>, Fail> {
     let image = small_image(alloc, &PEBS)?;
     let mut source = MemorySource::new(image.as_slice());
     let mut contents = ProbeSource::new(alloc, &geometry, CONTENTS, 0)?;
-    let (avoided, edits) = (Avoided::new(&[], false), edits_of(alloc, &ASKED)?);
+    let (avoided, edits) = (Avoided::nothing(), edits_of(alloc, &ASKED)?);
     let edits = edits.as_slice();
     let planned = plan_update_from(
         alloc,

@@ -50,7 +50,7 @@ fn groups_of(alloc: Global, image: &[u8]) -> Result<Option<Vec<Vec<Step>>>, Fail
         Edit::Rename(0, Bytes::new(name)),
         Edit::Replace(0, volume),
     ];
-    let avoided = Avoided::new(&[], false);
+    let avoided = Avoided::nothing();
     match planned(alloc, &small()?, image, &avoided, &[0x61; 500], &edits) {
         Ok(groups) => Ok(Some(groups)),
         Err(UpdateError::Refused(UpdateRefusal::Memory)) => Ok(None),

@@ -38,7 +38,7 @@ fn answer_of(
 ) -> Result<Answer, Fail> {
     let edits = edits_of(alloc, case.edits)?;
     let (mut source, mut bytes) = (MemorySource::new(image), MemorySource::new(contents));
-    let avoided = Avoided::new(&[], false);
+    let avoided = Avoided::nothing();
     let edits = edits.as_slice();
     let planned = plan_update_from(alloc, geometry, &mut source, &avoided, &mut bytes, edits);
     let Ok(plan) = planned else {

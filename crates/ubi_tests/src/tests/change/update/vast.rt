@@ -60,7 +60,7 @@ fn planned(
     image: &[u8],
     edits: &[Edit],
 ) -> Result<Vec<Vec<Step>>, UpdateError> {
-    let (avoided, mut source) = (Avoided::new(&[], false), MemorySource::new(image));
+    let (avoided, mut source) = (Avoided::nothing(), MemorySource::new(image));
     let mut contents = FileSource::of(Ruled, SIZE);
     let plan = plan_update_from(alloc, geometry, &mut source, &avoided, &mut contents, edits)?;
     let mut groups = Vec::new(alloc);
