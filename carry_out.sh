@@ -1,5 +1,6 @@
 #!/bin/sh
-# carry_out.sh [-c] [-d DUMP] [-s N] [-e N] DEVICE PLAN PAGES PEB PAGE
+# carry_out.sh [-cmnu] [-d DUMP] [-s N] [-e N] DEVICE PLAN PAGES PEB PAGE
+# carry_out.sh [-cmu] [-d DUMP] [-s N] [-e N] DEVICE PLANFILE
 #
 # Carries out a plan of `ubi_tool change`, `rename` or `update` on a NAND chip, one step after the other. Each is read
 # back.
@@ -8,22 +9,31 @@
 #   PAGES    the file that it wrote with --pages: the bytes of the pages that the plan programs, in the plan's order
 #   PEB      the bytes of an eraseblock, and
 #   PAGE     those of a page: --peb and --page of the plan
-#   -d DUMP  the dump that the plan was made from (nanddump --bb=padbad). The chip must still hold it. Always give it
+#   PLANFILE one file in place of these four. It also has the headers of the eraseblocks that the plan touches
+#   -d DUMP  the dump that the plan was made from (nanddump --bb=padbad). The chip must still hold it
+#   -n       compare nothing with a dump. Without PLANFILE either this or -d has to be given
+#   -u       pass over eraseblocks that can't be read, if the plan doesn't touch them: -d refuses them otherwise
 #   -s N     begin with step N: an earlier run did those before it
-#   -e N     end after step N. PAGES may then be just the pages up to there
+#   -e N     end after step N. The pages may then be just those up to there
+#   -m       if an eraseblock fails, mark it as bad: see below
 #   -c       check, and write nothing
 #
 # Before the first step it looks at the chip, and refuses
-# - a chip that doesn't hold DUMP. Without -d there is nothing to compare, and it sees no more than what follows
+# - a chip that doesn't hold DUMP, or has other headers in an eraseblock than PLANFILE has. With -n it sees no more than
+#   what follows
 # - a fastmap's anchor that the plan doesn't erase before all else: a kernel that attaches by the fastmap takes each
 #   eraseblock for what it was before the plan
-# - a plan that erases or programs an eraseblock that isn't UBI's: it holds something, and neither of its headers has the
-#   magic. A boot loader has none
+# - a plan that erases or programs an eraseblock that isn't UBI's: it holds something, and neither of its headers has
+#   the magic. A boot loader has none
 # - a page to be programmed that isn't free
 #
+# With -m an eraseblock whose erase or program failed is given to `nandtest -m`, which erases it and programs it with
+# other bytes. If one of these fails too, it marks it as bad; otherwise the eraseblock is erased again. No other one is
+# touched. The status is 1 all the same: take a new dump and plan again.
+#
 # Exit status: 0 done; 1 a step failed, or was interrupted: a line says which. Those before it are done, and nothing
-# after it was tried; 2 nothing was written. Needs mtdinfo, nanddump and flash_erase of mtd-utils. All else may be
-# busybox's.
+# after it was tried; 2 nothing was written. Needs mtdinfo, nanddump and flash_erase of mtd-utils, and nandtest for -m.
+# All else may be busybox's.
 
 # Pages are programmed with dd, since nandwrite goes on in the next eraseblock if one is bad or a program fails. For
 # tests: if CARRY_OUT_ROOT names a folder, its sys and proc are read in place of /sys and /proc, and DEVICE may be a
@@ -50,7 +60,7 @@ refuse() {
 
 # Prints the comment at the head of this file, and ends with status 2.
 usage() {
-  sed -n '2,/^$/s/^# \{0,1\}//p' "$0" | sed "1s,^carry_out.sh,${0##*/}," >&2
+  sed -n '2,/^$/s/^# \{0,1\}//p' "$0" | sed "s,^carry_out.sh,${0##*/}," >&2
   exit 2
 }
 
@@ -74,17 +84,31 @@ size_of() { # FILE
 
 # Takes the options, and sets `options` to how many words they are.
 read_options() {
-  check_only='' dump='' first=1 last=''
-  while getopts cd:s:e: option; do
+  check_only='' dump='' alone='' passes='' marks='' first=1 last=''
+  while getopts cd:e:mns:u option; do
     case $option in
     c) check_only=yes ;;
     d) dump=$OPTARG; [ -n "$dump" ] || refuse "-d has no file" ;;
+    m) marks=yes ;;
+    n) alone=yes ;;
+    u) passes=yes ;;
     s) first=$OPTARG; number -s "$first" ;;
     e) last=$OPTARG; number -e "$last" ;;
     *) usage ;;
     esac
   done
   options=$((OPTIND - 1))
+}
+
+# Looks at what the plan is compared with.
+look_at_options() {
+  compared="$dump$plan_file"
+  [ -z "$alone" ] || [ -z "$compared" ] || refuse "-n compares nothing, and goes with neither -d nor PLANFILE"
+  [ -z "$alone" ] || [ -z "$marks" ] ||
+    refuse "-m marks eraseblocks of the chip that the plan is of: give -d DUMP, not -n"
+  [ -n "$alone$compared" ] ||
+    refuse "nothing shows that $device still holds what the plan is of: give the dump with -d DUMP," \
+      "or -n to compare nothing"
 }
 
 # Looks at the numbers of PEB and PAGE.
@@ -104,6 +128,8 @@ look_for_tools() {
   done
   nanddump --help 2>&1 | grep -q dumpbad || refuse "this nanddump has no --bb=dumpbad: take that of mtd-utils"
   flash_erase --help 2>&1 | grep -q noskipbad || refuse "this flash_erase has no -N: take that of mtd-utils"
+  [ -z "$marks" ] || nandtest --help 2>&1 | grep -q markbad ||
+    refuse "there is no nandtest that has -m: take that of mtd-utils"
 }
 
 # Makes the blank files, an eraseblock, a page and a sub-page of 0xFF bytes; and one of zeros, as long as a header.
@@ -154,6 +180,10 @@ look_at_device() {
   '' | *[!0-9]* | 0*) refuse "$class/size says '$size'" ;;
   esac
   blocks=$((size / peb))
+  # where the second header is, until a first one tells: in the sub-page behind that, if no plan file says it
+  vid=${vid_at:-$(((63 / sub + 1) * sub))}
+  [ -z "$marks" ] || [ "$size" -lt 4294967296 ] ||
+    refuse "-m: nandtest takes no device of 4 GiB or more, and $device has $size bytes"
 }
 
 # Whether UBI has the device attached; sets `ubi` to the folder that says so.
@@ -179,6 +209,60 @@ look_at_users() {
   done < "$root/proc/mounts"
 }
 
+# Refuses a plan if a file with lines of it has bytes that none has.
+look_at_bytes() { # FILE
+  [ "$(tr -d 'a-z0-9= \n' < "$1" | wc -c)" -eq 0 ] || refuse "$plan has bytes that no plan has, as line ends of DOS"
+}
+
+# Reads the first line of a plan file, and sets its sizes and counts.
+read_first_line() {
+  file "$plan"
+  dd if="$plan" bs=512 count=1 2> /dev/null | head -n 1 > "$tmp/line"
+  grep -q '^plan [0-9]' "$tmp/line" || refuse "$plan is no plan file: it doesn't begin with \`plan 1\`"
+  grep -q '^plan 1 ' "$tmp/line" ||
+    refuse "$plan is of another version: take the carry_out.sh of the program that made it"
+  look_at_bytes "$tmp/line"
+  form='plan 1 peb=N page=N vid=N data=N blocks=N steps=N touched=N pages=N'
+  grep -q "^$(printf '%s' "$form" | sed 's/N/[0-9][0-9]*/g')\$" "$tmp/line" ||
+    refuse "line 1 of the plan: not \`$form\`"
+  read -r peb page vid_at data extent steps touched have << LINE
+$(tr -dc '0-9 \n' < "$tmp/line" | sed 's/^ 1 //')
+LINE
+  for word in "$peb" "$page" "$vid_at" "$data" "$extent" "$steps" "$touched" "$have"; do
+    number "a word in line 1 of the plan" "$word"
+  done
+  [ "$steps" -gt 0 ] || refuse "the plan has no steps"
+}
+
+# Refuses a plan file with sizes that don't fit one another, and one of a dump that isn't the device's. A dump of the
+# whole device may have a part that UBI has.
+look_at_extent() {
+  [ $((vid_at % 64 == 0 && vid_at >= 64 && data >= vid_at + 64 && data % page == 0 && data < peb)) -eq 1 ] ||
+    refuse "$plan has a header at byte $vid_at and contents at $data, which don't fit into an eraseblock of $peb bytes"
+  said="the plan is of a dump of $extent eraseblocks, and $device has $blocks"
+  [ "$extent" -le "$blocks" ] || refuse "$said: it is the dump of another device"
+  [ "$extent" -eq "$blocks" ] || [ -n "$dump" ] || refuse "$said: take the dump with --bb=padbad, of the whole device"
+}
+
+# Makes $tmp/plan and $tmp/pages of a plan file, and $tmp/blocks, the lines that have the headers.
+copy_plan_file() {
+  volumes=0
+  lines=$((1 + steps + touched))
+  head -n "$lines" < "$plan" > "$tmp/lines" || refuse "$plan can't be copied to $tmp"
+  [ "$(wc -l < "$tmp/lines")" -eq "$lines" ] || refuse "$plan has fewer than $lines lines: it was cut short"
+  look_at_bytes "$tmp/lines"
+  { echo "steps $steps"; sed -n "2,$((1 + steps))p" "$tmp/lines"; } > "$tmp/plan" || refuse "$tmp can't be written"
+  tail -n "+$((2 + steps))" "$tmp/lines" > "$tmp/blocks" || refuse "$tmp can't be written"
+  length=$(size_of "$plan")
+  from=$(size_of "$tmp/lines")
+  bytes=$((have * page))
+  said="$plan has $length bytes, not $((from + bytes))"
+  [ "$length" -ge $((from + bytes)) ] || refuse "$said: it was cut short"
+  [ "$length" -le $((from + bytes)) ] || refuse "$said: something follows its pages"
+  tail -c "+$((from + 1))" < "$plan" > "$tmp/pages" || refuse "$plan can't be copied to $tmp"
+  [ "$(size_of "$tmp/pages")" -eq "$bytes" ] || refuse "$plan can't be copied to $tmp"
+}
+
 # Makes $tmp/plan, the lines of the plan without those of the volumes that `update` writes, which stand before the steps;
 # and sets `volumes` to how many these are.
 copy_plan() {
@@ -189,15 +273,17 @@ copy_plan() {
   volumes=$(awk '!/^volume / { exit } { n++ } END { print n + 0 }' "$tmp/said")
   tail -n +$((volumes + 1)) "$tmp/said" > "$tmp/plan" || refuse "$tmp can't be written"
   [ -s "$tmp/plan" ] || refuse "$plan has no steps"
-  [ "$(tr -d 'a-z0-9= \n' < "$tmp/plan" | wc -c)" -eq 0 ] || refuse "$plan has bytes that no plan has, as line ends of DOS"
+  look_at_bytes "$tmp/plan"
 }
 
 # Makes $tmp/steps from the plan. Each line is a step: its number, its word, the eraseblock, the page, which of PAGES it
 # programs, counted from 0, and what the page holds before it, going by the steps from the first on: `chip`, what it
-# holds now; `blank`, since one of them erases it; or which of PAGES one of them has programmed.
+# holds now; `blank`, since one of them erases it; or which of PAGES one of them has programmed. $tmp/named gets the
+# numbers of the eraseblocks that the plan touches.
 read_plan() {
-  copy_plan
-  awk -v blocks="$blocks" -v pages=$((peb / page)) -v first="$first" -v volumes="$volumes" '
+  if [ -n "$plan_file" ]; then copy_plan_file; else copy_plan; fi
+  awk -v blocks="${extent:-$blocks}" -v whose="${extent:+dump}" -v pages=$((peb / page)) -v first="$first" \
+    -v volumes="$volumes" '
     function fault(text) { print "line " (NR + volumes) " of the plan: " text; bad = 1; exit 1 }
     NR == 1 {
       if ($0 !~ /^steps (0|[1-9][0-9]*)$/) fault("not `steps N`")
@@ -209,7 +295,7 @@ read_plan() {
       n = NR - 1; p = $2; k = $3
       sub(/^block=/, "", p)
       sub(/^page=/, "", k)
-      if (p + 0 >= blocks) fault("the device has " blocks " eraseblocks")
+      if (p + 0 >= blocks) fault("the " (whose ? whose : "device") " has " blocks " eraseblocks")
       if (k + 0 >= pages) fault("an eraseblock has " pages " pages")
     }
     $1 == "erase" {
@@ -238,13 +324,51 @@ read_plan() {
   [ "$last" -ge 1 ] || refuse "-e $last: steps are counted from 1"
   [ "$last" -le "$steps" ] || refuse "-e $last: the plan has $steps steps"
   [ "$first" -le $((last + 1)) ] || refuse "-s $first is after -e $last"
+  touched_by "$steps" > "$tmp/named"
 }
 
-# Copies the bytes of the pages to $tmp/pages, and sets `have` to the number of pages.
-read_pages() {
+# Looks at how many pages a plan file has.
+count_pages() {
+  [ "$have" -le "$all" ] || refuse "$plan has $have pages, and programs $all"
+  [ "$have" -ge "$some" ] ||
+    refuse "$plan has the pages of its first steps alone, as --stop leaves them: end there with -e"
+}
+
+# Makes $tmp/headers from the lines of a plan file that have the headers: 128 bytes for each eraseblock of $tmp/named.
+read_headers() {
+  awk -v before=$((1 + steps)) '
+    function fault(text) { print "line " (before + at) " of the plan: " text; bad = 1; exit 1 }
+    FILENAME != ARGV[2] { named[++count] = $1; next }
+    { at++ }
+    $0 !~ /^block=(0|[1-9][0-9]*) ec=[0-9a-f]+ vid=[0-9a-f]+$/ || length($2) != 131 || length($3) != 132 {
+      fault("not `block=P ec=HEX vid=HEX` with 128 digits each")
+    }
+    {
+      p = substr($1, 7)
+      if (at > 1 && p + 0 <= above + 0) fault("eraseblock " p " stands after " above)
+      above = p
+      if (at > count || p + 0 < named[at] + 0) fault("no step touches eraseblock " p)
+      if (p != named[at]) fault("a step touches eraseblock " named[at] ", and its headers are missing")
+      hex = substr($2, 4) substr($3, 5)
+      octal = ""
+      for (i = 1; i < 256; i += 2) {
+        byte = index("0123456789abcdef", substr(hex, i, 1)) * 16 + index("0123456789abcdef", substr(hex, i + 1, 1)) - 17
+        octal = octal sprintf("\\0%o", byte)
+      }
+      print octal
+    }
+    END {
+      if (bad) exit 1
+      if (at < count) { at++; fault("a step touches eraseblock " named[at] ", and its headers are missing") }
+    }
+  ' "$tmp/named" "$tmp/blocks" > "$tmp/octal" || refuse "$(tail -n 1 "$tmp/octal")"
+  while read -r octal; do printf '%b' "$octal"; done < "$tmp/octal" > "$tmp/headers"
+  [ "$(size_of "$tmp/headers")" -eq $((touched * 128)) ] || refuse "$tmp can't be written"
+}
+
+# Copies the bytes of PAGES to $tmp/pages, and sets `have` to the number of pages.
+copy_pages() {
   file "$pages"
-  all=$(grep -c ' program ' "$tmp/steps")
-  some=$(head -n "$last" "$tmp/steps" | grep -c ' program ')
   length=$(size_of "$pages")
   have=$((length / page))
   case $length in
@@ -255,14 +379,25 @@ read_pages() {
   [ "$(size_of "$tmp/pages")" = "$length" ] || refuse "$pages can't be copied to $tmp"
 }
 
+# Reads the pages: `all` are those of the plan, and `some` those up to the last step that is carried out.
+read_pages() {
+  all=$(grep -c ' program ' "$tmp/steps")
+  some=$(head -n "$last" "$tmp/steps" | grep -c ' program ')
+  if [ -z "$plan_file" ]; then
+    copy_pages
+  else
+    read_headers
+    count_pages
+  fi
+}
+
 # Prints the numbers of the eraseblocks that the steps from 1 to N touch.
 touched_by() { # N
   head -n "$1" "$tmp/steps" | cut -d ' ' -f 3 | sort -nu
 }
 
-# Makes $tmp/marks, the eraseblocks that are bad or locked: lines of a number and BAD or RO. Refuses a plan that names
-# one.
-look_at_marks() {
+# Makes $tmp/marks, the eraseblocks that are bad or locked: lines of a number and BAD or RO.
+read_marks() {
   # Its status is 0 even if it can't find out which eraseblocks are bad.
   mtdinfo -M "$real" > "$tmp/map" 2> "$tmp/said" || refuse "mtdinfo -M $device failed: $(head -n 1 "$tmp/said")"
   [ ! -s "$tmp/said" ] || refuse "mtdinfo -M $device: $(head -n 1 "$tmp/said")"
@@ -273,11 +408,22 @@ look_at_marks() {
     END { print "seen", seen + 0 }
   ' "$tmp/map" > "$tmp/marks"
   [ "$(tail -n 1 "$tmp/marks")" = "seen $blocks" ] || refuse "mtdinfo -M $device doesn't show $blocks eraseblocks"
-  touched_by "$steps" > "$tmp/touched"
+}
+
+# Refuses a plan that names an eraseblock that is bad or locked.
+look_at_marks() {
+  read_marks
   while read -r p <&3; do
     mark=$(sed -n "s/^$p //p" "$tmp/marks" | tail -n 1)
-    [ -z "$mark" ] || refuse "the plan names eraseblock $p, which is $mark"
-  done 3< "$tmp/touched"
+    case $mark in
+    '') ;;
+    BAD)
+      refuse "the plan names eraseblock $p, which is BAD: it went bad since the dump, or wasn't listed with --bad." \
+        "Take a new dump, with --bb=padbad, and plan again"
+      ;;
+    *) refuse "the plan names eraseblock $p, which is $mark" ;;
+    esac
+  done 3< "$tmp/named"
 }
 
 # Reads bytes of the chip into a file. Fails if they aren't read whole, and on every message except those about bits
@@ -335,16 +481,22 @@ get_header() { # FILE P K
     refuse "page $3 of eraseblock $2 of $device can't be read: $(reason)"
 }
 
+# Copies a page of the dump, as get_header does one of the chip.
+get_dumped() { # FILE P K
+  piece "$1" "$dump" "$page" $(($2 * (peb / page) + $3)) || refuse "$dump can't be read"
+}
+
 # Looks at the headers of an eraseblock: sets `own` to what its first bytes are, and `volume` to the volume that its
 # second header names, if it has one. `vid` is where that header is, going by the first header, or by the last one seen.
-look_at_headers() { # P
+# GET is get_dumped if it is an eraseblock of the dump.
+look_at_headers() { # P [GET]
   volume=''
-  get_header "$tmp/head" "$1" 0
+  "${2-get_header}" "$tmp/head" "$1" 0
   look_at_header "$tmp/head" 0
   own=$kind
   [ "$own" != blank ] || return 0
   if [ "$own" = ec ] && [ $((field % 64 == 0 && field > 0 && field < peb)) -eq 1 ]; then vid=$field; fi
-  [ "$vid" -lt "$page" ] || get_header "$tmp/head" "$1" $((vid / page))
+  [ "$vid" -lt "$page" ] || "${2-get_header}" "$tmp/head" "$1" $((vid / page))
   look_at_header "$tmp/head" $((vid % page / 64))
   [ "$kind" != vid ] || volume=$field
 }
@@ -369,14 +521,63 @@ fits() { # OLD NEW K
   done
 }
 
-# Whether some eraseblocks of the chip hold what the dump holds there.
+# Whether some eraseblocks of the chip hold what the dump holds there. The status is 2 if they can't be read.
 holds() { # P COUNT
-  { nanddump -q --bb=dumpbad -s $(($1 * peb)) -l $(($2 * peb)) "$real" 2> "$tmp/said" || echo "nanddump failed" >> "$tmp/said"; } |
-    sha256sum > "$tmp/held"
+  { nanddump -q --bb=dumpbad -s $(($1 * peb)) -l $(($2 * peb)) "$real" 2> "$tmp/said" ||
+    echo "nanddump failed" >> "$tmp/said"; } | sha256sum > "$tmp/held"
   dd if="$dump" bs="$peb" skip="$1" count="$2" 2> /dev/null | sha256sum > "$tmp/dumped"
-  ! grep -v ' corrected bitflip' "$tmp/said" > "$tmp/fault" ||
-    refuse "eraseblocks $1 to $(($1 + $2 - 1)) of $device can't be read: $(reason)"
-  [ -s "$tmp/held" ] && same "$tmp/held" "$tmp/dumped"
+  ! grep -v ' corrected bitflip' "$tmp/said" > "$tmp/fault" || return 2
+  [ -s "$tmp/held" ] && same "$tmp/held" "$tmp/dumped" || return 1
+}
+
+# Passes over an eraseblock with bits that ECC can't correct, if -u was given and the plan doesn't touch it.
+pass_over() { # P
+  unread="eraseblock $1 of $device can't be read"
+  ! grep -q "^$1\$" "$tmp/named" || refuse "$unread, and the plan touches it: $(reason)"
+  ! grep -qv uncorrectable "$tmp/fault" || refuse "$unread: $(reason)"
+  [ -n "$passes" ] || refuse "$unread: $(reason). The plan doesn't touch it: -u passes over such eraseblocks"
+  warn "$unread, and isn't compared: $(reason)"
+}
+
+# Compares some eraseblocks of the chip with those of the dump; by halves, if they aren't the same or can't be read.
+compare() { # P COUNT
+  holds "$1" "$2"
+  held=$?
+  [ "$held" -ne 0 ] || return 0
+  if [ "$2" -gt 1 ]; then
+    compare "$1" $(($2 / 2))
+    compare $(($1 + $2 / 2)) $(($2 - $2 / 2))
+    return 0
+  fi
+  [ "$held" -eq 2 ] || refuse "eraseblock $1 of $device isn't that of $dump: take a new dump and plan again"
+  pass_over "$1"
+}
+
+# Makes $tmp/touched, the numbers of the eraseblocks that steps up to the first have touched, or may have: none, if that
+# is step 1.
+find_touched() {
+  if [ "$first" -gt 1 ]; then touched_by "$first"; fi > "$tmp/touched"
+}
+
+# Refuses a dump that holds something where an eraseblock is bad. With --bb=padbad it is blank.
+look_at_bad() {
+  sed -n 's/ BAD$//p' "$tmp/marks" > "$tmp/bad"
+  while read -r p <&3; do
+    piece "$tmp/here" "$dump" "$peb" "$p" || refuse "$dump can't be read"
+    ! blank "$tmp/here" "$peb" || continue
+    # an eraseblock of the plan may tell where the second header is
+    look_at_headers "$(sed -n 1p "$tmp/named")" get_dumped
+    look_at_headers "$p" get_dumped
+    case $own$volume in
+    ec* | vid | *[0-9])
+      refuse "eraseblock $p is bad, and $dump has a header of UBI there: it went bad since the dump, or that was made" \
+        "without --bb=padbad. Take a new dump, with --bb=padbad, and plan again"
+      ;;
+    *)
+      refuse "eraseblock $p is bad, and $dump has bytes there: take a new dump, with --bb=padbad, and plan again"
+      ;;
+    esac
+  done 3< "$tmp/bad"
 }
 
 # Compares the chip with the dump, except for bad eraseblocks and those that steps up to the first have touched.
@@ -386,31 +587,47 @@ look_at_dump() {
   [ $((length > size)) -eq 0 ] || refuse "$dump has $length bytes and $device $size: it is the dump of another device"
   [ $((length < size)) -eq 0 ] ||
     refuse "$dump has $length bytes and $device $size: take the dump with --bb=padbad, of the whole device"
-  sed -n 's/ BAD$//p' "$tmp/marks" > "$tmp/bad"
-  while read -r p <&3; do
-    piece "$tmp/here" "$dump" "$peb" "$p" || refuse "$dump can't be read"
-    blank "$tmp/here" "$peb" ||
-      refuse "eraseblock $p is bad, and $dump has bytes there: take a new dump, with --bb=padbad, and plan again"
-  done 3< "$tmp/bad"
-  if [ "$first" -gt 1 ]; then touched_by "$first" > "$tmp/touched"; else : > "$tmp/touched"; fi
+  look_at_bad
+  find_touched
   # the runs of eraseblocks between those
-  sort -nu "$tmp/bad" "$tmp/touched" |
-    awk -v blocks="$blocks" '{ if ($1 > p) print p + 0, $1 - p; p = $1 + 1 } END { if (blocks > p) print p + 0, blocks - p }' > "$tmp/runs"
+  sort -nu "$tmp/bad" "$tmp/touched" | awk -v blocks="$blocks" '
+    { if ($1 > p) print p + 0, $1 - p; p = $1 + 1 }
+    END { if (blocks > p) print p + 0, blocks - p }
+  ' > "$tmp/runs"
   while read -r p count <&3; do
-    if ! holds "$p" "$count"; then
-      while [ "$count" -gt 1 ]; do
-        half=$((count / 2))
-        if holds "$p" "$half"; then p=$((p + half)) count=$((count - half)); else count=$half; fi
-      done
-      refuse "eraseblock $p of $device isn't that of $dump: take a new dump and plan again"
-    fi
+    compare "$p" "$count"
   done 3< "$tmp/runs"
 }
 
+# Puts the headers that a plan file has for an eraseblock into $tmp/want.
+put_headers() { # P
+  which=$(($(grep -n "^$1\$" "$tmp/named" | cut -d : -f 1) * 2 - 2))
+  for at in 0 $((vid_at / 64)); do
+    dd if="$tmp/headers" of="$tmp/want" bs=64 skip="$which" seek="$at" count=1 conv=notrunc 2> /dev/null ||
+      refuse "$tmp can't be written"
+    which=$((which + 1))
+  done
+}
+
+# Compares the chip with the headers that a plan file has, except for eraseblocks that steps up to the first have
+# touched.
+look_at_plan() {
+  find_touched
+  while read -r p <&3; do
+    ! grep -q "^$p\$" "$tmp/touched" || continue
+    get_block "$tmp/here" "$p" || refuse "eraseblock $p of $device can't be read, and the plan touches it: $(reason)"
+    cp "$tmp/here" "$tmp/want" || refuse "$tmp can't be written"
+    put_headers "$p"
+    same "$tmp/here" "$tmp/want" ||
+      refuse "eraseblock $p of $device isn't that of the plan: take a new dump and plan again"
+  done 3< "$tmp/named"
+}
+
 # Makes $tmp/want, an eraseblock as it is after the steps before the first. Without a dump, what they don't set is taken
-# from the chip.
+# from the chip; the headers, if a plan file has them, from that.
 want() ( # P
   if [ -n "$dump" ]; then piece "$tmp/want" "$dump" "$peb" "$1"; else cp "$tmp/here" "$tmp/want"; fi || refuse "$tmp can't be written"
+  [ -z "$plan_file" ] || put_headers "$1"
   while read -r n word p k at _ <&4; do
     [ "$n" -lt "$first" ] || break
     [ "$p" -eq "$1" ] || continue
@@ -463,8 +680,8 @@ LINE
 # it in the first 64 eraseblocks of what it attaches. If that is only a part of the device, it begins at the first
 # header or before it, and not behind the eraseblocks of the plan.
 look_at_anchors() {
-  p=$(touched_by "$steps" | sed -n 1p)
-  vid=$(((63 / sub + 1) * sub)) end=$((p + 64)) begun='' anchors=''
+  p=$(sed -n 1p "$tmp/named")
+  end=$((p + 64)) begun='' anchors=''
   look_at_headers "$p"
   p=0
   bad=" $(sed -n 's/ BAD$//p' "$tmp/marks" | tr '\n' ' ')"
@@ -491,6 +708,21 @@ look_at_anchors() {
   erase="flash_erase -N $device $((kept * peb)) 1"
   refuse "eraseblock $kept of $device holds the anchor of a fastmap, and the plan doesn't erase it before all else:" \
     "erase it ($erase), take a new dump, and plan again"
+}
+
+# Adds to `anchors` those that steps before the first have erased, going by the plan file or the dump.
+look_at_erased() {
+  if [ -n "$plan_file" ]; then
+    # a volume-identifier header has its magic, 4 bytes, and then the volume
+    erased=$(sed -n 's/^block=\([0-9]*\) .* vid=55424921........7ffff000.*/\1/p' "$tmp/blocks" | tr '\n' ' ')
+    anchors="$anchors $erased"
+  elif [ -n "$dump" ]; then
+    awk -v first="$first" '$1 < first && $2 == "erase" && !seen[$3]++ { print $3 }' "$tmp/steps" > "$tmp/erased"
+    while read -r p <&3; do
+      look_at_headers "$p" get_dumped
+      [ "$volume" != 2147479552 ] || anchors="$anchors $p"
+    done 3< "$tmp/erased"
+  fi
 }
 
 # Refuses a plan that erases or programs an eraseblock that isn't UBI's, or that programs one behind a header that isn't
@@ -557,25 +789,81 @@ look_at_begun() {
   done 3< "$tmp/steps"
 }
 
+# Prints that the step that is carried out has failed.
+say_failed() {
+  warn "step $n of $steps ($what) failed: $*. Steps done: $((n - 1)); nothing after it was tried"
+}
+
 # Ends with status 1: the step that is carried out has failed.
 fail() {
-  warn "step $n of $steps ($what) failed: $*. Steps done: $((n - 1)); nothing after it was tried"
+  say_failed "$@"
   exit 1
+}
+
+# Has flash_erase erase an eraseblock, and fails if it does, or says anything.
+wipe() { # P
+  # Its status is 0 even if the erase fails, or the eraseblock is skipped.
+  flash_erase -q -N "$real" $(($1 * peb)) 1 > "$tmp/did" 2>&1 ||
+    echo "flash_erase ended with status $?" >> "$tmp/did"
+  [ ! -s "$tmp/did" ]
+}
+
+# Gives an eraseblock that failed to nandtest, and says what has become of it.
+#
+# No LEB is lost with what it held. If an erase failed, the step was to lose that. If a program failed, it held nothing
+# that a LEB reads when the plan took it, and what it replaces is erased by a later step. The image's number is in another
+# header too, as after each step that erases. So the chip means what it does with this eraseblock blank, the old or the
+# new. If it stays as it is, it may have a header with the sequence number that the next plan takes again.
+#
+# nandtest marks an eraseblock only if an erase or a program fails once more, and its status is 0 in each case. No tool of
+# mtd-utils marks one without trying it.
+mark() { # P
+  if attached; then
+    warn "UBI has $device attached by now, so eraseblock $1 isn't marked as bad"
+    return
+  fi
+  nandtest -m -o $(($1 * peb)) -l "$peb" "$real" > "$tmp/did" 2>&1
+  if (read_marks) 2> /dev/null && grep -q "^$1 BAD\$" "$tmp/marks"; then
+    warn "eraseblock $1 is marked as bad now: take a new dump, with --bb=padbad, list it in --bad, and plan again"
+  elif wipe "$1" && get_block "$tmp/here" "$1" && blank "$tmp/here" "$peb"; then
+    warn "eraseblock $1 isn't marked as bad: nandtest could erase and program it, and it is blank now." \
+      "Take a new dump and plan again"
+  else
+    warn "eraseblock $1 can't be marked as bad: attach and detach the chip once, take a new dump, list it in --bad," \
+      "and plan again"
+  fi
+}
+
+# Ends as `fail` does. It is the eraseblock that has failed.
+fail_by() { # P TEXT
+  say_failed "$2"
+  [ -z "$marks" ] || mark "$1"
+  exit 1
+}
+
+# Ends with what a tool has said about a write: EIO is the eraseblock's.
+fail_to_write() { # P
+  ! grep -q -e 'Input/output error' -e 'I/O error' "$tmp/did" || fail_by "$1" "$(head -n 1 "$tmp/did")"
+  fail "$(head -n 1 "$tmp/did")"
+}
+
+# Ends since something can't be read back: if ECC says so, it is the eraseblock's.
+fail_to_read() { # P
+  ! grep -q uncorrectable "$tmp/fault" || fail_by "$1" "it can't be read back: $(reason)"
+  fail "it can't be read back: $(reason)"
 }
 
 # Erases an eraseblock.
 erase() { # P
-  # Its status is 0 even if the erase fails, or the eraseblock is skipped.
-  flash_erase -q -N "$real" $(($1 * peb)) 1 > "$tmp/did" 2>&1 || fail "flash_erase ended with status $?"
-  [ ! -s "$tmp/did" ] || fail "$(head -n 1 "$tmp/did")"
-  get_block "$tmp/here" "$1" || fail "it can't be read back: $(reason)"
-  blank "$tmp/here" "$peb" || fail "it isn't blank afterwards"
+  wipe "$1" || fail_to_write "$1"
+  get_block "$tmp/here" "$1" || fail_to_read "$1"
+  blank "$tmp/here" "$peb" || fail_by "$1" "it isn't blank afterwards"
   how=erased
 }
 
 # Writes a file of one page or sub-page to the chip.
-put() { # FILE BYTES WHICH
-  dd if="$1" of="$real" bs="$2" seek="$3" count=1 conv=notrunc 2> "$tmp/did" || fail "$(head -n 1 "$tmp/did")"
+put() { # P FILE BYTES WHICH
+  dd if="$2" of="$real" bs="$3" seek="$4" count=1 conv=notrunc 2> "$tmp/did" || fail_to_write "$1"
 }
 
 # Programs a page with one of PAGES. A page that has its bytes already isn't programmed: if those are all 0xFF, it would
@@ -588,14 +876,14 @@ program() { # P K AT
     return 0
   fi
   fits "$tmp/here" "$tmp/new" "$2" || fail "the page isn't blank"
-  [ -n "$parts" ] || put "$tmp/new" "$page" $(($1 * (peb / page) + $2))
+  [ -n "$parts" ] || put "$1" "$tmp/new" "$page" $(($1 * (peb / page) + $2))
   for part in $parts; do
     piece "$tmp/new.sub" "$tmp/new" "$sub" "$part" || fail "$tmp can't be written"
-    put "$tmp/new.sub" "$sub" $(($1 * (peb / sub) + part))
+    put "$1" "$tmp/new.sub" "$sub" $(($1 * (peb / sub) + part))
   done
   how="programmed${parts:+, sub-pages$parts}"
-  get_page "$tmp/here" "$1" "$2" || fail "it can't be read back: $(reason)"
-  same "$tmp/here" "$tmp/new" || fail "it reads other bytes afterwards"
+  get_page "$tmp/here" "$1" "$2" || fail_to_read "$1"
+  same "$tmp/here" "$tmp/new" || fail_by "$1" "it reads other bytes afterwards"
 }
 
 # Carries out one step, in a shell of its own, which no signal interrupts.
@@ -604,6 +892,15 @@ step() { # WORD P K AT
   ! attached || fail "UBI has $device attached by now"
   if [ "$1" = erase ]; then erase "$2"; else program "$2" "$3" "$4"; fi
   say "step $n: $what: $how"
+}
+
+# Says so if the steps that are done have erased a fastmap's anchor, and no other one is left.
+tell_of_fastmap() {
+  # shellcheck disable=SC2086
+  printf '%s\n' $anchors | sort -nu > "$tmp/anchors"
+  awk -v last="$last" 'FILENAME == ARGV[1] { if ($1 <= last && $2 == "erase") erased[$3] = 1; next } !($1 in erased)' \
+    "$tmp/steps" "$tmp/anchors" > "$tmp/left"
+  [ -s "$tmp/left" ] || say "$device has no fastmap now, until a kernel that writes one detaches it"
 }
 
 # Carries out the steps.
@@ -624,6 +921,7 @@ carry_out() {
     [ "$ended" -le 1 ] || fail "it was broken off with status $ended"
     [ "$ended" -eq 0 ] || exit 1
   done 3< "$tmp/steps"
+  [ -z "$anchors" ] || tell_of_fastmap
   if [ "$last" -lt "$steps" ]; then say "ended after step $last of $steps"; else say "done: $steps steps"; fi
 }
 
@@ -637,25 +935,33 @@ export LC_ALL
 umask 077
 read_options "$@"
 shift "$options"
-[ $# -eq 5 ] || usage
-device=$1 plan=$2 pages=$3 peb=$4 page=$5
-look_at_sizes
+case $# in
+2) device=$1 plan=$2 plan_file=yes ;;
+5) device=$1 plan=$2 pages=$3 peb=$4 page=$5 plan_file='' vid_at='' extent='' ;;
+*) usage ;;
+esac
+look_at_options
 look_for_tools
 tmp=''
 trap '[ -z "$tmp" ] || rm -rf "$tmp"' EXIT
 trap 'refuse interrupted' HUP INT QUIT TERM
 tmp=$(mktemp -d 2> /dev/null) || refuse "no folder for scratch files can be made"
+[ -z "$plan_file" ] || read_first_line
+look_at_sizes
 look_at_device
+[ -z "$plan_file" ] || look_at_extent
 look_at_users
 make_blanks
 read_plan
 read_pages
 look_at_marks
-look_at_anchors
+look_at_begun
+[ -z "$plan_file" ] || look_at_plan
 [ -z "$dump" ] || look_at_dump
+look_at_anchors
+look_at_erased
 [ "$first" -eq 1 ] || look_at_done
 look_at_owners
-look_at_begun
 look_at_rest
 say "checked: $device, $blocks eraseblocks, $(grep -c ' BAD$' "$tmp/marks") bad; $steps steps, $all pages"
 [ -z "$check_only" ] || exit 0

@@ -6,15 +6,19 @@ usage: carry_out.py [--tool PROGRAM] [--script PATH] [--only WORD]
 
 The tools that the script calls are those of check/gate/fakes, which behave as mtd-utils and dd do on NAND flash. They
 can be made to fail: an erase that fails, or does nothing or half of its work; a program that fails, is torn, or can't
-be read back; an eraseblock that is bad. Images are small, with sub-pages and without, and with bad eraseblocks. In each
-image one mapped LEB and one unmapped LEB are changed, and a volume is renamed. Other chips have a boot loader before
-the image, the anchor of a fastmap, or more than 4,096 eraseblocks. The cases are
+be read back; an eraseblock that is bad. A plan is given with its pages, or as a plan file, which is made here. Images
+are small, with sub-pages and without, and with bad eraseblocks. In each image one mapped LEB and one unmapped LEB are
+changed, and a volume is renamed. Other chips have a boot loader before the image, the anchor of a fastmap, or more than
+4,096 eraseblocks. The cases are
 
-- the whole plan, with a dump and without; `-c`, which writes nothing
+- the whole plan, with a dump and without, and by a plan file; `-c`, which writes nothing
 - plans that end after each step (`-e`) and are continued (`-s`)
 - each write going wrong, in each way: the script must name the step and write nothing after it; the chip must hold the
-  right bytes; and the plan can be continued if nothing was torn
-- each refusal: its line, and that no byte has changed
+  right bytes; and the plan can be continued if nothing was torn. With `-m` nandtest, which may fail too, marks the
+  eraseblock and touches no other, and a new plan without it is carried out
+- each refusal: its line, and that no byte has changed. Plan files are spoiled in each part, or are those of a sister
+  chip or an older dump
+- eraseblocks that can't be read, which `-u` passes over, and that went bad
 - anchors that the plan leaves, erases first or erases late; and eraseblocks that aren't UBI's
 - interrupts, outputs that are closed or full, offsets beyond 4 GiB
 
@@ -81,6 +85,25 @@ PROGRAMS = {
 }
 # Those after which the chip holds what it held before the step, or after which the erase is done.
 HARMLESS = ('fail', 'skip', 'loud', 'status')
+# Those that are a fault of the eraseblock; and what -m is tried with.
+AT_FAULT = ('fail', 'musl', 'skip', 'most', 'torn', 'broken', 'flip', 'unread')
+MARKED = {'erase': ('fail', 'most', 'status', 'unread'), 'program': ('fail', 'musl', 'torn', 'killed', 'flip')}
+# What goes wrong with the writes after a failure, counted from it: what is written then, and the lines. First if it is
+# no fault of the eraseblock.
+ERASED, PROGRAMMED = 'erase {p}', 'program {at} {peb}'
+AFTER_FAILURES = (
+    (({}, (), ()),),
+    (
+        ({1: 'fail'}, (ERASED, 'mark {p}'), ('eraseblock {p} is marked as bad now: take a new dump, with --bb=padbad, '
+            'list it in --bad, and plan again',)),
+        ({2: 'fail'}, (ERASED, PROGRAMMED, 'mark {p}'), ('eraseblock {p} is marked as bad now: take a new dump, with '
+            '--bb=padbad, list it in --bad, and plan again',)),
+        ({}, (ERASED, PROGRAMMED, ERASED), ("eraseblock {p} isn't marked as bad: nandtest could erase and program it, "
+            'and it is blank now. Take a new dump and plan again',)),
+        ({1: 'stuck', 3: 'fail'}, (ERASED, 'mark {p}', ERASED), ("eraseblock {p} can't be marked as bad: attach and "
+            'detach the chip once, take a new dump, list it in --bad, and plan again',)),
+    ),
+)
 # The plans that end after each step and whose writes go wrong: those of the first in each way, those of the others in
 # one.
 STEPPED = ('peb 8192 used mapped', 'peb 512 clean rename', 'spare change')
@@ -178,6 +201,24 @@ class Plan:
         size = self.sub if rest[0] == 0 else page
         changed = [part for part in range(0, page, size) if old[part : part + size] != new[part : part + size]]
         return [f'program {at + part} {size}' for part in changed]
+
+    def file(self, stop=None, image=None, **first):
+        """The plan file of a dump, with the pages of the first steps, and other numbers in its first line."""
+        geometry, image = self.geometry, self.image if image is None else image
+        peb, vid = geometry.peb, geometry.vid
+        touched = sorted({step[1] for step in self.steps})
+        pages = self.pages_of(self.count if stop is None else stop)
+        numbers = {
+            'plan': 1, 'peb': peb, 'page': geometry.page, 'vid': vid, 'data': geometry.data,
+            'blocks': len(image) // peb, 'steps': self.count, 'touched': len(touched),
+            'pages': len(pages) // geometry.page,
+        } | first
+        lines = [f'plan {numbers.pop("plan")} ' + ' '.join(f'{name}={value}' for name, value in numbers.items())]
+        lines += self.text.splitlines()[1:]
+        for p in touched:
+            ec, header = (image[at : at + 64].hex() for at in (p * peb, p * peb + vid))
+            lines.append(f'block={p} ec={ec} vid={header}')
+        return ''.join(f'{line}\n' for line in lines).encode() + pages
 
     def all_writes(self, first=1, last=None):
         """The step and the line of each write of some steps."""
@@ -318,7 +359,7 @@ class Chip:
     turns = itertools.count()
 
     def __init__(self, folder, script, plan):
-        self.folder, self.script, self.plan = folder, script, plan
+        self.folder, self.script = folder, script
         shutil.rmtree(folder, ignore_errors=True)
         self.chip, self.root, self.scratch = folder / 'the chip', folder / 'root', folder / 'scratch'
         self.mtd = self.root / 'sys/class/mtd/mtd0'
@@ -336,10 +377,17 @@ class Chip:
         (self.root / 'sys/class/ubi/version').write_text('1\n')
         (self.chip / 'blank').write_bytes(b'\xFF' * geometry.peb)
         self.device = self.chip / 'mtd0'
-        self.files = {'plan': plan.text.encode(), 'pages': plan.pages_of(plan.count), 'dump': plan.image}
+        self.take(plan)
+        self.fill(plan.image)
+
+    def take(self, plan):
+        """Writes the files of a plan."""
+        self.plan = plan
+        self.files = {
+            'plan': plan.text.encode(), 'pages': plan.pages_of(plan.count), 'dump': plan.image, 'file': plan.file(),
+        }
         for name, data in self.files.items():
             self.put(name, data)
-        self.fill(plan.image)
 
     def say(self, name, value):
         (self.mtd / name).write_text(f'{value}\n')
@@ -366,11 +414,17 @@ class Chip:
         return self.device.read_bytes()
 
     def words(self, *options, **others):
+        """The words of the script. With neither a dump nor a plan file they have -n."""
         named = {
             'device': self.device, 'plan': self.folder / 'plan', 'pages': self.folder / 'pages',
             'peb': self.plan.geometry.peb, 'page': self.plan.geometry.page,
         } | others
-        return [*map(str, options), *map(str, named.values())]
+        alone = () if '-d' in options else ('-n',)
+        return [*alone, *map(str, options), *map(str, named.values())]
+
+    def file_words(self, *options):
+        """The words with a plan file."""
+        return [*map(str, options), str(self.device), str(self.folder / 'file')]
 
     def environment(self):
         """The variables of the script and of the fakes."""
@@ -407,6 +461,9 @@ class Chip:
     def run(self, *options, **others):
         return self.end(self.start(self.words(*options, **others)))
 
+    def run_file(self, *options):
+        return self.end(self.start(self.file_words(*options)))
+
     def expect(self, ran, status, image, log, err=''):
         """Compares a run with what it has to do: its status, the chip after it, its writes, and its line to standard
         error."""
@@ -434,7 +491,7 @@ class Cases:
 
     def __init__(self, folder, script, tool):
         self.folder, self.script = folder, script
-        self.plans = {plan.name: plan for plan in plans()}
+        self.plans, self.turns = {plan.name: plan for plan in plans()}, itertools.count()
         self.program = Program(tool, folder) if tool else None
 
     def chip(self, name='peb 8192 used mapped'):
@@ -453,16 +510,24 @@ class Cases:
         for plan in self.plans.values():
             if self.program:
                 yield f'plan: {plan.name}', lambda plan=plan: self.program.compare(plan)
-            yield f'whole: {plan.name}', lambda plan=plan: self.whole(plan)
+        for k, plan in enumerate(self.plans.values()):
+            yield f'whole: {plan.name}', lambda plan=plan, k=k: self.whole(plan, by_file=k % 2)
         for plan in map(self.plans.get, STEPPED):
-            yield f'steps: {plan.name}', lambda plan=plan: self.one_by_one(plan)
+            yield f'steps: {plan.name}', lambda plan=plan: self.one_by_one(plan, by_file=plan.name == STEPPED[1])
             for n in range(1, plan.count + 1):
                 for number, line in enumerate(plan.writes(n), 1):
                     ways = list(ERASES if line.startswith('erase') else PROGRAMS)
                     for how in ways if plan.name == STEPPED[0] else ways[n % len(ways) :][: n % 2]:
                         yield (f'fault: {plan.name}, write {number} of step {n}, {how}',
                             lambda plan=plan, n=n, number=number, how=how: self.fault(plan, n, number, how))
-        for name, test in self.refusals():
+        plan = self.plans[STEPPED[0]]
+        yield f'steps, by a plan file: {plan.name}', lambda: self.one_by_one(plan, by_file=True)
+        for k, (n, line) in enumerate(plan.all_writes()):
+            word, number = line.split()[0], 1 + [m for m, _ in plan.all_writes()[:k]].count(n)
+            for how in MARKED[word] if k < 2 else ('fail',):
+                yield (f'marked: write {number} of step {n}, {how}',
+                    lambda n=n, number=number, how=how, k=k: self.marked(plan, n, number, how, k))
+        for name, test in (*self.refusals(), *self.refusals_of_files()):
             yield f'refused: {name}', test
         for name, test in vars(Cases).items():
             if name.startswith('try_'):
@@ -470,31 +535,46 @@ class Cases:
 
     # Whole plans, single steps and faults.
 
-    def whole(self, plan):
+    def whole(self, plan, by_file):
         chip = Chip(self.folder / 'a chip', self.script, plan)
-        ran = chip.run('-c', '-d', 'dump')
+        ran = chip.run('-c', '-d', 'dump') if by_file else chip.run_file('-c')
         chip.expect(ran, 0, plan.image, [])
+        expect(ran.out == self.checked(chip), f'-c prints {ran.out!r}')
+        options = ('-d', 'dump') if 'clean' in plan.name else ()
+        self.expect_whole(chip, chip.run_file(*options) if by_file else chip.run(*options))
+
+    def checked(self, chip):
+        """The line after all that is looked at."""
+        plan = chip.plan
         blocks = len(plan.image) // plan.geometry.peb
-        first = (f'checked: {chip.device}, {blocks} eraseblocks, {len(plan.bad)} bad; '
-                 f'{plan.count} steps, {len(plan.pages)} pages\n')
-        expect(ran.out == first, f'-c prints {ran.out!r}')
-        ran = chip.run(*(('-d', 'dump') if 'clean' in plan.name else ()))
+        return (f'checked: {chip.device}, {blocks} eraseblocks, {len(plan.bad)} bad; '
+                f'{plan.count} steps, {len(plan.pages)} pages\n')
+
+    def expect_whole(self, chip, ran):
+        """Compares a run of the whole plan with what it has to print and to do."""
+        plan = chip.plan
         chip.expect(ran, 0, plan.after[-1], [line for _, line in plan.all_writes()])
         lines = ran.out.splitlines(True)
         expect(len(lines) == plan.count + 2, f'it prints {ran.out!r}')
-        expect(lines[0] == first and lines[-1] == f'done: {plan.count} steps\n', f'it prints {ran.out!r}')
+        expect(lines[0] == self.checked(chip) and lines[-1] == f'done: {plan.count} steps\n', f'it prints {ran.out!r}')
         for n in range(1, plan.count + 1):
             expect(lines[n].startswith(f'step {n}: {plan.line(n)}: '), f'step {n} prints {lines[n]!r}')
             expect((': has its bytes' in lines[n]) == (not plan.writes(n)), f'step {n} prints {lines[n]!r}')
 
-    def one_by_one(self, plan):
-        """Ends after each step, and goes on with the next. Now and then PAGES has only the pages of the steps up to
+    def one_by_one(self, plan, by_file):
+        """Ends after each step, and goes on with the next. Now and then there are only the pages of the steps up to
         there."""
         chip = Chip(self.folder / 'a chip', self.script, plan)
         meant = []
         for k in range(1, plan.count + 1):
-            chip.put('pages', plan.pages_of(k if k % 2 else plan.count))
-            ran = chip.run(*(('-s', k) if k > 1 else ()), '-e', k, *(('-d', 'dump') if k % 3 else ()))
+            options = (*(('-s', k) if k > 1 else ()), '-e', k, *(('-d', 'dump') if k % 3 else ()))
+            stop = min(plan.count, (k, k + 1, plan.count)[k % 3])
+            if by_file:
+                chip.put('file', plan.file(stop))
+                ran = chip.run_file(*options)
+            else:
+                chip.put('pages', plan.pages_of(stop if k % 3 != 1 else plan.count))
+                ran = chip.run(*options)
             chip.expect(ran, 0, plan.after[k], [line for _, line in plan.all_writes(1, k)])
             ended = f'ended after step {k} of {plan.count}\n' if k < plan.count else f'done: {plan.count} steps\n'
             expect(ran.out.endswith(f'\n{ended}') and ran.out.count('\n') == 3, f'it prints {ran.out!r}')
@@ -506,8 +586,9 @@ class Cases:
         chip = Chip(self.folder / 'a chip', self.script, plan)
         chip.fill(plan.after[n - 1])
         chip.set('fault', f'{number} {how}')
-        options = (*(('-s', n) if n > 1 else ()), '-d', 'dump')
-        ran = chip.run(*options)
+        options = ('-s', n) if n > 1 else ()
+        words = chip.file_words(*options) if n % 2 else chip.words(*options, '-d', 'dump')
+        ran = chip.end(chip.start(words))
         word, p, *page = plan.steps[n - 1]
         what = (ERASES if word == 'erase' else PROGRAMS)[how]
         named = (rf'carry_out: step {n} of {plan.count} \({plan.line(n)}\) failed: .*{re.escape(what)}.*'
@@ -527,10 +608,48 @@ class Cases:
         chip.set('fault', '0 -')
         chip.set('log')
         if how in HARMLESS:
-            ran = chip.run(*(options if n > 1 or data == plan.image else ()), '-e', n)
+            words = words if n > 1 or data == plan.image else chip.words()
+            ran = chip.end(chip.start(['-e', str(n), *words]))
             chip.expect(ran, 0, plan.after[n], plan.writes(n)[number - 1 if word == 'program' else 0 :])
         elif how in ('torn', 'broken', 'flip') and n > 1:
-            chip.expect_refused(f'eraseblock {p} ', *options)
+            chip.expect_refused(f'eraseblock {p} ', words=words)
+
+    def marked(self, plan, n, number, how, turn):
+        """Begins with step N, in which a write goes wrong, with -m. What nandtest does then goes wrong as well, or not.
+        Now and then a new plan is carried out after that."""
+        chip = Chip(self.folder / 'a chip', self.script, plan)
+        peb, p, writes = plan.geometry.peb, plan.steps[n - 1][1], plan.writes(n)[:number]
+        ways = AFTER_FAILURES[how in AT_FAULT]
+        for again, (faults, tried, line) in enumerate(ways if how == 'fail' and turn < 2 else [ways[turn % len(ways)]]):
+            chip.fill(plan.after[n - 1])
+            chip.set('fault', f'{number} {how}', *(f'{number + k} {word}' for k, word in faults.items()))
+            options = ('-m', *(('-s', n) if n > 1 else ()))
+            words = chip.file_words(*options) if again % 2 else chip.words(*options, '-d', 'dump')
+            ran = chip.end(chip.start(words))
+            expect(ran.status == 1, f'not status 1 but {ran}')
+            failed, *then = [text for text in ran.err.splitlines() if text.startswith('carry_out: ')]
+            expect(failed.startswith(f'carry_out: step {n} of {plan.count} ({plan.line(n)}) failed: '), f'{ran}')
+            expect(then == [f'carry_out: {text.format(p=p)}' for text in line], f'not {line!r} but {ran}')
+            wanted = [*writes, *(text.format(p=p, at=p * peb, peb=peb) for text in tried)]
+            expect(ran.log == wanted, f'it writes {ran.log} and not {wanted}')
+            data, old = bytearray(chip.data()), plan.with_bad(plan.after[n - 1])
+            at, end = p * peb, (p + 1) * peb
+            expect(data[:at] == old[:at] and data[end:] == old[end:], 'another place of the chip has changed')
+            marks = set((chip.chip / 'bad').read_text().split()) - set(map(str, plan.bad))
+            is_marked = f'mark {p}' in ran.log and 'stuck' not in faults.values()
+            expect(marks == ({str(p)} if is_marked else set()), f'{marks} are marked')
+            if how not in AT_FAULT:
+                continue
+            is_blank = data[at:end] == b'\xFF' * peb
+            expect(marks or 'stuck' in faults.values() or is_blank, 'the eraseblock is not blank')
+            # what the kernel reads: nothing of a bad eraseblock
+            for bad in (*plan.bad, p):
+                data[bad * peb : (bad + 1) * peb] = b'\xFF' * peb
+            self.look(plan, bytes(data), f'marked at step {n}')
+            if marks and how == 'fail' and not again:
+                made = change_of('planned again', plan.geometry, plan.sub, bytes(data), sorted({*plan.bad, p}))
+                self.carry_out(Chip(chip.folder, self.script, made), '-d', 'dump')
+                chip = Chip(chip.folder, self.script, plan)
 
     # Refusals.
 
@@ -708,7 +827,8 @@ class Cases:
         yield 'bits of the dump that ECC cannot correct', of('uncorrectable', '-d', 'dump',
             change=lambda chip: chip.set('unread', other * 4 + 1))
         for k in (1, 2, 3):
-            yield f'begun up to step {k}, with the dump', of('take a new dump', '-d', 'dump', change=done(k))
+            yield f'begun up to step {k}, with the dump', of('take a new dump' if k == 1 else 'has been begun already',
+                '-d', 'dump', change=done(k))
         for k in range(2, plan.count + 1):
             yield f'begun up to step {k}, without it', of('has been begun already', change=done(k))
         yield 'begun, and the first page not blank', of('has been begun already',
@@ -753,6 +873,210 @@ class Cases:
         yield 'a nanddump that is too old', of('no --bb=dumpbad', change=lambda chip: stub(chip, 'nanddump'))
         yield 'a flash_erase that is too old', of('has no -N', change=lambda chip: stub(chip, 'flash_erase'))
 
+    def refusals_of_files(self):
+        """Each refusal of a plan file: its name, and its test."""
+        name = 'peb 8192 used mapped'
+        plan = self.plans[name]
+        geometry, pages, count = plan.geometry, plan.pages_of(plan.count), plan.count
+        lines = plan.file()[: -len(pages)].decode().splitlines()
+        headers = range(1 + count, len(lines))
+        peb, vid, taken, given_up = geometry.peb, geometry.vid, plan.steps[0][1], plan.steps[-1][1]
+        other = next(p for p in range(10) if p not in (taken, given_up, *plan.bad))
+
+        def of(line, data=None, *options, change=None, of_plan=name):
+            def test():
+                chip = self.chip(of_plan)
+                if data is not None:
+                    chip.put('file', data)
+                if change:
+                    change(chip)
+                chip.expect_refused(line, words=chip.file_words(*options))
+            return test
+
+        def joined(changed, more=b''):
+            return ''.join(f'{line}\n' for line in changed).encode() + pages + more
+
+        def with_line(k, line):
+            return joined([*lines[:k], line, *lines[k + 1 :]])
+
+        def with_headers(changed):
+            """Other lines of eraseblocks, and their number in the first line."""
+            first = lines[0].replace('touched=2', f'touched={len(changed)}')
+            return joined([first, *lines[1 : 1 + count], *changed])
+
+        def flipped(p, at, done=0):
+            """Changes a bit of an eraseblock of the chip, as some steps leave it."""
+            def change(chip):
+                data = bytearray(plan.after[done])
+                data[p * peb + at] ^= 1
+                chip.fill(bytes(data))
+            return change
+
+        def pipe(chip):
+            (chip.folder / 'file').unlink()
+            os.mkfifo(chip.folder / 'file')
+
+        yield 'no plan file', of('is no ordinary file', change=lambda chip: (chip.folder / 'file').unlink())
+        yield 'a plan file that is a pipe', of('is no ordinary file', change=pipe)
+        for what, data in (('empty', b''), ('a plan', plan.text.encode()), ('pages', pages), ('a dump', plan.image)):
+            yield f'a plan file that is {what}', of('is no plan file', data)
+        for version in ('2', '0', '10', '01'):
+            yield f'a plan file of version {version}', of('is of another version: take the carry_out.sh of the program '
+                'that made it', plan.file(plan=version))
+        first = lines[0].split()
+        values = {
+            '': 'line 1 of the plan: not', 'x': 'line 1 of the plan: not', '-1': 'bytes that no plan has',
+            '01': "isn't a number: '01'", '9' * 11: f"isn't a number: '{'9' * 11}'",
+        }
+        for k in range(2, len(first)):
+            before, word, behind = first[:k], first[k], first[k + 1 :]
+            for changed in (before + behind, before + [word, word] + behind, [*before[:-1], word, before[-1], *behind]):
+                line = 'line 1 of the plan: not' if changed[1] == '1' else 'is no plan file'
+                yield f'a plan file with {" ".join(changed)}', of(line, joined([' '.join(changed), *lines[1:]]))
+            for value in list(values)[k % 4 :][:2]:
+                name_of = word.partition('=')[0]
+                yield f'a plan file with {name_of}={value}', of(values[value], plan.file(**{name_of: value}))
+        yield 'a plan file whose first line goes on', of('line 1 of the plan: not',
+            joined([f'{lines[0]} more=1', *lines[1:]]))
+        for wrong, line in (({'peb': 4096}, 'has 8192 bytes, not 4096'), ({'page': 1024}, 'has 2048 bytes, not 1024'),
+                            ({'page': 3000}, "isn't whole pages of 3000"), ({'page': 0}, 'a page has no bytes'),
+                            ({'vid': 500}, 'header at byte 500'), ({'vid': 0}, 'header at byte 0'),
+                            ({'vid': 1985}, 'header at byte 1985'), ({'vid': 2048}, 'header at byte 2048'),
+                            ({'data': 8192}, 'contents at 8192'), ({'data': 512}, 'contents at 512'),
+                            ({'data': 3000}, 'contents at 3000')):
+            yield f'a plan file with {wrong}', of(line, plan.file(**wrong))
+        for n, line in ((9, 'take the dump with --bb=padbad'), (11, 'it is the dump of another device'),
+                        (0, 'take the dump with --bb=padbad')):
+            yield f'a plan file of {n} eraseblocks', of(f'the plan is of a dump of {n} eraseblocks, and {{}} has 10: '
+                f'{line}'.format(self.folder / 'a chip/the chip/mtd0'), plan.file(blocks=n))
+        yield 'a plan file of more eraseblocks than the device has', of('it is the dump of another device',
+            plan.file(blocks=11), '-d', 'dump')
+        others = {
+            'steps': ((0, 'the plan has no steps'), (count + 1, 'bytes that no plan has'),
+                (9999999999, 'it was cut short'), (count - 1, 'something follows its pages')),
+            'touched': ((3, 'bytes that no plan has'), (1, 'something follows its pages'),
+                (9999999999, 'it was cut short')),
+            'pages': ((len(plan.pages) + 1, 'it was cut short'), (len(plan.pages) - 1, 'something follows its pages'),
+                (0, 'something follows its pages'), (9999999999, 'it was cut short')),
+        }
+        for word, wrongs in others.items():
+            for value, line in wrongs:
+                yield f'a plan file with another number of {word}, {value}', of(line, plan.file(**{word: value}))
+        yield 'a plan file with a step too few and a line of headers too many', of(f'line {count + 1} of the plan: not '
+            '`block=P ec=HEX vid=HEX` with 128 digits each', plan.file(steps=count - 1, touched=3))
+        yield 'a plan file with a step too many and a line of headers too few', of(
+            f'line {count + 2} of the plan: no step', plan.file(steps=count + 1, touched=1))
+        yield 'a plan file with a page too many', of(f'has {len(plan.pages) + 1} pages, and programs {len(plan.pages)}',
+            plan.file(pages=len(plan.pages) + 1) + bytes(2048))
+        yield 'a plan file of --stop', of('the pages of its first steps alone', plan.file(stop=count - 1))
+        yield 'a plan file of --stop, and -e behind that', of('the pages of its first steps alone',
+            plan.file(stop=3), '-e', 4)
+        yield 'a plan file with a byte more', of('something follows its pages', joined(lines, b'x'))
+        yield 'a plan file twice', of('something follows its pages', joined(lines) * 2)
+        of_small = self.plans['peb 512 clean mapped']
+        small, text = of_small.file(), len(of_small.file()) - len(of_small.pages_of(of_small.count))
+        ends = [k + 1 for k in range(text) if small[k] == 10]
+        for cut in sorted({5, 7, 40, *(end + k for end in ends for k in (-1, 0)), len(small) - 64, len(small) - 1}):
+            line = {5: 'is no plan file', 7: 'line 1 of the plan: not', 40: 'line 1 of the plan: not'}
+            line = line.get(cut, 'it was cut short')
+            yield f'a plan file cut to {cut} bytes', of(line, small[:cut], of_plan=of_small.name)
+        for k, line in ((0, lines[0]), (2, lines[2]), (len(lines) - 1, lines[-1])):
+            yield f'a plan file with a line end of DOS in line {k + 1}', of('line ends of DOS',
+                with_line(k, line + '\r'))
+        yield 'a plan file with a zero byte', of('bytes that no plan has', with_line(2, lines[2] + '\0'))
+        yield 'a plan file with a wrong step', of('line 2 of the plan: no step', with_line(1, 'erase block=x'))
+        yield 'a plan file with an eraseblock too far', of('the dump has 10 eraseblocks',
+            with_line(1, 'erase block=10'))
+        last = max(step[1] for step in plan.steps)
+        yield 'a plan file of a part, with an eraseblock behind it', of(f'the dump has {last} eraseblocks',
+            plan.file(blocks=last), '-d', 'dump')
+        low, high = (lines[k] for k in headers)
+        named = [line.split()[0][6:] for line in (low, high)]
+        missing = "a step touches eraseblock {}, and its headers are missing"
+        for what, changed, k, line in (
+            ('without the first headers', [high], 0, missing.format(named[0])),
+            ('without the last headers', [low], 1, missing.format(named[1])),
+            ('without headers', [], 0, missing.format(named[0])),
+            ('with headers twice', [low, low, high], 1, f'eraseblock {named[0]} stands after {named[0]}'),
+            ('with the last headers twice', [low, high, high], 2, f'eraseblock {named[1]} stands after {named[1]}'),
+            ('with headers that fall', [high, low], 0, missing.format(named[0])),
+            ('with headers that nothing touches', [low.replace(named[0], '0', 1), low, high], 0,
+                'no step touches eraseblock 0'),
+            ('with headers behind the last', [low, high, high.replace(named[1], '9' * 30, 1)], 2,
+                f'no step touches eraseblock {"9" * 30}'),
+            ('with headers of another eraseblock', [low, high.replace(named[1], '9', 1)], 1, missing.format(named[1])),
+        ):
+            yield f'a plan file {what}', of(f'line {count + 2 + k} of the plan: {line}', with_headers(changed))
+        for what, changed in (('a zero before', low.replace('=', '=0', 1)), ('too few digits', low[:-1]),
+                ('too many digits', low + '0'), ('a letter', low[:-1] + 'g'),
+                ('no second header', low.rpartition(' ')[0]), ('two blanks', low.replace(' ', '  ', 1)),
+                ('a digit too many in the first', f'{low[:-133]}0 vid={low[-127:]}'),
+                ('a digit too few in the first', f'{low[:-134]} vid=0{low[-128:]}')):
+            yield f'a plan file, headers with {what}', of(f'line {count + 2} of the plan: not `block=P ec=HEX',
+                with_headers([changed, high]))
+        yield 'a plan file, headers in capitals', of('bytes that no plan has', with_headers([low, high.upper()]))
+        # what the chip holds
+        line = "eraseblock {} of {} isn't that of the plan: take a new dump and plan again"
+        device = self.folder / 'a chip/the chip/mtd0'
+        for p, at in itertools.product((taken, given_up), (0, 63, vid, vid + 63)):
+            yield f'other headers, byte {at} of eraseblock {p}', of(line.format(p, device), change=flipped(p, at))
+            if p == given_up:
+                yield f'continued, and other headers, byte {at}', of(line.format(p, device), None, '-s', 3,
+                    change=flipped(p, at, 2))
+                yield f'continued with the erase, and other headers, byte {at}', of(f'eraseblock {p} of', None, '-s',
+                    count - 1, change=flipped(p, at, count - 2))
+        for k in headers:
+            for at in (lines[k].index('ec=') + 3, lines[k].index(' vid='), lines[k].index('vid=') + 4, len(lines[k])):
+                at -= at in (lines[k].index(' vid='), len(lines[k]))
+                digit = '0' if lines[k][at] != '0' else '1'
+                yield f'another digit at {at} of line {k + 1}', of(line.format(named[k - count - 1], device),
+                    with_line(k, lines[k][:at] + digit + lines[k][at + 1 :]))
+        yield 'an erased eraseblock', of(line.format(given_up, device),
+            change=lambda chip: chip.fill(rules.after(geometry, plan.image, [('erase', given_up)])))
+        yield 'begun with an erase, by a plan file', of(line.format(taken, device),
+            change=lambda chip: chip.fill(plan.after[1]))
+        for k in range(2, count + 1):
+            yield f'begun up to step {k}, by a plan file', of('has been begun already',
+                change=lambda chip, k=k: chip.fill(plan.after[k]))
+        for k in range(1, count):
+            if plan.writes(k + 1):
+                yield f'-s {k + 2} after step {k}, by a plan file', of("isn't as the steps before step", None,
+                    '-s', k + 2, change=lambda chip, k=k: chip.fill(plan.after[k]))
+        for p, page in itertools.product((taken, given_up), (0, 1, 3)):
+            unread = (lambda chip, at=p * 4 + page: chip.set('unread', at))
+            for options in ((), ('-u',), ('-u', '-d', 'dump')):
+                yield f'page {page} of eraseblock {p} cannot be read, by a plan file {options}', of(
+                    f"eraseblock {p} of {device} can't be read, and the plan touches it: ECC: 1 uncorrectable", None,
+                    *options, change=unread)
+        for p in (taken, given_up):
+            yield f'eraseblock {p} is bad, by a plan file', of(f'the plan names eraseblock {p}, which is BAD: it went '
+                "bad since the dump, or wasn't listed with --bad", change=lambda chip, p=p: chip.set('bad', p))
+        yield 'a plan file, and another byte elsewhere', of(f"eraseblock {other} of {device} isn't that of dump", None,
+            '-d', 'dump', change=flipped(other, 1000))
+        image = image_of(dataclasses.replace(geometry, pebs=31), LAYOUTS['used'])
+        sister = change_of('sister', geometry, plan.sub, image, plan.bad)
+        yield 'the plan file of a sister chip', of(line.format(given_up, device), sister.file())
+        renamed = self.plans['peb 8192 used rename']
+        yield 'the plan file of an older dump', of("isn't that of the plan",
+            change=lambda chip: chip.fill(renamed.after[-1]))
+        unused = self.plans['peb 8192 clean mapped']
+        place = unused.steps[0][1]
+        image = unused.image[: place * peb] + rules.put_ec(geometry, 99, 7) + unused.image[place * peb + 64 :]
+        sister = change_of('sister', geometry, plan.sub, image, unused.bad)
+        yield 'a plan file with the pages of a sister chip', of(f'finds bytes in page 0 of eraseblock {place}',
+            unused.file(stop=0, pages=len(unused.pages)) + sister.pages_of(sister.count), of_plan=unused.name)
+        yield '-n and a plan file', of('-n compares nothing', None, '-n')
+        # what the plan is compared with
+        for options, line in (((), 'or -n to compare nothing'), (('-n', '-d', 'dump'), '-n compares nothing'),
+                              (('-m', '-n'), 'give -d DUMP, not -n'), (('-u',), 'or -n to compare nothing'),
+                              (('-s', '2'), 'or -n to compare nothing')):
+            yield f'options {options}', lambda options=options, line=line: self.expect_options(line, *options)
+
+    def expect_options(self, line, *options):
+        """Refuses a plan with these options alone."""
+        chip = self.chip()
+        chip.expect_refused(line, words=[*options, *chip.words('-d', 'dump')[2:]])
+
     # The anchor of a fastmap, a boot loader, and eraseblocks with large numbers.
 
     def made(self, layout, of=None, which=0, before=0, bad=(), change=None):
@@ -764,17 +1088,27 @@ class Cases:
         plan = (of or change_of)(layout, geometry, sub, data, bad, before=before)
         return Chip(self.folder / 'a chip', self.script, plan)
 
-    def carry_out(self, chip, *options):
-        """Carries the whole plan out, after which the chip means the new."""
+    def carry_out(self, chip, *options, erased=False):
+        """Carries the whole plan out, in turn by a plan file, after which the chip means the new. ERASED: it has erased
+        the anchor of a fastmap, and says so."""
         plan = chip.plan
-        chip.expect(chip.run(*options), 0, plan.after[-1], [line for _, line in plan.all_writes()])
+        ran = chip.run_file(*options) if next(self.turns) % 2 else chip.run(*options)
+        chip.expect(ran, 0, plan.after[-1], [line for _, line in plan.all_writes()])
+        self.expect_fastmap(chip, ran, erased)
         expect(self.look(plan, plan.after[-1], 'done'), 'the chip means the old')
+
+    def expect_fastmap(self, chip, ran, erased):
+        """The line before the last says that there is no fastmap, if its anchor was erased."""
+        line = f'{chip.device} has no fastmap now, until a kernel that writes one detaches it'
+        expect((line in ran.out.splitlines()[-2:-1]) == erased == ('fastmap' in ran.out), f'it prints {ran.out!r}')
 
     def expect_anchor(self, chip, p, *options):
         peb = chip.plan.geometry.peb
         line = (f"eraseblock {p} of {chip.device} holds the anchor of a fastmap, and the plan doesn't erase it before "
                 f'all else: erase it (flash_erase -N {chip.device} {p * peb} 1), take a new dump, and plan again')
-        chip.expect_refused(line, *options)
+        in_turn = chip.words(*options), chip.file_words(*options)
+        for words in in_turn if len(chip.plan.image) < 32 * peb else in_turn[next(self.turns) % 2 :][:1]:
+            chip.expect_refused(line, words=words)
 
     def try_lines_of_volumes(self):
         """The lines of the volumes that `update` writes stand before the steps, and say nothing to the script."""
@@ -805,14 +1139,34 @@ class Cases:
     def try_anchors_that_are_erased(self):
         """The plan erases the anchor by its first step, and may be cut there."""
         for which in range(len(SIZES)):
-            self.carry_out(self.made(f'{FULL} anchor free', which=which), *(('-d', 'dump') if which else ()))
+            options = ('-d', 'dump') if which else ()
+            self.carry_out(self.made(f'{FULL} anchor free', which=which), *options, erased=True)
         chip = self.made(f'{FULL} anchor free')
         plan = chip.plan
         expect(plan.steps[0] == ('erase', 5), f'the plan begins with {plan.steps[0]}')
-        for first, last in ((1, 1), (2, plan.count - 1), (plan.count, plan.count)):
-            chip.set('log')
-            ran = chip.run('-s', first, '-e', last, *(('-d', 'dump') if first > 2 else ()))
-            chip.expect(ran, 0, plan.after[last], [line for _, line in plan.all_writes(first, last)])
+        for by_file in (False, True):
+            chip.fill(plan.image)
+            for first, last in ((1, 1), (2, plan.count - 1), (plan.count, plan.count)):
+                chip.set('log')
+                options = ('-s', first, '-e', last, *(('-d', 'dump') if first > 2 else ()))
+                ran = chip.run_file(*options) if by_file else chip.run(*options)
+                chip.expect(ran, 0, plan.after[last], [line for _, line in plan.all_writes(first, last)])
+                # without the dump nothing shows what an eraseblock was that is erased
+                self.expect_fastmap(chip, ran, by_file or first != 2)
+
+    def try_one_of_two_anchors(self):
+        """As long as one is left there may be a fastmap."""
+        made = self.made(f'{FULL} anchor anchor').plan
+        steps = rules.Plan(rules.Image(made.geometry, made.image))
+        steps.renew(5)
+        steps.renew(6)
+        plan = Plan('both', made.geometry, made.sub, made.image, steps, ())
+        chip = Chip(self.folder / 'a chip', self.script, plan)
+        for last, erased in ((1, False), (2, False), (3, True), (4, True)):
+            chip.fill(plan.image)
+            ran = chip.run_file('-e', last) if last % 2 else chip.run('-e', last)
+            chip.expect(ran, 0, plan.after[last], [line for _, line in plan.all_writes(1, last)])
+            self.expect_fastmap(chip, ran, erased)
 
     def try_anchors_that_are_erased_late(self):
         """Something is written before the last anchor is erased. A cut in between would leave it."""
@@ -879,6 +1233,26 @@ class Cases:
                 line = f"eraseblock {cut.steps[0][1]} of {chip.device} has no header of UBI, and isn't blank"
                 for options in ((), ('-d', 'dump')):
                     chip.expect_refused(line, *options)
+                chip.put('file', cut.file())
+                whole_blocks, blocks = (len(image) // geometry.peb for image in (whole, cut.image))
+                said = f'the plan is of a dump of {blocks} eraseblocks, and {chip.device} has {whole_blocks}'
+                chip.expect_refused(f'{said}: take the dump with --bb=padbad', words=chip.file_words())
+                first = min(step[1] for step in cut.steps)
+                chip.expect_refused(f"eraseblock {first} of {chip.device} isn't that of the plan",
+                    words=chip.file_words('-d', 'dump'))
+        # a part of the whole chip's dump
+        chip.put('file', chip.plan.file(blocks=whole_blocks - 1))
+        self.expect_whole(chip, chip.run_file('-d', 'dump'))
+
+    def try_a_chain(self):
+        """A plan that is made from the image after another one, which is then in the place of a dump."""
+        chip = self.chip()
+        for of in (rename_of, change_of, None):
+            plan = chip.plan
+            chip.set('log')
+            chip.expect(chip.run('-d', 'dump'), 0, plan.after[-1], [line for _, line in plan.all_writes()])
+            if of:
+                chip.take(of('in a chain', plan.geometry, plan.sub, plan.after[-1], plan.bad))
 
     def try_a_part_at_an_odd_place(self):
         """The program plans nothing for a part that doesn't begin with an eraseblock of the file."""
@@ -907,9 +1281,9 @@ class Cases:
         chip.set('bad', bad[0], *bad[2:])
         chip.expect_refused(f'eraseblock {bad[1]} of', '-d', 'dump')
         chip.set('bad', *bad, 4101)
-        chip.expect_refused('eraseblock 4101 is bad, and', '-d', 'dump')
+        chip.expect_refused(f'eraseblock 4101 is bad, and dump has a header of UBI there', '-d', 'dump')
         chip.fill(chip.plan.image)
-        ran = chip.run('-d', 'dump')
+        ran = chip.run_file('-d', 'dump')
         chip.expect(ran, 0, chip.plan.after[-1], [line for _, line in chip.plan.all_writes()])
         expect(ran.out.startswith(f'checked: {chip.device}, 4102 eraseblocks, 4 bad; '), f'it prints {ran.out!r}')
 
@@ -918,9 +1292,12 @@ class Cases:
     def try_wrong_words(self):
         chip = self.chip()
         right = chip.words()
-        for words in ((), ('-h',), ('--help',), ('-x', *right), right[:-1], (*right, 'more'), ('-d',), ('-s',)):
+        file = chip.file_words()
+        for words in ((), ('-h',), ('--help',), ('-x', *right), right[:-1], (*right, 'more'), ('-d',), ('-s',), ('-m',),
+                      file[:1], (*file, 'more')):
             ran = chip.end(chip.start(list(words)))
             is_usage = '\nExit status: 0 done' in ran.err and ran.err.rstrip().endswith("busybox's.")
+            is_usage = is_usage and re.search(r'^(carry_out\.sh \[.*\n){2}\n', ran.err, re.M)
             expect(ran.status == 2 and is_usage and not ran.out, f'{words} give {ran}')
             expect(chip.data() == chip.held and not ran.log, f'{words} write something')
 
@@ -929,17 +1306,20 @@ class Cases:
         for shell in SHELLS_THERE[:1]:
             chip = self.chip()
             (chip.folder / 'a link').symlink_to(chip.device)
-            for name in ('dump', 'plan', 'pages'):
+            for name in ('dump', 'plan', 'pages', 'file'):
                 (chip.folder / name).rename(chip.folder / f'-e a=b *{name}')
             words = chip.words('-d', '-e a=b *dump', device='a link', plan='-e a=b *plan', pages='-e a=b *pages')
             # after -- they are no options
             ran = chip.end(chip.start([*words[:2], '--', *words[2:]], shell))
             chip.expect(ran, 0, chip.plan.after[-1], [line for _, line in chip.plan.all_writes()])
+            chip.fill(chip.plan.image)
+            ran = chip.end(chip.start(['--', 'a link', '-e a=b *file'], shell))
+            chip.expect(ran, 0, chip.plan.after[-1], [line for _, line in chip.plan.all_writes()])
 
     def try_each_shell(self):
         for shell in SHELLS_THERE:
             chip = self.chip('spare change')
-            ran = chip.end(chip.start(chip.words('-d', 'dump'), shell))
+            ran = chip.end(chip.start(chip.file_words('-d', 'dump'), shell))
             chip.expect(ran, 0, chip.plan.after[-1], [line for _, line in chip.plan.all_writes()])
 
     def try_corrected_bits(self):
@@ -956,13 +1336,99 @@ class Cases:
         ran = chip.run('-d', 'dump')
         chip.expect(ran, 0, chip.plan.after[-1], [line for _, line in chip.plan.all_writes()])
 
+    def try_eraseblocks_that_cannot_be_read(self):
+        """-u passes over them and says which, unless the plan touches them."""
+        chip = self.chip()
+        plan = chip.plan
+        touched = {step[1] for step in plan.steps}
+        others = [p for p in range(10) if p not in touched and p not in plan.bad]
+        for shell, page in zip(itertools.cycle(SHELLS_THERE), (0, 1, 3)):
+            chip.fill(plan.image)
+            at = others[1] * 4 + page
+            chip.set('unread', at)
+            unread = f"eraseblock {others[1]} of {chip.device} can't be read"
+            why = f'ECC: 1 uncorrectable bitflip(s) at offset 0x{at * 2048:08x}'
+            line = f"{unread}: {why}. The plan doesn't touch it: -u passes over such eraseblocks"
+            chip.expect_refused(line, '-d', 'dump')
+            words = chip.file_words('-u', '-d', 'dump') if page == 1 else chip.words('-u', '-d', 'dump')
+            ran = chip.end(chip.start(words, shell))
+            said = f"carry_out: {unread}, and isn't compared: {why}\n"
+            chip.expect(ran, 0, plan.after[-1], [line for _, line in plan.all_writes()], said)
+        chip.fill(plan.image)
+        chip.set('unread', others[1] * 4)
+        chip.expect(chip.run_file(), 0, plan.after[-1], [line for _, line in plan.all_writes()])
+        # several, in runs and apart, the last page of the last one among them; and another byte in one that is compared
+        unread = (others[0], others[1], others[-1])
+        chip.fill(plan.image)
+        chip.set('unread', *(p * 4 + 3 for p in unread))
+        ran = chip.run('-c', '-u', '-d', 'dump')
+        said = re.findall(r"^carry_out: eraseblock (\d+) of .* can't be read, and isn't compared: ", ran.err, re.M)
+        expect(ran.status == 0 and said == list(map(str, unread)) and ran.err.count('\n') == 3, f'{ran}')
+        data = bytearray(chip.data())
+        data[others[2] * 8192 + 1000] ^= 1
+        chip.device.write_bytes(data)
+        ran = chip.run('-u', '-d', 'dump')
+        line = f"eraseblock {others[2]} of {chip.device} isn't that of dump: take a new dump"
+        expect(ran.status == 2 and line in ran.err and chip.data() == data and not ran.log, f'{ran}')
+        for p in touched:
+            chip.fill(plan.image)
+            chip.set('unread', p * 4 + 2)
+            line = f"eraseblock {p} of {chip.device} can't be read, and the plan touches it"
+            chip.expect_refused(line, '-u', '-d', 'dump')
+
+    def try_a_nanddump_that_fails(self):
+        """It isn't passed over: nothing was read."""
+        chip = self.chip()
+        whole = '#!/bin/sh\ncase "$*" in *" -f "* | *--help*) exec "$FAKES/nanddump" "$@" ;; esac\n'
+        stub(chip, 'nanddump', f'{whole}echo "nanddump: error!: mtd_read" >&2\nexit 1\n')
+        for options in ((), ('-u',)):
+            chip.expect_refused("can't be read: nanddump: error!: mtd_read", *options, '-d', 'dump')
+
+    def try_bad_ones_since_the_dump(self):
+        """What the dump has where an eraseblock is bad tells whether it was UBI's."""
+        for which in range(len(SIZES)):
+            geometry, sub = SIZES[which]
+            image = image_of(geometry, LAYOUTS['used'])
+            header = 'went bad since the dump, or that was made without --bb=padbad. Take a new dump, with --bb=padbad'
+            there = 'dump has bytes there: take a new dump, with --bb=padbad, and plan again'
+            vid = slice(3 * geometry.peb + geometry.vid, 3 * geometry.peb + geometry.vid + 64)
+            for data, line in (
+                (image, header), (without_magic(image, geometry, 3), header),
+                (without_magic(image[: vid.start] + bytes(64) + image[vid.stop :], geometry, 3), there),
+                (image[: vid.start] + bytes(64) + image[vid.stop :], header),
+            ):
+                plan = change_of('since', geometry, sub, data, (7, 9))
+                chip = Chip(self.folder / 'a chip', self.script, plan)
+                chip.set('bad', 3, *plan.bad)
+                chip.expect_refused(line, '-d', 'dump')
+
+    def try_marks(self):
+        """-m wants nandtest, which counts bytes in 32 bits."""
+        chip = self.chip()
+        (chip.mtd / 'size').write_text(f'{2**32}\n')
+        chip.expect_refused('nandtest takes no device of 4 GiB or more', '-m', '-d', 'dump')
+        chip.say('size', 2**32 - 8192)
+        chip.expect_refused('the plan is of a dump of 10 eraseblocks', words=chip.file_words('-m'))
+        chip = self.chip()
+        stub(chip, 'nandtest')
+        chip.expect_refused('there is no nandtest that has -m', '-m', '-d', 'dump')
+        ran = chip.run('-d', 'dump')
+        chip.expect(ran, 0, chip.plan.after[-1], [line for _, line in chip.plan.all_writes()])
+        chip = self.chip()
+        chip.set('fault', '1 lost')
+        ran = chip.run('-m', '-d', 'dump')
+        expect(ran.status == 1 and ran.log == chip.plan.writes(1), f'{ran}')
+        p = chip.plan.steps[0][1]
+        line = f"\ncarry_out: UBI has {chip.device} attached by now, so eraseblock {p} isn't marked as bad\n"
+        expect(ran.err.endswith(line) and ran.err.count('\n') == 2, f'{ran}')
+
     def try_a_step_that_may_be_done(self):
         """Going on with a step that has been done."""
         chip = self.chip('peb 8192 used unmapped')
         plan = chip.plan
         for n in (2, 3, 5, plan.count - 1, plan.count):
             chip.fill(plan.after[n])
-            ran = chip.run('-s', n, '-e', n, '-d', 'dump')
+            ran = chip.run_file('-s', n, '-e', n) if n % 2 else chip.run('-s', n, '-e', n, '-d', 'dump')
             chip.expect(ran, 0, plan.after[n], plan.writes(n) if plan.steps[n - 1][0] == 'erase' else [])
 
     def try_the_half_of_a_page(self):
@@ -980,6 +1446,7 @@ class Cases:
             expect(ran.status == 1 and ran.log == plan.writes(1), f'{ran}')
             chip.set('fault', '0 -')
             chip.set('log')
+            chip.expect_refused("eraseblock 10 of", words=chip.file_words())
             chip.expect(chip.end(chip.start(chip.words(), shell)), 0, plan.after[1], plan.writes(1)[1:])
 
     def try_an_erase_that_was_cut(self):
@@ -987,22 +1454,25 @@ class Cases:
         for name, page in itertools.product(('mapped', 'unmapped'), (0, 2)):
             chip = self.chip(f'peb 8192 used {name}')
             plan, n = chip.plan, chip.plan.count - 1
-            for options in (('-d', 'dump'), ()):
+            for words in (chip.words('-s', n, '-e', n, '-d', 'dump'), chip.words('-s', n, '-e', n),
+                          chip.file_words('-s', n, '-e', n)):
                 chip.fill(plan.after[n])
                 chip.set('unread', plan.steps[n - 1][1] * 4 + page)
-                ran = chip.run('-s', n, '-e', n, *options)
-                chip.expect(ran, 0, plan.after[n], plan.writes(n))
+                chip.expect(chip.end(chip.start(words)), 0, plan.after[n], plan.writes(n))
         others = {step[1] for step in plan.steps} - {plan.steps[n - 1][1]}
         chip.set('unread', others.pop() * 4 + 2)
         chip.set('log')
-        chip.expect_refused("can't be read: ECC: 1 uncorrectable", '-s', n)
+        for words in (chip.words('-s', n), chip.file_words('-s', n)):
+            chip.expect_refused("can't be read: ECC: 1 uncorrectable", words=words)
 
     def try_a_finished_plan(self):
         chip = self.chip()
         chip.fill(chip.plan.after[-1])
-        ran = chip.run('-s', chip.plan.count + 1, '-d', 'dump')
-        chip.expect(ran, 0, chip.plan.after[-1], [])
-        expect(ran.out.endswith(f'done: {chip.plan.count} steps\n'), f'it prints {ran.out!r}')
+        options = ('-s', chip.plan.count + 1)
+        for words in (chip.words(*options, '-d', 'dump'), chip.file_words(*options)):
+            ran = chip.end(chip.start(words))
+            chip.expect(ran, 0, chip.plan.after[-1], [])
+            expect(ran.out.endswith(f'done: {chip.plan.count} steps\n'), f'it prints {ran.out!r}')
 
     def try_attached_in_between(self):
         chip = self.chip()
@@ -1095,7 +1565,12 @@ class Cases:
             steps = f'erase block={p}', f'program block={p} page=1', f'program block={p} page=127'
             chip.put('plan', ''.join(f'{line}\n' for line in ('steps 3', *steps)).encode())
             chip.put('pages', b''.join(data))
-            ran = chip.end(chip.start(chip.words(peb=peb, page=page), shell))
+            first = f'plan 1 peb={peb} page={page} vid={page} data={2 * page} blocks={blocks} steps=3 touched=1 pages=2'
+            lines = first, *steps, f'block={p} ec={header.hex()} vid={bytes(64).hex()}'
+            chip.put('file', ''.join(f'{line}\n' for line in lines).encode() + b''.join(data))
+            by_file = shell == SHELLS_THERE[-1]
+            words = chip.file_words() if by_file else chip.words(peb=peb, page=page)
+            ran = chip.end(chip.start(words, shell))
             writes = [f'erase {p}', *(f'program {p * peb + k * page} {page}' for k in (1, 127))]
             expect(ran.status == 0 and ran.log == writes, f'{ran}')
             with open(chip.device, 'rb') as file:
@@ -1104,7 +1579,8 @@ class Cases:
                 expect(file.read(peb) == blank + data[0] + 125 * blank + data[1], 'the eraseblock is wrong')
                 file.seek(p * peb % 2**32)
                 expect(file.read(peb) == bytes(peb), 'another eraseblock was written')
-            ran = chip.end(chip.start(chip.words('-s', 4, peb=peb, page=page), shell))
+            words = chip.file_words('-s', 4) if by_file else chip.words('-s', 4, peb=peb, page=page)
+            ran = chip.end(chip.start(words, shell))
             expect(ran.status == 0, f'{ran}')
 
     def try_the_tools(self):
@@ -1130,6 +1606,8 @@ class Cases:
             status, out, err = run('nanddump', '-q', f'--bb={method}', device)
             is_right = (status, len(out), err) == (0, size, '') and out == wanted.get(method, out)
             expect(is_right, f'nanddump --bb={method} gives other bytes')
+        again = run('nandtest', '-m', '-o', bad * peb, '-l', peb, device)
+        expect(again[0] == 0 and chip.data() == chip.held, 'nandtest works on a bad eraseblock')
         chip.set('unread', 5)
         status, out, err = run('nanddump', '-q', '--bb=dumpbad', '-s', 5 * page, '-l', page, device)
         line = f'ECC: 1 uncorrectable bitflip(s) at offset 0x{5 * page:08x}\n'
@@ -1148,6 +1626,21 @@ class Cases:
         expect(run(*words)[0] == 0 and chip.data()[place] == b'x' * page, 'a program sets bits')
         status, out, err = run('nanddump', '-q', '--bb=dumpbad', '-s', (at + 1) * page, '-l', page, device)
         expect('uncorrectable' in err, 'a second program can be read')
+        p = at * page // peb
+        for options, marked in (((), False), (('-m',), True)):
+            chip.fill(chip.plan.image)
+            chip.set('fault', '1 fail')
+            status, out, err = run('nandtest', *options, '-o', p * peb, '-l', peb, device)
+            expect((status, err) == (0, 'MEMERASE: Input/output error\n'), 'nandtest ends with another status')
+            is_bad = str(p) in (chip.chip / 'bad').read_text().split()
+            expect(is_bad == marked and chip.data() == chip.held, 'nandtest marks an eraseblock without -m')
+        chip.fill(chip.plan.image)
+        status, out, err = run('nandtest', '-m', '-o', p * peb, '-l', peb, device)
+        data = chip.data()
+        is_right = data[: p * peb] == chip.held[: p * peb] and data[(p + 1) * peb :] == chip.held[(p + 1) * peb :]
+        expect((status, err) == (0, '') and is_right, 'nandtest works on another eraseblock')
+        now, before = (of[p * peb : (p + 1) * peb] for of in (data, chip.held))
+        expect(now not in (before, b'\xFF' * peb), 'nandtest keeps what was there')
 
 
 def wait_for(path):
@@ -1158,10 +1651,10 @@ def wait_for(path):
     raise Failure(f'{path} never appears')
 
 
-def stub(chip, name):
-    """Puts a tool without options before the fake one on the PATH."""
+def stub(chip, name, text='#!/bin/sh\necho "usage"\n'):
+    """Puts a tool before the fake one on the PATH, which has no options if no text is given."""
     (chip.folder / 'stubs').mkdir()
-    (chip.folder / 'stubs' / name).write_text('#!/bin/sh\necho "usage"\n')
+    (chip.folder / 'stubs' / name).write_text(text)
     (chip.folder / 'stubs' / name).chmod(0o755)
 
 

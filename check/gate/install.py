@@ -141,7 +141,7 @@ def runs(place, room):
     ran = run(place / 'bin/ubi_tool', 'list', IMAGE, cwd=room)
     yield f'list: {ran}', ran == (0, ANSWER, b'')
     ran = run(place / 'bin/ubi_tool-carry-out', cwd=room)
-    is_usage = ran[2].startswith(b'ubi_tool-carry-out [-c] [-d DUMP]')
+    is_usage = ran[2].startswith(b'ubi_tool-carry-out [-cmnu] [-d DUMP]')
     yield f'ubi_tool-carry-out: {ran}'[:200], ran[0] == 2 and is_usage
     completion = f'{place}/share/bash-completion/completions/ubi_tool'
     ran = run('bash', '-c', f"source '{completion}' && complete -p ubi_tool")

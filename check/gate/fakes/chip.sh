@@ -7,9 +7,9 @@
 #   locked   the numbers of the eraseblocks that are locked
 #   unread   the numbers of the pages, counted over the whole chip, whose bits ECC can't correct
 #   flipped  the numbers of the pages in which it corrects some bits
-#   fault    a line `N HOW`: what goes wrong with the write number N, an erase or a program, counted from 1
+#   fault    lines `N HOW`: what goes wrong with the write number N, an erase or a program, counted from 1
 #   mtdinfo  a word: what goes wrong with mtdinfo
-#   log      a line for each write, `erase P` or `program OFFSET LENGTH`
+#   log      a line for each write, `erase P` or `program OFFSET LENGTH`, and `mark P` if nandtest marks an eraseblock
 #   blank    an eraseblock of 0xFF bytes
 # The sizes are those of $CARRY_OUT_ROOT/sys/class/mtd/mtd0. FAKE_DD is the real dd.
 # shellcheck shell=sh disable=SC2034
@@ -45,8 +45,9 @@ count_write() { # LINE
   writes=1
   while read -r _; do writes=$((writes + 1)); done < "$chip/log"
   echo "$1" >> "$chip/log"
-  read -r when what < "$chip/fault"
-  [ "$when" != "$writes" ] || how=$what
+  while read -r when what; do
+    [ "$when" != "$writes" ] || how=$what
+  done < "$chip/fault"
   if [ "$how" = slow ]; then
     await_signal
   fi
@@ -55,4 +56,14 @@ count_write() { # LINE
 # Copies standard input to a place of the chip.
 store() { # OFFSET LENGTH
   "$FAKE_DD" of="$device" bs="$sub" seek=$(($1 / sub)) count=$(($2 / sub)) conv=notrunc iflag=fullblock 2> /dev/null
+}
+
+# Sets an eraseblock to 0xFF from a place on. Its pages can be read again.
+clear() { # P FROM
+  store $(($1 * peb + $2)) $((peb - $2)) < "$chip/blank"
+  [ -s "$chip/unread" ] || return 0
+  while read -r one; do
+    [ $((one * page / peb)) -eq "$1" ] || echo "$one"
+  done < "$chip/unread" > "$chip/unread.new"
+  mv "$chip/unread.new" "$chip/unread"
 }
