@@ -74,7 +74,8 @@ WAYS = ("attached", "written", "formatted")
 # What the machine has: modules, with those that they need, and tools besides busybox.
 MODULES = ("virtio_pci", "9pnet_virtio", "9p", "nandsim", "ubi", "lzo", "deflate", "zstd", "ubifs")
 TOOLS = (
-    "flash_erase", "mtdinfo", "nanddump", "nandwrite", "ubiattach", "ubidetach", "ubiformat", "ubinfo", "ubirename",
+    "flash_erase", "mtdinfo", "nanddump", "nandflipbits", "nandtest", "nandwrite", "ubiattach", "ubidetach",
+    "ubiformat", "ubinfo", "ubirename",
 )
 # The first program of the machine. It shares the folder /host with this script, reads lines of shell from the serial
 # console, carries them out there, and prints their status. All that is printed on the console comes from them.
@@ -101,6 +102,21 @@ chip() { # COUNT WORD..
 # Writes an image of the whole chip to it. Pages that are 0xFF throughout stay as they were erased.
 put() { # IMAGE
   cp "$1" /tmp/image && flash_erase -q /dev/mtd0 0 0 > /dev/null && nandwrite -q -k -N /dev/mtd0 /tmp/image
+}
+
+# Writes an eraseblock to the chip, in the same way.
+put_block() { # P FILE
+  flash_erase -q -N /dev/mtd0 $(($1 * 131072)) 1 > /dev/null && nandwrite -q -k -N -s $(($1 * 131072)) /dev/mtd0 "$2"
+}
+
+# Writes an eraseblock with the out-of-band bytes behind each page.
+put_raw() { # P FILE
+  flash_erase -q -N /dev/mtd0 $(($1 * 131072)) 1 > /dev/null && nandwrite -q -n -o -N -s $(($1 * 131072)) /dev/mtd0 "$2"
+}
+
+# Reads an eraseblock with the out-of-band bytes behind each page.
+get_raw() { # P FILE
+  nanddump -q -n -o --bb=dumpbad -s $(($1 * 131072)) -l 131072 -f "$2" /dev/mtd0
 }
 
 # Dumps the whole chip, with 0xFF in the place of bad eraseblocks.
@@ -343,10 +359,10 @@ class Machine:
         expect(status == 0, f"{line} has the status {status}: {text[-2000:]}")
         return text
 
-    def make_chip(self, count, bad):
+    def make_chip(self, count, bad, *more):
         """Makes a simulated chip, with so many eraseblocks in its partition."""
         words = [f"badblocks={','.join(map(str, bad))}"] if bad else []
-        self.chip = " ".join(["chip", str(count), CHIP, *words])
+        self.chip = " ".join(["chip", str(count), CHIP, *words, *more])
         self.run(self.chip)
 
 
@@ -539,6 +555,7 @@ class Device:
     def make_image(self, folder, path):
         """Lets `ubinize` make the image."""
         sections, numbers = [], self.rng.sample(range(12), len(self.volumes))
+        self.numbers = dict(zip(self.volumes, numbers))
         for number, volume in zip(numbers, self.volumes.values()):
             source = os.path.join(folder, f"volume{number}")
             write(source, volume.data)
