@@ -86,7 +86,7 @@ mount -t proc none /proc
 mount -t sysfs none /sys
 mount -t devtmpfs none /dev
 mount -t tmpfs none /tmp
-while read -r module; do insmod "/modules/$module.ko"; done < /modules/order
+while read -r module words; do insmod "/modules/$module.ko" $words; done < /modules/order
 mount -t 9p -o trans=virtio,version=9p2000.L,msize=262144 host /host
 cd /host
 stty raw -echo
@@ -241,12 +241,16 @@ def read_module(path):
         return file.read()
 
 
-def modules_of(folder):
+def modules_of(folder, ubi=None):
     """The modules of the machine, each after those that it needs: names, and their bytes. Those that the kernel has
-    built in are left out."""
+    built in are left out. UBI may be another one, for which the kernel's UBIFS isn't built."""
     paths, order = {}, {}
     for path in glob.glob(os.path.join(glob.escape(folder), "kernel/**/*.ko*"), recursive=True):
         paths[os.path.basename(path).partition(".")[0].replace("-", "_")] = path
+
+    if ubi:
+        paths["ubi"] = ubi
+        del paths["ubifs"]
 
     def add(name):
         if name in paths and name not in order:
@@ -279,7 +283,9 @@ def first_files(modules):
     """The archive: the first program, busybox, the tools with their libraries, and the modules."""
     tools = {f"tools/{tool}": path_of(tool) for tool in TOOLS}
     loaded = {path.lstrip("/"): path for path in libraries_of(tools.values())}
-    order = "".join(f"{name}\n" for name in modules if name != "nandsim")
+    # UBI takes this word only if it is built for fastmaps.
+    words = {name: " fm_autoconvert=1" if b"fm_autoconvert" in module else "" for name, module in modules.items()}
+    order = "".join(f"{name}{words[name]}\n" for name in modules if name != "nandsim")
     files = {"init": INIT.encode(), "modules/order": order.encode()}
     files |= {f"modules/{name}.ko": module for name, module in modules.items()}
     files |= {name: read(path) for name, path in {"bin/busybox": path_of("busybox"), **tools, **loaded}.items()}
@@ -902,7 +908,7 @@ class Bench:
         share, first = os.path.join(folder, "share"), os.path.join(folder, "first")
         os.mkdir(share)
         kernel, modules = kernel_of(words.kernel)
-        write(first, first_files(modules_of(modules)))
+        write(first, first_files(modules_of(modules, getattr(words, "ubi", None))))
         self.machine = Machine(kernel, first, share, words.limit)
 
     def warn(self, lines):
@@ -947,35 +953,49 @@ class Bench:
         print(f"  {len(cuts)} cuts, {self.failed - failed} failed, {time.monotonic() - began:.0f} s", flush=True)
 
 
-def options():
-    words = argparse.ArgumentParser(description=__doc__, formatter_class=argparse.RawDescriptionHelpFormatter)
+def options(usage, **numbers):
+    """The options of a script that uses a bench, with numbers and what they are by default; more can be added."""
+    words = argparse.ArgumentParser(description=usage, formatter_class=argparse.RawDescriptionHelpFormatter)
     words.add_argument("--tool", required=True, help="the program")
-    for name, number in {"plans": 10, "cuts": 100, "whole": 2, "seed": 1, "first": 0, "limit": 1800}.items():
+    for name, number in numbers.items():
         words.add_argument(f"--{name}", type=int, default=number)
-    words.add_argument("--only-whole", action="store_true")
     words.add_argument("--keep", action="store_true")
     words.add_argument("--dir", default="/tmp")
     words.add_argument("--kernel", default="/", help="the folder with boot and lib/modules")
-    return words.parse_args()
+    return words
 
 
-def main():
-    words = options()
+def run_bench(words, attempts):
+    """Lets ATTEMPTS use a bench, ends its machine, prints the lines that ATTEMPTS returns, what the kernel has warned of
+    and how many passed and failed, and ends the script."""
     folder = tempfile.mkdtemp(dir=words.dir)
-    bench = Bench(words, folder)
+    bench, lines = Bench(words, folder), []
     try:
-        for number in range(words.first, words.first + words.plans):
-            bench.try_plan(number)
+        lines = attempts(bench) or []
     finally:
         bench.machine.stop()
         if words.keep:
             print(f"the files are in {folder}")
         else:
             shutil.rmtree(folder)
+    for line in lines:
+        print(line)
     for line, count in sorted(bench.warnings.items()):
         print(f"{count:>6} times the kernel: {line}")
     print(f"{bench.passed} passed, {bench.failed} failed")
     sys.exit(1 if bench.failed else 0)
+
+
+def main():
+    words = options(__doc__, plans=10, cuts=100, whole=2, seed=1, first=0, limit=1800)
+    words.add_argument("--only-whole", action="store_true")
+    words = words.parse_args()
+
+    def attempts(bench):
+        for number in range(words.first, words.first + words.plans):
+            bench.try_plan(number)
+
+    run_bench(words, attempts)
 
 
 if __name__ == "__main__":

@@ -22,7 +22,6 @@ These are tried, from number --first on; --only is a regular expression that the
 After the last step `check` of a new dump, without --bad, has to say `accepted`. The last line is 'N passed, M failed',
 and the exit status is 0 if none failed. The other options are those of cuts.py.
 """
-import argparse
 import dataclasses
 import os
 import random
@@ -30,8 +29,6 @@ import re
 import shlex
 import shutil
 import subprocess
-import sys
-import tempfile
 
 import cuts
 from cuts import PAGE, PEB, ROOT, SUB, WAYS, Contents, Failure, Volume, expect, read, write
@@ -189,10 +186,12 @@ def heads_of(steps, vid):
 class Recipe(cuts.Plan):
     """A chip with an image, and an edit that is planned for it and carried out."""
 
+    kind = Device
+
     def __init__(self, bench, number, edit):
         self.rng = random.Random(f"{bench.words.seed} {number} {edit}")
         self.bench, self.machine = bench, bench.machine
-        self.device = Device(self.rng, number, bench.folder)
+        self.device = self.kind(self.rng, number, bench.folder)
         self.dump()
         self.keeps = self.device.blank_words()
         self.edits = EDITS[edit](self.device, bench.folder)
@@ -528,38 +527,18 @@ def recipes():
     return [Whole(), Whole(), *failings(), *failed(), *unread(), *chains()]
 
 
-def options():
-    words = argparse.ArgumentParser(description=__doc__, formatter_class=argparse.RawDescriptionHelpFormatter)
-    words.add_argument("--tool", required=True, help="the program")
-    words.add_argument("--only", default="")
-    words.add_argument("--first", type=int, default=0)
-    words.add_argument("--seed", type=int, default=1)
-    words.add_argument("--limit", type=int, default=600)
-    words.add_argument("--keep", action="store_true")
-    words.add_argument("--dir", default="/tmp")
-    words.add_argument("--kernel", default="/", help="the folder with boot and lib/modules")
-    return words.parse_args()
-
-
 def main():
-    words = options()
-    folder = tempfile.mkdtemp(dir=words.dir)
-    bench = cuts.Bench(words, folder)
-    try:
+    words = cuts.options(__doc__, first=0, seed=1, limit=600)
+    words.add_argument("--only", default="")
+    words = words.parse_args()
+
+    def attempts(bench):
         for number, recipe in enumerate(recipes()):
             if number >= words.first and re.search(words.only, str(recipe)):
                 name = f"recipe {number} of seed {words.seed}, {recipe}"
                 bench.attempt(name, lambda: print(f"{name}: {recipe.attempt(bench, number)}", flush=True))
-    finally:
-        bench.machine.stop()
-        if words.keep:
-            print(f"the files are in {folder}")
-        else:
-            shutil.rmtree(folder)
-    for line, count in sorted(bench.warnings.items()):
-        print(f"{count:>6} times the kernel: {line}")
-    print(f"{bench.passed} passed, {bench.failed} failed")
-    sys.exit(1 if bench.failed else 0)
+
+    cuts.run_bench(words, attempts)
 
 
 if __name__ == "__main__":

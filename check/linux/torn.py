@@ -23,15 +23,11 @@ is counted by itself.
 By default there are 10 plans (--plans) of the seed 1 (--seed), with 12 torn steps (--tears) each. The last line is 'N
 passed, M failed', and the exit status is 0 if none failed. The other options are those of cuts.py.
 """
-import argparse
 import collections
 import itertools
 import os
 import random
 import shlex
-import shutil
-import sys
-import tempfile
 
 import cuts
 import recipes
@@ -246,22 +242,11 @@ class Torn:
         return sorted(part for part in line.split(";") if part), warnings
 
 
-def options():
-    words = argparse.ArgumentParser(description=__doc__, formatter_class=argparse.RawDescriptionHelpFormatter)
-    words.add_argument("--tool", required=True, help="the program")
-    for name, number in {"plans": 10, "tears": 12, "seed": 1, "first": 0, "limit": 600}.items():
-        words.add_argument(f"--{name}", type=int, default=number)
-    words.add_argument("--keep", action="store_true")
-    words.add_argument("--dir", default="/tmp")
-    words.add_argument("--kernel", default="/", help="the folder with boot and lib/modules")
-    return words.parse_args()
-
-
 def main():
-    words = options()
-    folder = tempfile.mkdtemp(dir=words.dir)
-    bench, counts = cuts.Bench(words, folder), collections.Counter()
-    try:
+    words = cuts.options(__doc__, plans=10, tears=12, seed=1, first=0, limit=600).parse_args()
+
+    def attempts(bench):
+        counts = collections.Counter()
         for number in range(words.first, words.first + words.plans):
             name, plans = f"plan {number} of seed {words.seed}", []
             bench.attempt(f"{name}, its making", lambda: plans.append(Torn(bench, number)))
@@ -270,18 +255,9 @@ def main():
                 for n, k in enumerate(torn.chosen(words.tears)):
                     bench.attempt(f"{name}, tear {n}", lambda: torn.try_tear(k))
                 counts.update(torn.counts)
-    finally:
-        bench.machine.stop()
-        if words.keep:
-            print(f"the files are in {folder}")
-        else:
-            shutil.rmtree(folder)
-    for what, count in sorted(counts.items()):
-        print(f"{count:>6} {what}")
-    for line, count in sorted(bench.warnings.items()):
-        print(f"{count:>6} times the kernel: {line}")
-    print(f"{bench.passed} passed, {bench.failed} failed")
-    sys.exit(1 if bench.failed else 0)
+        return [f"{count:>6} {what}" for what, count in sorted(counts.items())]
+
+    cuts.run_bench(words, attempts)
 
 
 if __name__ == "__main__":
