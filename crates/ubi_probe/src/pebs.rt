@@ -9,8 +9,7 @@ use crate::headers::{
     STATIC_1, TABLE_0, TABLE_1, WRONG_CHECK_OF_39,
 };
 use crate::records::{
-    ALIGNMENT_0, ALIGNMENT_256, BOOT, DATA, EMPTY, FLIPPED, MARKED, MARKED_BOOT, OVERFULL, ROOT,
-    Slot,
+    ALIGNMENT_0, ALIGNMENT_256, BOOT, DATA, EMPTY, MARKED, MARKED_BOOT, OVERFULL, ROOT, Slot,
 };
 use crate::sealed::SealedVid;
 use crate::texts::put_runs;
@@ -275,8 +274,6 @@ pub const NO_DATA: Data = Data::Fill(0xFF, 0);
 pub const ERASED: Peb = Peb(Ec::Blank, Vid::Blank, NO_DATA);
 /// One with an erase-counter header and nothing else.
 pub const FREE: Peb = Peb(NAMED, Vid::Blank, NO_DATA);
-/// The same in no image.
-pub const NEW_FREE: Peb = Peb(NEW, Vid::Blank, NO_DATA);
 /// One whose headers can't be read.
 pub const TORN: Peb = Peb(Ec::Corrupt, Vid::Corrupt, NO_DATA);
 /// One whose volume-identifier header can't be read.
@@ -295,12 +292,6 @@ pub const B: Peb = Peb(NAMED, Vid::Leb(0, 1, 0), Data::Fill(b'B', 384));
 pub const C: Peb = Peb(NAMED, Vid::Leb(0, 2, 0), Data::Fill(b'C', 384));
 /// Logical eraseblock 3, blank.
 pub const EMPTY_D: Peb = Peb(NAMED, Vid::Leb(0, 3, 0), NO_DATA);
-/// Copy 0 in no image.
-pub const NEW_FIRST: Peb = Peb(NEW, Vid::Table(0, 0), Data::Table(&[ROOT]));
-/// Copy 1 in no image.
-pub const NEW_SECOND: Peb = Peb(NEW, Vid::Table(1, 0), Data::Table(&[ROOT]));
-/// Copy 0 with one bit of the record flipped.
-pub const FIRST_FLIPPED: Peb = Peb(NAMED, Vid::Table(0, 0), Data::Table(&[FLIPPED]));
 /// Copy 0 with the volume being updated.
 pub const FIRST_MARKED: Peb = Peb(NAMED, Vid::Table(0, 0), Data::Table(&[MARKED]));
 /// Copy 1 with it being updated.
@@ -367,12 +358,6 @@ pub const TEXT_1: Peb = Peb(NAMED, Vid::Of(STATIC_1), Data::Fill(b'b', 384));
 pub const FIRST_UPDATING: Peb = Peb(NAMED, Vid::Table(0, 0), Data::Table(&[MARKED_BOOT]));
 /// Copy 1 of it.
 pub const SECOND_UPDATING: Peb = Peb(NAMED, Vid::Table(1, 0), Data::Table(&[MARKED_BOOT]));
-/// Logical eraseblock 2 of `root` with the last sequence number.
-pub const C_LAST: Peb = Peb(NAMED, Vid::Leb(0, 2, u64::MAX), Data::Fill(b'C', 384));
-/// With the last but one.
-pub const C_LAST_BUT_1: Peb = Peb(NAMED, Vid::Leb(0, 2, u64::MAX - 1), Data::Fill(b'C', 384));
-/// With the last but two.
-pub const C_LAST_BUT_2: Peb = Peb(NAMED, Vid::Leb(0, 2, u64::MAX - 2), Data::Fill(b'C', 384));
 
 /// Logical eraseblock 2 of `root` with erase counter 10.
 pub const WORN_C: Peb = Peb(Ec::Of(10, IMAGE), Vid::Leb(0, 2, 0), Data::Fill(b'C', 384));

@@ -1,13 +1,6 @@
-mod avoided;
-mod carriers;
-mod cuts;
+mod changes;
 mod images;
-mod mapped;
 mod memory;
-mod pages;
 mod places;
-mod refusals;
 mod rename;
-mod states;
-mod steps;
 mod update;

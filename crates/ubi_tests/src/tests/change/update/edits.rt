@@ -104,10 +104,6 @@ pub fn planned_anywhere(
 /// What a volume reads.
 #[derive(Clone, Copy)]
 pub enum Holds {
-    /// Its update didn't end.
-    Updating,
-    /// It is static, and isn't whole.
-    Damaged,
     /// The bytes of a static volume.
     Text(Runs),
     /// Logical eraseblocks of a dynamic one, each after its number; 0xFF follows their bytes.
@@ -136,8 +132,6 @@ fn content_of(
     holds: &Holds,
 ) -> Result<Content, AllocError> {
     Ok(match holds {
-        Holds::Updating => Content::Updating,
-        Holds::Damaged => Content::Damaged,
         Holds::Text(runs) => Content::Static(Bytes::new(bytes_of(alloc, runs)?)),
         Holds::Lebs(rows) => {
             let size = geometry.leb_size().saturating_sub(slot.data_pad);

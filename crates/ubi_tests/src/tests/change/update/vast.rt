@@ -13,7 +13,7 @@ use ubi_media::{Geometry, is_blank};
 use ubi_probe::pebs::{FREE, Peb, image_of, small};
 use ubi_probe::records::{BOOT, BOOT_OF_2, ROOT, SMALL_ROOT, Slot};
 use ubi_scan::{FileSource, MemorySource, PlacedFile};
-use ubi_volume::read_volume;
+use ubi_volume::{Attached, read_volume};
 
 /// Contents of any size, whose bytes follow from their places.
 #[derive(Drop)]
@@ -91,13 +91,50 @@ fn assert_reads(
         return Err("not read".into());
     };
     let want = bytes_from(alloc, start, len)?;
-    assert!(*rt; text.as_slice().get(..len) == Some(want.as_slice()));
-    assert!(*rt; is_blank(text.as_slice().get(len..).unwrap_or(&[])));
+    let (front, behind) = text
+        .as_slice()
+        .split_at_checked(len)
+        .ok_or("too few bytes")?;
+    assert!(*rt; front == want.as_slice() && is_blank(behind));
     Ok(())
 }
 
-/// Asserts that an edit writes volume 1, of the contents from a place on, that the image means what it did until the last but one
-/// group is done, and that each group takes the next sequence number.
+/// Does the steps of a group. Gives the greatest sequence number then, and whether the image means what it did.
+fn done(
+    rt: &impl Abort,
+    alloc: Global,
+    geometry: &Geometry,
+    image: &mut [u8],
+    steps: &[Step],
+    old: &Attached,
+) -> Result<(u64, bool), Fail> {
+    for step in steps {
+        assert_done(rt, geometry, image, step);
+    }
+    let here = attached(alloc, geometry, image)?;
+    Ok((here.top_sqnum(), here.meaning() == old.meaning()))
+}
+
+/// Does the steps of groups, and asserts that the image means what it did until the last but one is done, and that each takes the
+/// next sequence number.
+fn assert_groups(
+    rt: &impl Abort,
+    alloc: Global,
+    geometry: &Geometry,
+    image: &mut [u8],
+    groups: &[Vec<Step>],
+) -> Result<(), Fail> {
+    let old = attached(alloc, geometry, image)?;
+    let (mut left, mut sqnum) = (groups.len(), old.top_sqnum());
+    for steps in groups {
+        (left, sqnum) = (left.saturating_sub(1), sqnum.saturating_add(1));
+        let (top, is_old) = done(rt, alloc, geometry, image, steps.as_slice(), &old)?;
+        assert!(*rt; top == sqnum && is_old == (left >= 2));
+    }
+    Ok(())
+}
+
+/// Asserts that an edit writes volume 1, of the contents from a place on.
 fn assert_writes(
     rt: &impl Abort,
     alloc: Global,
@@ -110,17 +147,7 @@ fn assert_writes(
     let Ok(groups) = planned(alloc, geometry, image, edits.as_slice()) else {
         return Err("no plan".into());
     };
-    let old = attached(alloc, geometry, image)?;
-    let (mut left, mut sqnum) = (groups.len(), old.top_sqnum());
-    for steps in &groups {
-        for step in steps {
-            assert_done(rt, geometry, image, step);
-        }
-        (left, sqnum) = (left.saturating_sub(1), sqnum.saturating_add(1));
-        let here = attached(alloc, geometry, image)?;
-        assert!(*rt; here.top_sqnum() == sqnum);
-        assert!(*rt; (here.meaning() == old.meaning()) == (left >= 2));
-    }
+    assert_groups(rt, alloc, geometry, image, groups.as_slice())?;
     assert_reads(rt, alloc, geometry, image, part)
 }
 
