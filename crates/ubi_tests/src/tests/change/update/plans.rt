@@ -319,7 +319,25 @@ fn assert_group(
     assert_walk(rt, alloc, geometry, image, walk, meanings)
 }
 
-/// Asserts it of groups, and what the image means in the end.
+/// Asserts it of groups.
+fn assert_each(
+    rt: &impl Abort,
+    alloc: Global,
+    geometry: &Geometry,
+    image: &mut [u8],
+    (groups, writes): (&[Vec<Step>], &[Written]),
+    (old, new, turn): (&Meaning, &Meaning, usize),
+) -> Result<(), Fail> {
+    let mut left = turn;
+    for (steps, written) in groups.iter().zip(writes) {
+        let group = (steps.as_slice(), written);
+        assert_group(rt, alloc, geometry, image, group, (old, new, left))?;
+        left = left.saturating_sub(steps.len());
+    }
+    Ok(())
+}
+
+/// Asserts it of the groups of a plan, and what the image means in the end.
 fn assert_groups(
     rt: &impl Abort,
     alloc: Global,
@@ -330,13 +348,8 @@ fn assert_groups(
 ) -> Result<(), Fail> {
     let old = attached(alloc, geometry, image)?;
     let new = meaning_of(alloc, geometry, old.image_seq(), case.after)?;
-    let mut turn = case.turn;
-    for (steps, written) in groups.iter().zip(case.groups) {
-        let group = (steps.as_slice(), written);
-        let meanings = (old.meaning(), &new, turn);
-        assert_group(rt, alloc, geometry, image, group, meanings)?;
-        turn = turn.saturating_sub(steps.len());
-    }
+    let meanings = (old.meaning(), &new, case.turn);
+    assert_each(rt, alloc, geometry, image, (groups, case.groups), meanings)?;
     assert_means(rt, alloc, geometry, image, &new)
 }
 
