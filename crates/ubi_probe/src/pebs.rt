@@ -9,7 +9,8 @@ use crate::headers::{
     STATIC_1, TABLE_0, TABLE_1, WRONG_CHECK_OF_39,
 };
 use crate::records::{
-    ALIGNMENT_0, ALIGNMENT_256, BOOT, DATA, EMPTY, MARKED, MARKED_BOOT, OVERFULL, ROOT, Slot,
+    ALIGNMENT_0, ALIGNMENT_256, BOOT, DATA, EMPTY, FLIPPED, MARKED, MARKED_BOOT, OVERFULL, ROOT,
+    Slot,
 };
 use crate::sealed::SealedVid;
 use crate::texts::put_runs;
@@ -274,6 +275,8 @@ pub const NO_DATA: Data = Data::Fill(0xFF, 0);
 pub const ERASED: Peb = Peb(Ec::Blank, Vid::Blank, NO_DATA);
 /// One with an erase-counter header and nothing else.
 pub const FREE: Peb = Peb(NAMED, Vid::Blank, NO_DATA);
+/// The same in no image.
+pub const NEW_FREE: Peb = Peb(NEW, Vid::Blank, NO_DATA);
 /// One whose headers can't be read.
 pub const TORN: Peb = Peb(Ec::Corrupt, Vid::Corrupt, NO_DATA);
 /// One whose volume-identifier header can't be read.
@@ -292,6 +295,8 @@ pub const B: Peb = Peb(NAMED, Vid::Leb(0, 1, 0), Data::Fill(b'B', 384));
 pub const C: Peb = Peb(NAMED, Vid::Leb(0, 2, 0), Data::Fill(b'C', 384));
 /// Logical eraseblock 3, blank.
 pub const EMPTY_D: Peb = Peb(NAMED, Vid::Leb(0, 3, 0), NO_DATA);
+/// Copy 0 with one bit of the record flipped.
+pub const FIRST_FLIPPED: Peb = Peb(NAMED, Vid::Table(0, 0), Data::Table(&[FLIPPED]));
 /// Copy 0 with the volume being updated.
 pub const FIRST_MARKED: Peb = Peb(NAMED, Vid::Table(0, 0), Data::Table(&[MARKED]));
 /// Copy 1 with it being updated.

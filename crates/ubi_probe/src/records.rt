@@ -171,6 +171,20 @@ pub const C: Slot = Slot {
     ..A
 };
 
+/// The first of these with the most eraseblocks that a record can name.
+pub const MOST_A: Slot = Slot {
+    reserved: 0x7FFF_FFFF,
+    check: 0xAD63_4FE1,
+    ..A
+};
+
+/// The second. Both and the table's own eraseblocks are 2^32.
+pub const MOST_B: Slot = Slot {
+    reserved: 0x7FFF_FFFF,
+    check: 0xC679_3773,
+    ..B
+};
+
 impl Slot {
     /// The bytes of the record.
     pub fn bytes(&self) -> [u8; 172] {

@@ -1,10 +1,32 @@
 //! Images cut into eraseblocks.
 
 use std::test::Fail;
-use ubi_media::{EcHeader, EcRead, VidRead};
+use ubi_media::{EcHeader, EcRead, Refusal, VidRead};
 use ubi_probe::headers::{CHECK_OF_37, COPY};
 use ubi_probe::pebs::{Data, ERASED, Ec, Peb, TORN, Vid, small, small_image};
 use ubi_scan::Blocks;
+
+/// How many bytes there are, and for what cause they are no image, if they aren't.
+static LENGTHS: [(usize, Option<Refusal>); 7] = [
+    (0, Some(Refusal::Length)),
+    (511, Some(Refusal::Length)),
+    (512, None),
+    (513, Some(Refusal::Length)),
+    (32 * 512, None),
+    (32 * 512 + 1, Some(Refusal::TooMany)),
+    (33 * 512, Some(Refusal::TooMany)),
+];
+
+#[test]
+fn refuses_what_is_no_image(rt: HostRuntime) -> Result<(), Fail> {
+    let bytes = [0xFF; 33 * 512];
+    for (len, cause) in &LENGTHS {
+        let bytes = bytes.get(..*len).ok_or("too short")?;
+        let refused = Blocks::new(&small()?, bytes).err();
+        assert!(rt; refused == *cause, "of {len} bytes");
+    }
+    Ok(())
+}
 
 /// An eraseblock that holds a copy, with counter 3 in the image 4.
 const COPIED_3: Peb = Peb(

@@ -2,18 +2,28 @@
 
 use std::alloc::Global;
 use std::test::Fail;
-use ubi_media::{EcHeader, Geometry, GeometryError, write_ec};
+use ubi_media::{EcHeader, Geometry, GeometryError, VidHeader, VolKind, write_ec, write_vid};
 
 /// What is put at a place of a file.
 #[derive(Clone, Copy)]
 pub enum What {
     /// An erase-counter header that names offsets, and the image sequence number 9.
     Header(u32, u32),
+    /// One that names offsets and another number.
+    Numbered(u32, u32, u32),
     /// One that names offsets, and at each place of its row another number: 10, 11 and so on.
     Counted(u32, u32),
+    /// What a volume-identifier header of the volume 0 begins with.
+    Vid,
+    /// A whole volume-identifier header of the volume 0.
+    Member,
+    /// What one of the volume table begins with, of the copy with this number.
+    Table(u8),
     /// Both copies of the volume table, one at each place of its row: where an eraseblock has its identifier and its data, and
     /// how many zeros these are.
     Copies(usize, usize, usize),
+    /// As many bytes of one value.
+    Fill(u8, usize),
 }
 
 /// What is put into a file at some places: the first place, the step from one to the next, and how many there are.
@@ -34,7 +44,26 @@ pub fn header(vid_offset: u32, data_offset: u32) -> Result<[u8; 64], GeometryErr
     numbered(vid_offset, data_offset, 9)
 }
 
-/// The first 16 bytes of the volume-identifier header of the volume table, of the copy with this number.
+/// The first 16 bytes of the volume-identifier header of the volume 0: magic, version, type and flags, volume, logical eraseblock.
+static VID: [u8; 16] = [b'U', b'B', b'I', b'!', 1, 1, 0, 0, 0, 0, 0, 0, 0, 0, 0, 0];
+
+/// The bytes of a volume-identifier header of LEB 0 of the volume 0.
+fn member_vid() -> [u8; 64] {
+    write_vid(&VidHeader {
+        kind: VolKind::Dynamic,
+        copy_flag: false,
+        compat: 0,
+        vol_id: 0,
+        lnum: 0,
+        data_size: 0,
+        used_ebs: 0,
+        data_pad: 0,
+        data_crc: 0,
+        sqnum: 0,
+    })
+}
+
+/// Those of the volume table, of the copy with this number.
 pub fn table_vid(copy: u8) -> [u8; 16] {
     [
         b'U', b'B', b'I', b'!', 1, 1, 0, 5, 0x7F, 0xFF, 0xEF, 0xFF, 0, 0, 0, copy,
@@ -66,7 +95,11 @@ fn counted(index: usize) -> u32 {
 fn put_what(bytes: &mut [u8], at: usize, what: What, index: usize) -> Result<(), GeometryError> {
     match what {
         What::Header(vid, data) => put(bytes, at, &header(vid, data)?),
+        What::Numbered(vid, data, seq) => put(bytes, at, &numbered(vid, data, seq)?),
         What::Counted(vid, data) => put(bytes, at, &numbered(vid, data, counted(index))?),
+        What::Vid => put(bytes, at, &VID),
+        What::Member => put(bytes, at, &member_vid()),
+        What::Table(copy) => put(bytes, at, &table_vid(copy)),
         What::Copies(vid, data, count) => {
             put(
                 bytes,
@@ -75,6 +108,7 @@ fn put_what(bytes: &mut [u8], at: usize, what: What, index: usize) -> Result<(),
             );
             fill(bytes, at.saturating_add(data), 0, count);
         }
+        What::Fill(value, count) => fill(bytes, at, value, count),
     }
     Ok(())
 }

@@ -3,7 +3,7 @@
 use std::alloc::{AllocError, Global};
 use std::test::Fail;
 use ubi_media::{AttachError, Geometry, GeometryError, Refusal};
-use ubi_probe::pebs::{Data, ERASED, NEW, Peb, Vid, image_of};
+use ubi_probe::pebs::{Data, ERASED, Ec, NEW, NEW_FREE, NO_DATA, Peb, Vid, image_of};
 use ubi_probe::records::Slot;
 use ubi_scan::{Blocks, scan};
 use ubi_table::{Table, choose};
@@ -13,10 +13,18 @@ use ubi_table::{Table, choose};
 pub enum Row {
     /// It is 0xFF throughout.
     Erased,
+    /// It has an erase-counter header alone.
+    Free,
+    /// It has an erase-counter header alone, of which nothing can be read.
+    Torn,
     /// It is copy 0 of a volume table that begins with these records.
     First(&'static [Slot]),
     /// It is copy 1.
     Second(&'static [Slot]),
+    /// It is a copy with a sequence number of 7, by its number.
+    Newer(u32, &'static [Slot]),
+    /// It is a copy without an erase-counter header.
+    Forgotten(u32, &'static [Slot]),
     /// It is a logical eraseblock of volume 0, by its number.
     Member(u32),
 }
@@ -26,8 +34,12 @@ impl Row {
     fn peb(&self) -> Peb {
         match *self {
             Row::Erased => ERASED,
+            Row::Free => NEW_FREE,
+            Row::Torn => Peb(Ec::Corrupt, Vid::Blank, NO_DATA),
             Row::First(slots) => Peb(NEW, Vid::Table(0, 0), Data::Table(slots)),
             Row::Second(slots) => Peb(NEW, Vid::Table(1, 0), Data::Table(slots)),
+            Row::Newer(lnum, slots) => Peb(NEW, Vid::Table(lnum, 7), Data::Table(slots)),
+            Row::Forgotten(lnum, slots) => Peb(Ec::Blank, Vid::Table(lnum, 0), Data::Table(slots)),
             Row::Member(lnum) => Peb(NEW, Vid::Leb(0, lnum, 0), Data::Fill(b'A', 384)),
         }
     }
@@ -71,6 +83,9 @@ pub fn chosen(alloc: Global, geometry: &Geometry, rows: &[Row]) -> Result<Table,
 /// The number and the record of each volume of a table.
 pub type Volumes = &'static [(u32, Slot)];
 
+/// Some eraseblocks, and the volumes of their table, or for what cause they have none.
+pub type Case = (&'static [Row], Result<Volumes, Refusal>);
+
 /// Whether a table has some volumes and no others.
 pub fn has_volumes(table: &Table, volumes: &[(u32, Slot)]) -> Result<bool, Fail> {
     let mut has = table.entries().len() == volumes.len();
@@ -80,4 +95,14 @@ pub fn has_volumes(table: &Table, volumes: &[(u32, Slot)]) -> Result<bool, Fail>
             && table.get(*id) == Some(&entry.1);
     }
     Ok(has)
+}
+
+/// Whether some eraseblocks have the table that is wanted, or none for the cause that is.
+pub fn holds(alloc: Global, geometry: &Geometry, (rows, want): &Case) -> Result<bool, Fail> {
+    let bytes = image(alloc, geometry, rows)?;
+    match (table_of(alloc, geometry, bytes.as_slice())?, want) {
+        (Ok(table), Ok(volumes)) => has_volumes(&table, volumes),
+        (Err(found), Err(cause)) => Ok(found == *cause),
+        _ => Ok(false),
+    }
 }
