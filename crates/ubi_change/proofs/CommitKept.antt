@@ -19,34 +19,34 @@ texts_have s new bytes = all_from (HasBytes s) (laid_blocks s (finite.entries ne
     let none = all_at (λ (l : Laid). l.header.compat ≡ 0) (laid_blocks s (finite.entries new)) h.0 l (plain_blocks s new) h.1 in
     (bytes-take _ _ (bytes-filled all l.text text), omega arith))
 
-module _ (image : Image) (a : AttachValue) (att : IsShown image a) (es : List Edit) (may : of_blocks MayBeCommitted image a es)
+module _ (image : Image) (ends : List ℕ) (a : AttachValue) (att : IsShown image a) (es : List Edit) (may : of_blocks MayBeCommitted image ends a es)
     (g : IsGeometry image.sizes) where
   abbrev pub new : VolumeMap
-  new = made_in image.sizes (eraseblocks image) a.meaning es
+  new = made_in image.sizes (eraseblocks image) ends a.meaning es
 
   abbrev pub n : Meant
-  n = edited_in image.sizes (eraseblocks image) a.meaning es
+  n = edited_in image.sizes (eraseblocks image) ends a.meaning es
 
   is : of_blocks IsCommitted image a.meaning new n
-  is = is_committed image a att es may
+  is = is_committed image ends a att es may
 
-  pub torn : of_blocks SurvivesTears image a.meaning n (of_blocks edits_plan image a es)
-      (turn image.sizes (of_blocks edits_plan image a es) (table_pages image.sizes (records_of n)))
+  pub torn : of_blocks SurvivesTears image a.meaning n (of_blocks edits_plan image ends a es)
+      (turn image.sizes (of_blocks edits_plan image ends a es) (table_pages image.sizes (records_of n)))
   torn = committed_tears image g a att new n is may.both may.strong may.few may.enough
 
-  pub harmed : of_blocks SurvivesHarm image a.meaning n (of_blocks edits_plan image a es)
-      (turn image.sizes (of_blocks edits_plan image a es) (table_pages image.sizes (records_of n)))
-      (turn image.sizes (of_blocks edits_plan image a es) (table_pages image.sizes (records_of n))
+  pub harmed : of_blocks SurvivesHarm image a.meaning n (of_blocks edits_plan image ends a es)
+      (turn image.sizes (of_blocks edits_plan image ends a es) (table_pages image.sizes (records_of n)))
+      (turn image.sizes (of_blocks edits_plan image ends a es) (table_pages image.sizes (records_of n))
       + (pages_of image.sizes (table_pages image.sizes (records_of n)) - pages_needed image.sizes (table_pages image.sizes (records_of n))))
   harmed = committed_harm image g a att new n is may.both may.strong may.few may.enough
 
-  rises : of_blocks RisesBetweenErases image (of_blocks edits_plan image a es)
+  rises : of_blocks RisesBetweenErases image (of_blocks edits_plan image ends a es)
   rises = committed_rises image g a att new n is may.both may.strong may.few may.enough
 
-  frugal : of_blocks IsFrugalCommit image a (of_blocks commit_needs image a es) n (of_blocks edits_plan image a es)
+  frugal : of_blocks IsFrugalCommit image a (of_blocks commit_needs image ends a es) n (of_blocks edits_plan image ends a es)
   frugal = committed_frugal image g a att new n is may.both may.strong may.few may.enough
 
-  pub fits : of_blocks WritesBytes image a es → of_blocks AllFit image (of_blocks edits_plan image a es)
+  pub fits : of_blocks WritesBytes image ends a es → of_blocks AllFit image (of_blocks edits_plan image ends a es)
   fits bytes = committed_fits image g a att new n is may.both may.strong may.few may.enough
       (texts_have image.sizes new bytes.texts) bytes.pages
 
@@ -57,27 +57,27 @@ pub commit_avoiding : CommitAvoiding
 commit_avoiding image av from es g att blank may =
     let a = avoiding av from in
     let k = shown_avoiding image av from att in
-    let f = frugal image a k es may g in
+    let f = frugal image av.ends a k es may g in
     record {
-      survives = shown_survives image a k es may g;
-      torn = torn image a k es may g;
-      copies = shown_both image a k es may g;
-      fits = fits image a k es may g;
-      rises = rises image a k es may g;
+      survives = shown_survives image av.ends a k es may g;
+      torn = torn image av.ends a k es may g;
+      copies = shown_both image av.ends a k es may g;
+      fits = fits image av.ends a k es may g;
+      rises = rises image av.ends a k es may g;
       frugal = f;
-      avoids = commit_avoids image av from att blank (of_blocks commit_needs image a es) (of_blocks edits_plan image a es)
-          (held image a k es may g) f.touches;
+      avoids = commit_avoids image av from att blank (of_blocks commit_needs image av.ends a es) (of_blocks edits_plan image av.ends a es)
+          (held image av.ends a k es may g) f.touches;
     }
 
 pub commit_survives_tears : CommitSurvivesTears
 commit_survives_tears image av from es g att may =
     let a = avoiding av from in
     let k : IsShown image a = shown_avoiding image av from att in
-    let t = torn image a k es may g in
-    let h = harmed image a k es may g in (
+    let t = torn image av.ends a k es may g in
+    let h = harmed image av.ends a k es may g in (
       t,
       h,
       λ bytes.
-          let fit = fits image a k es may g bytes in
+          let fit = fits image av.ends a k es may g bytes in
           (image_torn image g a k _ _ _ _ 0 fit t, image_harmed image g a k _ _ _ _ _ fit h),
     )

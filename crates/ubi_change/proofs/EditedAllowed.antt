@@ -1,5 +1,5 @@
 -- With no cause against it, what edits make is a meaning.
-use Rattle.ubi_change.proofs.Prelude.{◌≡◌, ℕ, ◌+◌, ◌*◌, ◌<◌, ◌≤◌, inl, Bool, true, false, cond, List, [], ◌∷◌, length, map, refl, arith, ap, sym, ◌∙◌, subst, empty, get-empty, get-insert, nat_cmp, nat_cmp_total, eq_by_cmp, same_Some, None, Option, Some, IfSome, option_map, option_map_or, AllByRecursion, Sizes, slots, rec_fault, usable, VolumeRecord, Records, records_of, record_of, AcceptsBlocks, Fits, IsMeaning, IsVolume, Meant, Volume, left_by_all, placed, edited_in, written, fresh, MayBeSized, sum_by, drop, length-take, content_fits, content_of, text_of, usable_some, AreRecords, space, fits_without_blank, keeps_no_blank, space_of, KeepsNoBlank, fault_of, first_edit_fault, is_used, reads_whole, records_left, writing_fault, all_asked, news_of, part_in, volume_of, edited_records, Edit, NewVolume, EditFault}
+use Rattle.ubi_change.proofs.Prelude.{◌≡◌, ℕ, ◌+◌, ◌*◌, ◌<◌, ◌≤◌, inl, Bool, true, false, cond, List, [], ◌∷◌, length, map, refl, arith, ap, sym, ◌∙◌, subst, empty, get-empty, get-insert, nat_cmp, nat_cmp_total, eq_by_cmp, same_Some, None, Option, Some, IfSome, option_map, option_map_or, AllByRecursion, Sizes, slots, rec_fault, usable, VolumeRecord, Records, records_of, record_of, AcceptsBlocks, Fits, IsMeaning, IsVolume, Meant, Volume, left_by_all, placed, edited_in, written, fresh, MayBeSized, sum_by, drop, length-take, content_fits, content_of, text_of, usable_some, AreRecords, space, fits_without_blank, keeps_no_blank, space_of, KeepsNoBlank, fault_of, first_edit_fault, is_taken, reads_whole, records_left, writing_fault, all_asked, news_of, part_in, volume_of, edited_records, Edit, NewVolume, EditFault}
 use Rattle.std.specs.FinMap as finite
 use Rattle.ubi_change.specs.declared.edit.Edit.TheVariants as edit
 use Rattle.ubi_change.specs.declared.errors.EditFault.TheVariants as fault
@@ -75,30 +75,30 @@ placed_holds P (j ∷ js) (x ∷ new) p id v e =
     by_test true h rest = subst P (same_Some x v h) p.0
     by_test false h rest = rest h
 
-module _ (s : Sizes) (bs : List (List ℕ)) (m : Meant) (acc : AcceptsBlocks s bs m) (contents : List ℕ) (es : List Edit)
-    (faultless : first_edit_fault s (is_used s bs) (reads_whole m) 0 (records_of m) es ≡ None)
-    (records : AreRecords (edited_records (is_used s bs) (records_of m) es)) where
+module _ (s : Sizes) (bs : List (List ℕ)) (ends : List ℕ) (m : Meant) (acc : AcceptsBlocks s bs m) (contents : List ℕ) (es : List Edit)
+    (faultless : first_edit_fault s (is_taken s bs ends) (reads_whole m) 0 (records_of m) es ≡ None)
+    (records : AreRecords (edited_records (is_taken s bs ends) (records_of m) es)) where
   abbrev n : Meant
-  n = edited_in s bs m (all_asked s contents es)
+  n = edited_in s bs ends m (all_asked s contents es)
 
   sizes : m.sizes ≡ s
   sizes = acc.means.sizes
 
   are : AreRecords (records_of n)
-  are = subst AreRecords (sym (edited_are s bs m sizes contents es)) records
+  are = subst AreRecords (sym (edited_are s bs ends m sizes contents es)) records
 
   at : (id : ℕ) (w : Volume) → finite.get n.volumes id ≡ Some w → finite.get (records_of n).of id ≡ Some w.entry
   at id w e = record_of n id ∙ ap (option_map (λ (v : Volume). v.entry)) e
 
   holds : AllByRecursion (HoldsSo s) (written (all_asked s contents es))
   holds = subst (AllByRecursion (HoldsSo s)) (sym (written_are s contents es))
-      (news_hold s contents (news_of es) (news_sound s (is_used s bs) (reads_whole m) 0 (records_of m) es faultless))
+      (news_hold s contents (news_of es) (news_sound s (is_taken s bs ends) (reads_whole m) 0 (records_of m) es faultless))
 
-  same_so : (i : ℕ) (v w : Volume) → v ≡ w → (w.content ≡ v.content) × MayBeSized s bs i v w
+  same_so : (i : ℕ) (v w : Volume) → v ≡ w → (w.content ≡ v.content) × MayBeSized s bs ends i v w
   same_so i v w e = (ap (λ (x : Volume). x.content) (sym e), inl (ap (λ (x : Volume). x.entry.reserved) (sym e)))
 
   volume_now : (id : ℕ) (w : Volume) → finite.get n.volumes id ≡ Some w → IsVolume s id w
-  volume_now id w e = by (finite.get (placed empty (fresh s bs m) (written (all_asked s contents es))) id) refl
+  volume_now id w e = by (finite.get (placed empty (fresh s bs ends m) (written (all_asked s contents es))) id) refl
     where
       slot : id < slots s
       slot = subst (λ (z : Sizes). id < slots z) sizes (are.slot id w.entry (at id w e))
@@ -106,19 +106,19 @@ module _ (s : Sizes) (bs : List (List ℕ)) (m : Meant) (acc : AcceptsBlocks s b
       sound : rec_fault s w.entry ≡ None
       sound = subst (λ (z : Sizes). rec_fault z w.entry ≡ None) sizes (are.sound id w.entry (at id w e))
 
-      by : (o : Option Volume) → finite.get (placed empty (fresh s bs m) (written (all_asked s contents es))) id ≡ o
+      by : (o : Option Volume) → finite.get (placed empty (fresh s bs ends m) (written (all_asked s contents es))) id ≡ o
           → IsVolume s id w
       by (Some v) k =
-          let there = placed_there (left_by_all m.volumes (all_asked s contents es)) (fresh s bs m) (written (all_asked s contents es)) id v k in
+          let there = placed_there (left_by_all m.volumes (all_asked s contents es)) (fresh s bs ends m) (written (all_asked s contents es)) id v k in
           let same : v ≡ w = same_Some v w (sym there ∙ e) in
-          let h = subst (HoldsSo s) same (placed_holds (HoldsSo s) (fresh s bs m) (written (all_asked s contents es)) holds id v k) in
+          let h = subst (HoldsSo s) same (placed_holds (HoldsSo s) (fresh s bs ends m) (written (all_asked s contents es)) holds id v k) in
           record { slot = slot; sound = sound; fits = h.0; kept = h.1 }
       by None k =
           let left : finite.get (left_by_all m.volumes (all_asked s contents es)) id ≡ Some w =
-          sym (placed_none (left_by_all m.volumes (all_asked s contents es)) (fresh s bs m) (written (all_asked s contents es)) id k) ∙ e in
+          sym (placed_none (left_by_all m.volumes (all_asked s contents es)) (fresh s bs ends m) (written (all_asked s contents es)) id k) ∙ e in
           let old = left_are m.volumes (all_asked s contents es) id w left in
-          let sized = edits_sized s bs m contents m.volumes 0 es faultless (λ i v w was is. same_so i v w (same_Some v w (sym was ∙ is))) id old.0 w old.1 left in
-          left_volume s bs m acc id old.0 w old.1 old.2 sized.1 slot sound
+          let sized = edits_sized s bs ends m contents m.volumes 0 es faultless (λ i v w was is. same_so i v w (same_Some v w (sym was ∙ is))) id old.0 w old.1 left in
+          left_volume s bs ends m acc id old.0 w old.1 old.2 sized.1 slot sound
 
   -- what the edits make is a meaning, if there is space for it
   pub edited_meaning : space (records_of n) ≤ s.pebs → IsMeaning n

@@ -1,5 +1,5 @@
 -- What edits leave of volumes, and the volumes that they write.
-use Rattle.ubi_change.proofs.Prelude.{◌≡◌, ℕ, ◌-◌, ◌%◌, ◌<◌, ◌≤◌, ◌⊎◌, inl, inr, Bool, true, false, cond, not, List, [], ◌∷◌, length, take, refl, ap, sym, ◌∙◌, subst, arith, cases_lt, nat_tests, nat_cmp, nat_cmp_total, eq_by_cmp, None, Option, Some, IfSome, ◌==◌, filter, find, is_some, option_map_or, slice_index, unwrap_or, same_Some, same_test, apart_test, cases_eq, blank, Sizes, leb_size, usable, VolumeRecord, VidHeader, block, leb, Leb, NoMember, Wins, leb_of, member, Records, records_of, record_of, records_meant, AcceptsBlocks, IsUnlike, IsWithin, NoMismatch, LebReads, SlotMeans, StaticReads, VolumeReads, Fits, IsVolume, Meant, VolumeMap, volume_is, Content, Volume, volume_named, none_passes, option_map, get, empty, get-empty, get-insert, get-remove, AllByRecursion, IsWhole, MayBeSized, Create, Remove, Rename, Replace, Resize, is_fresh, is_of, left_by, left_by_all, placed, volume_sized, with_volume}
+use Rattle.ubi_change.proofs.Prelude.{◌≡◌, ℕ, ◌-◌, ◌%◌, ◌<◌, ◌≤◌, ◌⊎◌, inl, inr, Bool, true, false, cond, not, List, [], ◌∷◌, length, take, refl, ap, sym, ◌∙◌, subst, arith, cases_lt, nat_tests, nat_cmp, nat_cmp_total, eq_by_cmp, None, Option, Some, IfSome, ◌==◌, filter, find, is_some, option_map_or, slice_index, unwrap_or, same_Some, same_test, apart_test, cases_eq, blank, Sizes, leb_size, usable, VolumeRecord, VidHeader, block, leb, Leb, NoMember, Wins, leb_of, member, Records, records_of, record_of, records_meant, AcceptsBlocks, IsUnlike, IsWithin, NoMismatch, LebReads, SlotMeans, StaticReads, VolumeReads, Fits, IsVolume, Meant, VolumeMap, volume_is, Content, Volume, volume_named, none_passes, option_map, get, empty, get-empty, get-insert, get-remove, AllByRecursion, IsWhole, MayBeSized, is_hidden, ◌||◌, Create, Remove, Rename, Replace, Resize, is_fresh, is_of, left_by, left_by_all, placed, volume_sized, with_volume}
 use Rattle.ubi_change.specs.Edited.{Edit}
 use Rattle.std.specs.FinMap as finite
 use Rattle.ubi_volume.specs.declared.content.Content.TheVariants as content
@@ -123,16 +123,20 @@ all_filter p (x ∷ xs) = by_test (p x) refl (all_filter p xs)
     by_test false h r = r
 
 -- a fresh slot has no volume, and no member
-module _ (s : Sizes) (bs : List (List ℕ)) (m : Meant) (j : ℕ) (fresh : is_fresh s bs m j ≡ true) where
+module _ (s : Sizes) (bs : List (List ℕ)) (ends : List ℕ) (m : Meant) (j : ℕ) (fresh : is_fresh s bs ends m j ≡ true) where
   is_none : {X : Type 0} (o : Option X) → not (is_some o) ≡ true → o ≡ None
   is_none None e = refl
   is_none (Some x) e = absurd (cc)
+
+  neither : (a b : Bool) → not (a || b) ≡ true → not a ≡ true
+  neither false b e = refl
+  neither true b e = absurd (cc)
 
   pub fresh_slot : finite.get m.volumes j ≡ None
   fresh_slot = is_none (finite.get m.volumes j) (left_of _ _ fresh)
 
   none_of : find (is_of s bs j) bs ≡ None
-  none_of = is_none (find (is_of s bs j) bs) (right_of _ _ fresh)
+  none_of = is_none (find (is_of s bs j) bs) (neither (is_some (find (is_of s bs j) bs)) (is_hidden ends j 0) (right_of _ _ fresh))
 
   pub fresh_none : (lnum : ℕ) → NoMember s bs (j, lnum)
   fresh_none lnum p h = by_member (member s (block bs p)) h.named
@@ -150,8 +154,8 @@ module _ (s : Sizes) (bs : List (List ℕ)) (m : Meant) (j : ℕ) (fresh : is_fr
           differ a b e f = grind (arith, nat_tests)
 
 -- a volume of an accepted image stays
-module _ (s : Sizes) (bs : List (List ℕ)) (m : Meant) (acc : AcceptsBlocks s bs m) (id : ℕ) (v w : Volume)
-    (was : finite.get m.volumes id ≡ Some v) (is : IsLeft v w) (sized : MayBeSized s bs id v w) where
+module _ (s : Sizes) (bs : List (List ℕ)) (ends : List ℕ) (m : Meant) (acc : AcceptsBlocks s bs m) (id : ℕ) (v w : Volume)
+    (was : finite.get m.volumes id ≡ Some v) (is : IsLeft v w) (sized : MayBeSized s bs ends id v w) where
   pub same : records_of m ≡ acc.records
   same = records_meant s bs acc.records m acc.table acc.means
 

@@ -1,6 +1,6 @@
 -- The records of the meaning that edits make are those that the edits make of its records.
-use Rattle.ubi_change.proofs.Prelude.{◌≡◌, ℕ, Bool, true, false, cond, not, List, [], ◌∷◌, map, refl, arith, ap, ap₂, sym, ◌∙◌, None, Option, Some, option_map, option_map_or, ◌==◌, filter, find, is_some, nat_lt, eq_by_cmp, nat_cmp, nat_cmp_total, nat_cmp-IsAntisymmetric, FinMap, range_with_len, slots, Sizes, VolumeRecord, member, Records, records_of, record_of, Meant, VolumeMap, Volume, VidHeader, volume_named, fresh, is_fresh, is_of, left_by, left_by_all, placed, volume_sized, with_volume, written, edited_in, nat_tests, all_records_left, is_at_least, is_used, records_left, with_changed, with_size, all_asked, asked, news_of, part_in, volume_of, edited_parts, edited_records, free_slots, is_free, parts_of, records_with, Edit, NewVolume, with_record, without_record, with_name}
-use Rattle.std.proofs.Common.{◌&&◌}
+use Rattle.ubi_change.proofs.Prelude.{◌≡◌, ℕ, Bool, true, false, cond, not, List, [], ◌∷◌, map, refl, arith, ap, ap₂, sym, ◌∙◌, None, Option, Some, option_map, option_map_or, ◌==◌, filter, find, is_some, nat_lt, eq_by_cmp, nat_cmp, nat_cmp_total, nat_cmp-IsAntisymmetric, FinMap, range_with_len, slots, Sizes, VolumeRecord, member, Records, records_of, record_of, Meant, VolumeMap, Volume, VidHeader, volume_named, fresh, is_fresh, is_of, left_by, left_by_all, placed, volume_sized, with_volume, written, edited_in, nat_tests, all_records_left, is_at_least, is_hidden, is_taken, records_left, with_changed, with_size, all_asked, asked, news_of, part_in, volume_of, edited_parts, edited_records, free_slots, is_free, parts_of, records_with, Edit, NewVolume, with_record, without_record, with_name}
+use Rattle.std.proofs.Common.{◌&&◌, ◌||◌}
 use Rattle.std.specs.FinMap as finite
 use Rattle.ubi_change.specs.declared.edit.Edit.TheVariants as edit
 
@@ -84,7 +84,7 @@ written_are s contents (edit.Remove id ∷ es) = written_are s contents es
 written_are s contents (edit.Replace id v ∷ es) = ap (λ vs. volume_of s contents v ∷ vs) (written_are s contents es)
 written_are s contents (edit.Create v ∷ es) = ap (λ vs. volume_of s contents v ∷ vs) (written_are s contents es)
 
-module _ (s : Sizes) (bs : List (List ℕ)) where
+module _ (s : Sizes) (bs : List (List ℕ)) (ends : List ℕ) where
   and_true : (b : Bool) → (b && true) ≡ b
   and_true true = refl
   and_true false = refl
@@ -99,8 +99,8 @@ module _ (s : Sizes) (bs : List (List ℕ)) where
       by (Some h) = (let none : nat_lt h.lnum 0 ≡ false = grind (arith, nat_tests) in
           ap (λ b. (h.vol_id == vol) && not b) none ∙ and_true (h.vol_id == vol))
 
-  free_is : (m : Meant) (j : ℕ) → is_fresh s bs m j ≡ is_free (is_used s bs) (records_of m) j
-  free_is m j = ap₂ (λ (a b : Bool). not a && not b)
+  free_is : (m : Meant) (j : ℕ) → is_fresh s bs ends m j ≡ is_free (is_taken s bs ends) (records_of m) j
+  free_is m j = ap₂ (λ (a b : Bool). not a && not (b || is_hidden ends j 0))
       (there (finite.get m.volumes j) ∙ ap is_some (sym (record_of m j)))
       (ap (λ (p : List ℕ → Bool). is_some (find p bs)) (λ i b. sym (of_any j b) i))
     where
@@ -108,14 +108,14 @@ module _ (s : Sizes) (bs : List (List ℕ)) where
       there None = refl
       there (Some v) = refl
 
-  pub fresh_are : (m : Meant) → m.sizes ≡ s → fresh s bs m ≡ free_slots (is_used s bs) (records_of m)
+  pub fresh_are : (m : Meant) → m.sizes ≡ s → fresh s bs ends m ≡ free_slots (is_taken s bs ends) (records_of m)
   fresh_are m sizes = ap₂ (λ (p : ℕ → Bool) (n : ℕ). filter p (range_with_len 0 n)) (λ i j. free_is m j i) (ap slots (sym sizes))
 
   -- so the records of the edited meaning are those that the edits make
   pub edited_are : (m : Meant) → m.sizes ≡ s → (contents : List ℕ) (es : List Edit)
-      → records_of (edited_in s bs m (all_asked s contents es)) ≡ edited_records (is_used s bs) (records_of m) es
+      → records_of (edited_in s bs ends m (all_asked s contents es)) ≡ edited_records (is_taken s bs ends) (records_of m) es
   edited_are m sizes contents es =
       ap₂ (λ (js : List ℕ) (vs : List Volume). R m (placed (left_by_all m.volumes (all_asked s contents es)) js vs))
       (fresh_are m sizes) (written_are s contents es)
-      ∙ placed_are m s contents (left_by_all m.volumes (all_asked s contents es)) (free_slots (is_used s bs) (records_of m)) (news_of es)
-      ∙ ap (λ (t : Records). records_with t (edited_parts (is_used s bs) (records_of m) es)) (left_are m s contents m.volumes es)
+      ∙ placed_are m s contents (left_by_all m.volumes (all_asked s contents es)) (free_slots (is_taken s bs ends) (records_of m)) (news_of es)
+      ∙ ap (λ (t : Records). records_with t (edited_parts (is_taken s bs ends) (records_of m) es)) (left_are m s contents m.volumes es)

@@ -6,23 +6,23 @@ use Rattle.ubi_volume.specs.declared.content.Content.TheVariants as content
 use Rattle.ubi_change.proofs.EditedMeaning as edited
 use Rattle.ubi_change.proofs.EditedMeaning.{IsLeft}
 
-module _ (s : Sizes) (bs : List (List ℕ)) (m : Meant) (acc : AcceptsBlocks s bs m) (id : ℕ) (v w : Volume)
-    (was : finite.get m.volumes id ≡ Some v) (is : IsLeft v w) (sized : MayBeSized s bs id v w) where
+module _ (s : Sizes) (bs : List (List ℕ)) (ends : List ℕ) (m : Meant) (acc : AcceptsBlocks s bs m) (id : ℕ) (v w : Volume)
+    (was : finite.get m.volumes id ≡ Some v) (is : IsLeft v w) (sized : MayBeSized s bs ends id v w) where
   old : IsVolume s id v
-  old = edited.volume s bs m acc id v w was is sized
+  old = edited.volume s bs ends m acc id v w was is sized
 
   same : usable s w.entry ≡ usable s v.entry
-  same = edited.usable_same s bs m acc id v w was is sized
+  same = edited.usable_same s bs ends m acc id v w was is sized
 
   reads : VolumeReads s bs id v.entry v.content
-  reads = (edited.slot s bs m acc id v w was is sized).1
+  reads = (edited.slot s bs ends m acc id v w was is sized).1
 
   static_fits : (text : List ℕ) → v.entry.marker ≡ false → v.entry.kind ≡ kind.Static → StaticReads s bs id v.entry text
       → length text ≤ v.entry.reserved * usable s v.entry → length text ≤ w.entry.reserved * usable s w.entry
   static_fits text unmarked static held most = by sized held
     where
       alike : NoMismatch s bs (records_of m)
-      alike = subst (NoMismatch s bs) (sym (edited.same s bs m acc id v w was is sized)) acc.alike
+      alike = subst (NoMismatch s bs) (sym (edited.same s bs ends m acc id v w was is sized)) acc.alike
 
       few : (ps : List ℕ) → HoldContents s bs id v.entry ps
           → ((lnum : ℕ) → min v.entry.reserved w.entry.reserved ≤ lnum → NoMember s bs (id, lnum)) → length ps ≤ w.entry.reserved
@@ -35,13 +35,13 @@ module _ (s : Sizes) (bs : List (List ℕ)) (m : Meant) (acc : AcceptsBlocks s b
             (h.win (length ps - 1) (omega (arith, more, l, n))).member)
       ]
 
-      by : MayBeSized s bs id v w → StaticReads s bs id v.entry text → length text ≤ w.entry.reserved * usable s w.entry
+      by : MayBeSized s bs ends id v w → StaticReads s bs id v.entry text → length text ≤ w.entry.reserved * usable s w.entry
       by (inl equal) h = subst (λ n. length text ≤ n) (ap₂ (λ (a b : ℕ). a * b) (sym equal) (sym same)) most
       by (inr k) (inl h) = omega (arith, ap length h.1)
       by (inr k) (inr h) =
           let all : length (flat_map (piece s bs) h.0) ≤ length h.0 * usable s v.entry =
           most_pieces (piece s bs) (usable s v.entry) h.0 (λ i b. short_piece s bs (records_of m) alike id v.entry
-          (edited.recorded s bs m acc id v w was is sized) unmarked static i (slice_index h.0 i) (h.1.win i b)) in
+          (edited.recorded s bs ends m acc id v w was is sized) unmarked static i (slice_index h.0 i) (h.1.win i b)) in
           let fit : length h.0 * usable s v.entry ≤ w.entry.reserved * usable s v.entry =
           mul-le (length h.0) (usable s v.entry) w.entry.reserved (usable s v.entry) (few h.0 h.1 k.1) (omega arith) in
           subst (λ u. length text ≤ w.entry.reserved * u) (sym same) (omega (arith, ap length h.2, all, fit))
@@ -64,7 +64,7 @@ module _ (s : Sizes) (bs : List (List ℕ)) (m : Meant) (acc : AcceptsBlocks s b
       read : LebReads s bs id v.entry lnum text
       read = subst (λ (o : Option (List ℕ)). LebReads s bs id v.entry lnum (unwrap_or o (blank (usable s v.entry)))) e (held lnum h.0)
 
-      by : MayBeSized s bs id v w → lnum < w.entry.reserved
+      by : MayBeSized s bs ends id v w → lnum < w.entry.reserved
       by (inl equal) = (let l = h.0 in omega (arith, l, equal))
       by (inr k) = elim (cases_lt lnum w.entry.reserved) [
         | inl below ↦ below

@@ -5,12 +5,12 @@ pub use Rattle.std.proofs.Math.Nat.{div-add-mod, div-eq_of_lt, div-le_of_le-mul,
 pub use Rattle.std.proofs.Math.Seq.{drop-append_seam, take-append-add, take-append_seam}
 pub use Rattle.std.proofs.lemmas.Bool.{and_parts, cases_eq, cases_lt, eqb-true, ltb-true, not-true}
 pub use Rattle.std.proofs.lemmas.Bool.Decides.{Decides-and, Decides-like, nat_tests}
-pub use Rattle.std.proofs.lemmas.Grind.{common_steps, flat_map-append}
+pub use Rattle.std.proofs.lemmas.Grind.{common_steps, flat_map-append, same_number_lists}
 pub use Rattle.std.proofs.lemmas.Iterator.Adapters.{position_from-zero}
 pub use Rattle.std.proofs.lemmas.List.{at_drop_more, drop-drop, drop-take, drop_all, drop_at, get_or-map, get_or_default, length-map, length-replicate, length-take, length-take-le, map-append, set-get_or, set-set, take-append-drop, take-append-le, take-replicate, take-take, take_all, take_at, take_min, take_more}
 pub use Rattle.std.proofs.lemmas.List.Elements.{All-head, All-tail, filter-append, filter_map-append}
 pub use Rattle.std.proofs.lemmas.List.Folds.{concat-append, list_all-append}
-pub use Rattle.std.proofs.lemmas.List.FromFn.{get_or-enumerate_from, length-enumerate_from, map-range_with_len_more}
+pub use Rattle.std.proofs.lemmas.List.FromFn.{get_or-enumerate_from, get_or-map-range_with_len, length-enumerate_from, length-map-range_with_len, map-range_with_len_more}
 pub use Rattle.std.proofs.lemmas.List.Sums.{count_by_more_no, count_by_more_yes, fold-append, fold_more, sum_by-append, sum_by-cons, sum_by-le}
 pub use Rattle.std.proofs.lemmas.Nat.{div-mul-add, mod-mul-add, mul-le}
 pub use Rattle.std.proofs.lemmas.Option.{get_or_from_slice_get, same_Some, slice_get-get_or, slice_get_within}
@@ -98,7 +98,7 @@ pub use Rattle.ubi_scan.specs.Image.{Image, IsWholeImage, IsWholeSize, block, ec
 pub use Rattle.ubi_scan.specs.Marks.{is_listed}
 pub use Rattle.ubi_scan.specs.Members.{IsMember, Leb, NoMember, Wins, foreign, foreign_if, good_at, good_in, has_members, header, header_if, is_good, is_right, layout, leb_of, member, member_if, named_in, sqnum_at, sqnum_in}
 pub use Rattle.ubi_scan.specs.Numbers.{carriers, counters, image_seq, is_carrier, mean, mean_ec, seq_if, seq_of, sqnum_in_use, top_sqnum, valid_ec}
-pub use Rattle.ubi_scan.specs.Scan.{AreWinners, Found, IsScan, leb_cmp}
+pub use Rattle.ubi_scan.specs.Scan.{AreWinners, Found, IsNextWinner, IsScan, leb_cmp}
 pub use Rattle.ubi_scan.specs.Source.{Agreed, IsSource, Narrows, Source, WhereHeld, blocks_in, blocks_of, holds, memory}
 pub use Rattle.ubi_scan.specs.declared.errors.StreamError.{StreamError}
 pub use Rattle.ubi_table.proofs.NameRules.{sound_named}
@@ -143,14 +143,14 @@ pub use Rattle.ubi_change.specs.CommitAllowed.{AllThere, IsWhole, MayBeCommitted
 pub use Rattle.ubi_change.specs.CommitPlan.{commit_plan, edits_plan, lay, lay_all, numbered, table_plan, trimmed, whole_text}
 pub use Rattle.ubi_change.specs.CommitPlanned.{IsFrugalCommit, LeavesBoth, SurvivesCommit, WritesBytes}
 pub use Rattle.ubi_change.specs.Cuts.{SurvivesCuts, changed, header_in, is_copy, programs_copy, turn, volume_with, with_leb}
-pub use Rattle.ubi_change.specs.EditFaults.{all_records_left, fault_of, fault_on, first_edit_fault, is_at_least, is_too_large, is_used, reads_whole, records_left, sizing_fault, with_changed, with_size, writing_fault}
+pub use Rattle.ubi_change.specs.EditFaults.{all_records_left, fault_of, fault_on, first_edit_fault, is_at_least, is_taken, is_too_large, is_used, reads_whole, records_left, sizing_fault, with_changed, with_size, writing_fault}
 pub use Rattle.ubi_change.specs.Edited.{Create, Remove, Rename, Replace, Resize, edited, edited_in, edits_volume, fresh, is_fresh, is_of, left_by, left_by_all, made_in, placed, volume_sized, with_volume, written}
 pub use Rattle.ubi_change.specs.EditsAsked.{all_asked, asked, first_beyond, is_beyond, new_of, news_of, part_in, volume_of}
 pub use Rattle.ubi_change.specs.Fitting.{AllFit, AllWithin, FitsBlock, fits, only_clears, page_of}
 pub use Rattle.ubi_change.specs.Frugal.{CountsErases, IsFrugal, TouchesOnly, counter_after, erases, given_up, touched}
 pub use Rattle.ubi_change.specs.Laws.{AcceptsHarmed, AcceptsTorn, CommitAvoiding, CommitSurvives, CommitSurvivesTears, EditsAllowed, PlanSurvives, PlanSurvivesTears, RenameSurvives, RenameSurvivesTears, left}
 pub use Rattle.ubi_change.specs.Laying.{StaysOpen, after_contents, all_layings, laying_of, laying_with, layings_of, piece_bytes}
-pub use Rattle.ubi_change.specs.Listed.{listed_sqnum, listed_top_of}
+pub use Rattle.ubi_change.specs.Listed.{Hidden, end_named, is_hidden, listed_end_of, listed_header, listed_top_of, sqnum_named}
 pub use Rattle.ubi_change.specs.Order.{ComesFirst, Erases, NoErase, Programs, RisesBetweenErases}
 pub use Rattle.ubi_change.specs.Pages.{PagesCarry, line_of, programmed, with_pages}
 pub use Rattle.ubi_change.specs.Placed.{autoresized_twice, edited_parts, edited_records, flagged_twice, free_slots, is_free, parts_of, records_with}

@@ -19,15 +19,15 @@ placed_nil : (vs : VolumeMap) (js : List ℕ) → placed vs js [] ≡ vs
 placed_nil vs [] = refl
 placed_nil vs (j ∷ js) = refl
 
-module _ (s : Sizes) (bs : List (List ℕ)) (m : Meant) (id : ℕ) (name : List ℕ) where
+module _ (s : Sizes) (bs : List (List ℕ)) (ends : List ℕ) (m : Meant) (id : ℕ) (name : List ℕ) where
   abbrev pub one : List Edit
   one = Rename id name ∷ []
 
   -- it makes the renamed meaning
-  pub edited-is : edited_in s bs m one ≡ renamed m id name
+  pub edited-is : edited_in s bs ends m one ≡ renamed m id name
   edited-is =
       ap (λ (vs : VolumeMap). record m { volumes = vs })
-      (placed_nil (with_volume m.volumes id (λ v. volume_named v name)) (fresh s bs m))
+      (placed_nil (with_volume m.volumes id (λ v. volume_named v name)) (fresh s bs ends m))
       ∙ by (finite.get m.volumes id)
     where
       by : (o : Option Volume)
@@ -37,21 +37,21 @@ module _ (s : Sizes) (bs : List (List ℕ)) (m : Meant) (id : ℕ) (name : List 
       by (Some v) = refl
 
   -- and writes no LEB
-  pub laid-none : laid_blocks s (finite.entries (made_in s bs m one)) ≡ []
-  laid-none = ap (λ (vs : VolumeMap). laid_blocks s (finite.entries vs)) (placed_nil empty (fresh s bs m))
+  pub laid-none : laid_blocks s (finite.entries (made_in s bs ends m one)) ≡ []
+  laid-none = ap (λ (vs : VolumeMap). laid_blocks s (finite.entries vs)) (placed_nil empty (fresh s bs ends m))
       ∙ ap (laid_blocks s) (entries_none empty (λ id. get-empty nat_cmp id))
 
-module _ (s : Sizes) (bs : List (List ℕ)) (a : AttachValue) (id : ℕ) (name : List ℕ) where
-  pub plan-is : commit_plan s bs a (made_in s bs a.meaning (one s bs a.meaning id name)) (edited_in s bs a.meaning (one s bs a.meaning id name))
+module _ (s : Sizes) (bs : List (List ℕ)) (ends : List ℕ) (a : AttachValue) (id : ℕ) (name : List ℕ) where
+  pub plan-is : commit_plan s bs a (made_in s bs ends a.meaning (one s bs ends a.meaning id name)) (edited_in s bs ends a.meaning (one s bs ends a.meaning id name))
       ≡ rename_plan s bs a id name
   plan-is =
       let first : a.scan.top_sqnum + 1 + 0 ≡ a.scan.top_sqnum + 1 = omega arith in
       let second : a.scan.top_sqnum + 1 + (0 + 1) ≡ a.scan.top_sqnum + 2 = omega arith in
       let next : 0 + 1 ≡ 1 = omega arith in
       let new = table_pages s (records_of (renamed a.meaning id name)) in
-      ap (λ (ls : List Laid). lay_all s bs a 0 ls ++ table_plan s bs a (length ls) (edited_in s bs a.meaning (one s bs a.meaning id name)))
-      (laid-none s bs a.meaning id name)
-      ∙ ap (λ (n : Meant). table_plan s bs a 0 n) (edited-is s bs a.meaning id name)
+      ap (λ (ls : List Laid). lay_all s bs a 0 ls ++ table_plan s bs a (length ls) (edited_in s bs ends a.meaning (one s bs ends a.meaning id name)))
+      (laid-none s bs ends a.meaning id name)
+      ∙ ap (λ (n : Meant). table_plan s bs a 0 n) (edited-is s bs ends a.meaning id name)
       ∙ ap (λ (q : ℕ). copy_plan s bs a new 0 0 q ++ copy_plan s bs a new 1 (0 + 1) (a.scan.top_sqnum + 1 + (0 + 1))) first
       ∙ ap (λ (q : ℕ). copy_plan s bs a new 0 0 (a.scan.top_sqnum + 1) ++ copy_plan s bs a new 1 q (a.scan.top_sqnum + 1 + (0 + 1))) next
       ∙ ap (λ (q : ℕ). copy_plan s bs a new 0 0 (a.scan.top_sqnum + 1) ++ copy_plan s bs a new 1 1 q) second
@@ -98,18 +98,18 @@ module _ (s : Sizes) (bs : List (List ℕ)) (a : AttachValue) (id : ℕ) (name :
             k_there = may.there ∙ sym k
 
     -- nothing stands against the commit
-    pub may_be_committed : MayBeCommitted s bs a (one s bs m id name)
+    pub may_be_committed : MayBeCommitted s bs ends a (one s bs ends m id name)
     may_be_committed =
-        let needs : commit_needs s bs a (one s bs m id name) ≡ 2 =
-        ap (λ (ls : List Laid). length ls + 2) (laid-none s bs m id name) in
+        let needs : commit_needs s bs ends a (one s bs ends m id name) ≡ 2 =
+        ap (λ (ls : List Laid). length ls + 2) (laid-none s bs ends m id name) in
         record {
           there = ((may.volume, may.there), tt);
           room = omega arith;
           whole = tt;
           sized = λ i v w e f. inl (sized i v w e f);
-          meaning = subst IsMeaning (sym (edited-is s bs m id name)) next_is;
+          meaning = subst IsMeaning (sym (edited-is s bs ends m id name)) next_is;
           both = may.both;
-          strong = ap (λ (n : Meant). weak_pages s (table_pages s (records_of n))) (edited-is s bs m id name) ∙ may.strong;
+          strong = ap (λ (n : Meant). weak_pages s (table_pages s (records_of n))) (edited-is s bs ends m id name) ∙ may.strong;
           few = (let e = may.few in omega arith);
           enough = (let e = may.enough in omega arith);
         }
@@ -123,37 +123,41 @@ module _ (image : Image) (g : IsGeometry image.sizes) (a : AttachValue) (att : I
   abbrev bs : List (List ℕ)
   bs = eraseblocks image
 
-  abbrev es : List Edit
-  es = one s bs a.meaning id name
+  -- nothing has to be hidden from a rename
+  abbrev ends : List ℕ
+  ends = []
 
-  commits : MayBeCommitted s bs a es
-  commits = may_be_committed s bs a id name att.accepted.accepted.means.meaning may
+  abbrev es : List Edit
+  es = one s bs ends a.meaning id name
+
+  commits : MayBeCommitted s bs ends a es
+  commits = may_be_committed s bs ends a id name att.accepted.accepted.means.meaning may
 
   survives : SurvivesCommit s bs a.meaning (renamed a.meaning id name) (rename_plan s bs a id name)
   survives =
-      subst (λ (n : Meant). SurvivesCommit s bs a.meaning n (rename_plan s bs a id name)) (edited-is s bs a.meaning id name)
-      (subst (SurvivesCommit s bs a.meaning (edited_in s bs a.meaning es)) (plan-is s bs a id name)
-      (shown_survives image a att es commits g))
+      subst (λ (n : Meant). SurvivesCommit s bs a.meaning n (rename_plan s bs a id name)) (edited-is s bs ends a.meaning id name)
+      (subst (SurvivesCommit s bs a.meaning (edited_in s bs ends a.meaning es)) (plan-is s bs ends a id name)
+      (shown_survives image ends a att es commits g))
 
   pub rename_survives : SurvivesRename s bs a.meaning id name (rename_plan s bs a id name)
   rename_survives = record { two_copies = survives.two_copies; comes = survives.comes; each = survives.each }
 
   pub rename_both : LeavesBothGood s bs a.meaning id name (rename_plan s bs a id name)
   rename_both =
-      subst (λ (n : Meant). LeavesBoth s bs n (rename_plan s bs a id name)) (edited-is s bs a.meaning id name)
-      (subst (LeavesBoth s bs (edited_in s bs a.meaning es)) (plan-is s bs a id name)
-      (shown_both image a att es commits g))
+      subst (λ (n : Meant). LeavesBoth s bs n (rename_plan s bs a id name)) (edited-is s bs ends a.meaning id name)
+      (subst (LeavesBoth s bs (edited_in s bs ends a.meaning es)) (plan-is s bs ends a id name)
+      (shown_both image ends a att es commits g))
 
   -- what holds of the commit and of what it makes holds of the plan and of the renamed meaning
-  has : (F : Meant → List Step → Type 0) → F (edited_in s bs a.meaning es) (edits_plan s bs a es)
+  has : (F : Meant → List Step → Type 0) → F (edited_in s bs ends a.meaning es) (edits_plan s bs ends a es)
       → F (renamed a.meaning id name) (rename_plan s bs a id name)
   has F h =
-      subst (λ (n : Meant). F n (rename_plan s bs a id name)) (edited-is s bs a.meaning id name)
-      (subst (F (edited_in s bs a.meaning es)) (plan-is s bs a id name) h)
+      subst (λ (n : Meant). F n (rename_plan s bs a id name)) (edited-is s bs ends a.meaning id name)
+      (subst (F (edited_in s bs ends a.meaning es)) (plan-is s bs ends a id name) h)
 
   pub rename_tears : SurvivesTears s bs a.meaning (renamed a.meaning id name) (rename_plan s bs a id name)
       (turn s (rename_plan s bs a id name) (renamed_pages s a.meaning id name))
-  rename_tears = has (λ n xs. SurvivesTears s bs a.meaning n xs (turn s xs (table_pages s (records_of n)))) (torn image a att es commits g)
+  rename_tears = has (λ n xs. SurvivesTears s bs a.meaning n xs (turn s xs (table_pages s (records_of n)))) (torn image ends a att es commits g)
 
   pub rename_harm : SurvivesHarm s bs a.meaning (renamed a.meaning id name) (rename_plan s bs a id name)
       (turn s (rename_plan s bs a id name) (renamed_pages s a.meaning id name))
@@ -162,10 +166,10 @@ module _ (image : Image) (g : IsGeometry image.sizes) (a : AttachValue) (att : I
   rename_harm = has
       (λ n xs. let new = table_pages s (records_of n) in
       SurvivesHarm s bs a.meaning n xs (turn s xs new) (turn s xs new + (pages_of s new - pages_needed s new)))
-      (harmed image a att es commits g)
+      (harmed image ends a att es commits g)
 
   pub rename_fits : AreBytes (renamed_pages s a.meaning id name) → AllFit s bs (rename_plan s bs a id name)
-  rename_fits bytes = has (λ n xs. AllFit s bs xs) (fits image a att es commits g (record {
-    texts = subst (AllByRecursion (λ l. AreBytes l.text)) (sym (laid-none s bs a.meaning id name)) tt;
-    pages = subst (λ (n : Meant). AreBytes (table_pages s (records_of n))) (sym (edited-is s bs a.meaning id name)) bytes;
+  rename_fits bytes = has (λ n xs. AllFit s bs xs) (fits image ends a att es commits g (record {
+    texts = subst (AllByRecursion (λ l. AreBytes l.text)) (sym (laid-none s bs ends a.meaning id name)) tt;
+    pages = subst (λ (n : Meant). AreBytes (table_pages s (records_of n))) (sym (edited-is s bs ends a.meaning id name)) bytes;
   }))

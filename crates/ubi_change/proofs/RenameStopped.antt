@@ -40,6 +40,9 @@ module _ (image : Image) (av : Avoided) (id : ℕ) (name contents : List ℕ) (c
   abbrev a : AttachValue
   a = avoiding av is.from
 
+  abbrev ends : List ℕ
+  ends = av.ends
+
   abbrev m : Meant
   m = is.from.meaning
 
@@ -50,15 +53,15 @@ module _ (image : Image) (av : Avoided) (id : ℕ) (name contents : List ℕ) (c
   n = renamed m id name
 
   -- the records that the edit makes are those of the renamed meaning
-  asked : asked_records s bs a (asking.Rename id name ∷ []) ≡ records_of n
-  asked = sym (edited_are s bs m is.attached.accepted.accepted.means.sizes contents (asking.Rename id name ∷ []))
-      ∙ ap records_of (edited-is s bs m id name)
+  asked : asked_records s bs ends a (asking.Rename id name ∷ []) ≡ records_of n
+  asked = sym (edited_are s bs ends m is.attached.accepted.accepted.means.sizes contents (asking.Rename id name ∷ []))
+      ∙ ap records_of (edited-is s bs ends m id name)
 
-  needs : commit_needs s bs a (one s bs m id name) ≡ 2
-  needs = ap (λ (ls : List Laid). length ls + 2) (laid-none s bs m id name)
+  needs : commit_needs s bs ends a (one s bs ends m id name) ≡ 2
+  needs = ap (λ (ls : List Laid). length ls + 2) (laid-none s bs ends m id name)
 
   abbrev Stands : UpdateRefusal → Type 0
-  Stands d = UpdateStands s bs a contents (touchable av is.from.states) (asking.Rename id name ∷ []) d
+  Stands d = UpdateStands s bs ends a contents (touchable av is.from.states) (asking.Rename id name ∷ []) d
 
   -- why the edit isn't made
   abbrev fault_by : Option VolumeRecord → Bool → Option (ℕ × EditFault)
@@ -165,7 +168,7 @@ module _ (image : Image) (av : Avoided) (id : ℕ) (name contents : List ℕ) (c
     before (refusal.WeakCheck k) l h = is.first (update.WeakCheck k) l (weak k h)
     before refusal.Exhausted l h = is.first update.Exhausted l (omega (arith, h, needs))
     before refusal.NoFree l h =
-        is.first (update.NoFree (commit_needs s bs a (one s bs m id name)) (length (takeable s bs a.states))) l
+        is.first (update.NoFree (commit_needs s bs ends a (one s bs ends m id name)) (length (takeable s bs a.states))) l
         (refl, refl, omega (arith, h, needs))
     before (refusal.Attach x) l h = h
     before refusal.Memory l h = h

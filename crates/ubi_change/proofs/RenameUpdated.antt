@@ -24,14 +24,17 @@ module _ (image : Image) (av : Avoided) (id : ℕ) (name contents : List ℕ) (p
   abbrev m : Meant
   m = is.from.meaning
 
+  abbrev ends : List ℕ
+  ends = av.ends
+
   abbrev es : List Edit
-  es = one s bs m id name
+  es = one s bs ends m id name
 
-  named : edited_in s bs m es ≡ renamed m id name
-  named = edited-is s bs m id name
+  named : edited_in s bs ends m es ≡ renamed m id name
+  named = edited-is s bs ends m id name
 
-  needs : commit_needs s bs a es ≡ 2
-  needs = ap (λ (ls : List Laid). length ls + 2) (laid-none s bs m id name)
+  needs : commit_needs s bs ends a es ≡ 2
+  needs = ap (λ (ls : List Laid). length ls + 2) (laid-none s bs ends m id name)
 
   -- the edit has no fault
   abbrev fault_by : Option VolumeRecord → Bool → Option (ℕ × EditFault)
@@ -71,8 +74,8 @@ module _ (image : Image) (av : Avoided) (id : ℕ) (name contents : List ℕ) (p
 
   module _ (steps : List Step) (made : steps ≡ in_order (plan_groups s p contents)) where
     -- what holds of the commit and of what it makes holds of the steps and of the renamed meaning
-    has : (F : Meant → List Step → Type 0) → F (edited_in s bs m es) (edits_plan s bs a es) → F (renamed m id name) steps
-    has F h = subst (F (renamed m id name)) (sym (made ∙ is.plan)) (subst (λ (n : Meant). F n (edits_plan s bs a es)) named h)
+    has : (F : Meant → List Step → Type 0) → F (edited_in s bs ends m es) (edits_plan s bs ends a es) → F (renamed m id name) steps
+    has F h = subst (F (renamed m id name)) (sym (made ∙ is.plan)) (subst (λ (n : Meant). F n (edits_plan s bs ends a es)) named h)
 
     survives : SurvivesRename s bs m id name steps
     survives =
@@ -94,14 +97,14 @@ module _ (image : Image) (av : Avoided) (id : ℕ) (name contents : List ℕ) (p
     frugal : IsFrugalRename s bs a id name steps
     frugal =
         let h = subst (λ n. IsFrugalCommit s bs a n (renamed m id name) steps) needs
-        (has (IsFrugalCommit s bs a (commit_needs s bs a es)) is.facts.frugal) in
+        (has (IsFrugalCommit s bs a (commit_needs s bs ends a es)) is.facts.frugal) in
         record { touches = h.touches; gives_up = h.gives_up; counts = h.counts }
 
     fits : AreBytes p.pages.items → AllFit s bs steps
     fits bytes = has (λ n xs. AllFit s bs xs) (is.facts.fits (record {
-      texts = subst (AllByRecursion (λ l. AreBytes l.text)) (sym (laid-none s bs m id name)) tt;
+      texts = subst (AllByRecursion (λ l. AreBytes l.text)) (sym (laid-none s bs ends m id name)) tt;
       pages = subst AreBytes
-          (is.pages ∙ ap (table_pages s) (sym (edited_are s bs m is.attached.accepted.accepted.means.sizes contents (asking.Rename id name ∷ []))))
+          (is.pages ∙ ap (table_pages s) (sym (edited_are s bs ends m is.attached.accepted.accepted.means.sizes contents (asking.Rename id name ∷ []))))
           bytes;
     }))
 
@@ -122,7 +125,7 @@ module _ (image : Image) (av : Avoided) (id : ℕ) (name contents : List ℕ) (p
         from = is.from;
         attached = is.attached;
         allowed = may_be_named;
-        plan = made ∙ is.plan ∙ plan-is s bs a id name;
+        plan = made ∙ is.plan ∙ plan-is s bs ends a id name;
       };
       avoids = has (λ n xs. Avoids s bs av xs) is.facts.avoids;
       blank = is.blank;

@@ -1,5 +1,5 @@
 -- Which cause applies first against edits, by what the functions on the way to their plan found.
-use Rattle.ubi_change.proofs.Prelude.{◌≡◌, ℕ, ◌<◌, Bool, List, [], IsSome, map, ap, sym, ◌∙◌, subst, arith, None, Option, Some, Sizes, Image, eraseblocks, image_of, IsSurvey, Seen, AttachValue, Records, records_of, BothGood, avoiding, Avoided, Holders, weak_pages, table_pages, AreHolders, ReadBlank, of_blocks, IsWholeSize, touchable, is_used, reads_whole, edited_records, IsUpdateCause, RecordsStand, UpdateStands, asked_records, update_rank, TellsUsed, IsFirstJudged, IsJudged, IsMade, IsUnready, Edit, UpdateRefusal, Judged, Agreed, Source, StreamError, ArePlacesError, IsKnown, NotBlankIs, IsUnbased, update_error, Known}
+use Rattle.ubi_change.proofs.Prelude.{◌≡◌, ℕ, ◌<◌, Bool, List, [], IsSome, map, ap, sym, ◌∙◌, subst, arith, None, Option, Some, Sizes, Image, eraseblocks, image_of, IsSurvey, Seen, AttachValue, Records, records_of, BothGood, avoiding, Avoided, Holders, weak_pages, table_pages, AreHolders, ReadBlank, of_blocks, IsWholeSize, touchable, is_taken, reads_whole, edited_records, IsUpdateCause, RecordsStand, UpdateStands, asked_records, update_rank, TellsUsed, IsFirstJudged, IsJudged, IsMade, IsUnready, Edit, UpdateRefusal, Judged, Agreed, Source, StreamError, ArePlacesError, IsKnown, NotBlankIs, IsUnbased, update_error, Known}
 use Rattle.ubi_change.specs.declared.errors.UpdateRefusal.TheVariants as refusal
 use Rattle.ubi_scan.specs.declared.errors.StreamError.TheVariants as stream
 use Rattle.ubi_change.specs.declared.errors.UpdateError.TheVariants as error
@@ -15,6 +15,9 @@ module _ (image : Image) (av : Avoided) (seen : Seen) (is : IsSurvey image seen)
   abbrev bs : List (List ℕ)
   bs = eraseblocks image
 
+  abbrev ends : List ℕ
+  ends = av.ends
+
   abbrev a : AttachValue
   a = avoiding av (whole image seen is)
 
@@ -22,16 +25,16 @@ module _ (image : Image) (av : Avoided) (seen : Seen) (is : IsSurvey image seen)
   room = touchable av seen.states
 
   abbrev OfRecords : UpdateRefusal → Type 0
-  OfRecords c = RecordsStand s (is_used s bs) (reads_whole is.meaning) seen.records room es c
+  OfRecords c = RecordsStand s (is_taken s bs ends) (reads_whole is.meaning) seen.records room es c
 
   abbrev Stands : UpdateRefusal → Type 0
-  Stands c = UpdateStands s bs a contents room es c
+  Stands c = UpdateStands s bs ends a contents room es c
 
-  surveyed : (c : UpdateRefusal) → RecordsStand s (is_used s bs) (reads_whole is.meaning) (records_of is.meaning) room es c → OfRecords c
-  surveyed c h = subst (λ (t : Records). RecordsStand s (is_used s bs) (reads_whole is.meaning) t room es c) (sym is.records) h
+  surveyed : (c : UpdateRefusal) → RecordsStand s (is_taken s bs ends) (reads_whole is.meaning) (records_of is.meaning) room es c → OfRecords c
+  surveyed c h = subst (λ (t : Records). RecordsStand s (is_taken s bs ends) (reads_whole is.meaning) t room es c) (sym is.records) h
 
-  meant : (c : UpdateRefusal) → OfRecords c → RecordsStand s (is_used s bs) (reads_whole is.meaning) (records_of is.meaning) room es c
-  meant c h = subst (λ (t : Records). RecordsStand s (is_used s bs) (reads_whole is.meaning) t room es c) is.records h
+  meant : (c : UpdateRefusal) → OfRecords c → RecordsStand s (is_taken s bs ends) (reads_whole is.meaning) (records_of is.meaning) room es c
+  meant c h = subst (λ (t : Records). RecordsStand s (is_taken s bs ends) (reads_whole is.meaning) t room es c) is.records h
 
   -- the first causes are those that the records say
   to_records : (d : UpdateRefusal) → update_rank d < 6 → Stands d → OfRecords d
@@ -51,18 +54,18 @@ module _ (image : Image) (av : Avoided) (seen : Seen) (is : IsSurvey image seen)
   used c first stands = record { from = whole image seen is; attached = is.attached; blank = blank; stands = stands; first = first }
 
   -- one that the records say
-  judged_first : (c : UpdateRefusal) → update_rank c < 6 → IsFirstJudged s seen (is_used s bs) (reads_whole is.meaning) es room c → Stands c
+  judged_first : (c : UpdateRefusal) → update_rank c < 6 → IsFirstJudged s seen (is_taken s bs ends) (reads_whole is.meaning) es room c → Stands c
       → IsUpdateCause image av contents es c
   judged_first c few first stands = used c (λ d l h. first.first d l (to_records d (omega (arith, few, l)) h)) stands
 
   abbrev Told : UpdateRefusal → Type 0
-  Told c = IsFirstJudged s seen (is_used s bs) (reads_whole is.meaning) es room c
+  Told c = IsFirstJudged s seen (is_taken s bs ends) (reads_whole is.meaning) es room c
 
-  made : (j : Judged) → IsJudged s seen wholes es room j → IsMade s seen (is_used s bs) (reads_whole is.meaning) es room j
-  made j judged = judged (is_used s bs) (reads_whole is.meaning) (used_told s bs seen.scan.winners is.attached.scan.winners) are
+  made : (j : Judged) → IsJudged s seen ends wholes es room j → IsMade s seen (is_taken s bs ends) (reads_whole is.meaning) es room j
+  made j judged = judged (is_taken s bs ends) (reads_whole is.meaning) (used_told s bs ends seen.scan.winners is.attached.scan.winners) are
 
   -- those after them
-  module _ (j : Judged) (judged : IsJudged s seen wholes es room j) where
+  module _ (j : Judged) (judged : IsJudged s seen ends wholes es room j) where
     before_repair : (d : UpdateRefusal) → update_rank d < 6 → Stands d → ⊥
     before_repair d l h = (made j judged).none d (to_records d l h)
 
@@ -79,8 +82,8 @@ module _ (image : Image) (av : Avoided) (seen : Seen) (is : IsSurvey image seen)
     before_weak t both refusal.Exhausted l h = absurd (omega arith)
     before_weak t both (refusal.NoFree n k) l h = absurd (omega arith)
 
-    table_is : j.table ≡ asked_records s bs a es
-    table_is = (made j judged).table ∙ ap (λ (t : Records). edited_records (is_used s bs) t es) is.records
+    table_is : j.table ≡ asked_records s bs ends a es
+    table_is = (made j judged).table ∙ ap (λ (t : Records). edited_records (is_taken s bs ends) t es) is.records
 
     pub repair_is : ((t : Records) → BothGood s bs t → ⊥) → IsUpdateCause image av contents es refusal.NeedsRepair
     repair_is none = used refusal.NeedsRepair before_repair none
@@ -107,25 +110,25 @@ module _ (s : Sizes) (k : Source) (agrees : Agreed) (av : Avoided) (es : List Ed
     are = is.wholes bytes holds survey
 
     abbrev FirstOf : UpdateRefusal → Type 0
-    FirstOf c = IsFirstJudged s seen (is_used s (eraseblocks (image_of s bytes))) (reads_whole survey.meaning) es (touchable av seen.states) c
+    FirstOf c = IsFirstJudged s seen (is_taken s (eraseblocks (image_of s bytes)) av.ends) (reads_whole survey.meaning) es (touchable av seen.states) c
 
     cause_is : (c : UpdateRefusal) → update_rank c < 6 → FirstOf c → (contents : List ℕ)
-        → UpdateStands s (eraseblocks (image_of s bytes)) (avoiding av (whole (image_of s bytes) seen survey)) contents (touchable av seen.states) es c
+        → UpdateStands s (eraseblocks (image_of s bytes)) av.ends (avoiding av (whole (image_of s bytes) seen survey)) contents (touchable av seen.states) es c
         → IsUpdateCause (image_of s bytes) av contents es c
     cause_is c few first contents stands =
         judged_first (image_of s bytes) av seen survey none_listed contents es known.wholes.items are c few first stands
 
     stands_for : (c : UpdateRefusal) → FirstOf c
-        → RecordsStand s (is_used s (eraseblocks (image_of s bytes))) (reads_whole survey.meaning) (records_of survey.meaning) (touchable av seen.states) es c
+        → RecordsStand s (is_taken s (eraseblocks (image_of s bytes)) av.ends) (reads_whole survey.meaning) (records_of survey.meaning) (touchable av seen.states) es c
     stands_for c first = meant (image_of s bytes) av seen survey none_listed [] es known.wholes.items are c first.stands
 
-    judged_used : TellsUsed seen.scan.winners (is_used s (eraseblocks (image_of s bytes)))
-    judged_used = used_told s (eraseblocks (image_of s bytes)) seen.scan.winners survey.attached.scan.winners
+    judged_used : TellsUsed seen.scan.winners av.ends (is_taken s (eraseblocks (image_of s bytes)) av.ends)
+    judged_used = used_told s (eraseblocks (image_of s bytes)) av.ends seen.scan.winners survey.attached.scan.winners
 
   whole_size : IsWholeSize s k.size
   whole_size = is.survey.scan.whole
 
-  pub unready_is : (c : UpdateRefusal) → IsUnready s seen known.wholes.items known.holders es (touchable av seen.states) c
+  pub unready_is : (c : UpdateRefusal) → IsUnready s seen av.ends known.wholes.items known.holders es (touchable av seen.states) c
       → IsUnbased s k agrees av es (error.Refused c)
   unready_is refusal.Memory h = tt
   unready_is (refusal.Attach x) h = absurd h

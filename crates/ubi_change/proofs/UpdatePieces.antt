@@ -1,5 +1,5 @@
 -- What edits write is laid out as their commit lays it out.
-use Rattle.ubi_change.proofs.Prelude.{◌≡◌, ℕ, ◌+◌, ◌<◌, ◌≤◌, Bool, true, false, cond, List, [], ◌∷◌, length, length-map, map, filter, ap, ap₂, ◌∙◌, None, AllByRecursion, range_with_len, empty, slots, Sizes, Volume, laid_blocks, AttachValue, records_of, NewVolume, Part, commit_needs, placed, made_in, parts_of, free_slots, Rises, range_rises, first_edit_fault, is_used, reads_whole, all_asked, news_of, all_layings, edited_parts, Edit}
+use Rattle.ubi_change.proofs.Prelude.{◌≡◌, ℕ, ◌+◌, ◌<◌, ◌≤◌, Bool, true, false, cond, List, [], ◌∷◌, length, length-map, map, filter, ap, ap₂, ◌∙◌, None, AllByRecursion, range_with_len, empty, slots, Sizes, Volume, laid_blocks, AttachValue, records_of, NewVolume, Part, commit_needs, placed, made_in, parts_of, free_slots, Rises, range_rises, first_edit_fault, is_taken, reads_whole, all_asked, news_of, all_layings, edited_parts, Edit}
 use Rattle.std.specs.FinMap as finite
 use Rattle.ubi_change.proofs.EditedAllowed.{news_sound}
 use Rattle.ubi_change.proofs.EditedRecords.{fresh_are, written_are}
@@ -29,20 +29,20 @@ parts_reach size [] vs h = tt
 parts_reach size (j ∷ js) [] h = tt
 parts_reach size (j ∷ js) (v ∷ vs) h = (h.0, parts_reach size js vs h.1)
 
-module _ (s : Sizes) (bs : List (List ℕ)) (a : AttachValue) (sizes : a.meaning.sizes ≡ s) (contents : List ℕ) (es : List Edit)
-    (faultless : first_edit_fault s (is_used s bs) (reads_whole a.meaning) 0 (records_of a.meaning) es ≡ None)
+module _ (s : Sizes) (bs : List (List ℕ)) (ends : List ℕ) (a : AttachValue) (sizes : a.meaning.sizes ≡ s) (contents : List ℕ) (es : List Edit)
+    (faultless : first_edit_fault s (is_taken s bs ends) (reads_whole a.meaning) 0 (records_of a.meaning) es ≡ None)
     (reach : AllByRecursion (λ v. v.start + v.len ≤ length contents) (news_of es)) where
-  pub pieces_are : laid_blocks s (finite.entries (made_in s bs a.meaning (all_asked s contents es)))
-      ≡ map (laid_as s contents) (all_layings s contents (edited_parts (is_used s bs) (records_of a.meaning) es))
+  pub pieces_are : laid_blocks s (finite.entries (made_in s bs ends a.meaning (all_asked s contents es)))
+      ≡ map (laid_as s contents) (all_layings s contents (edited_parts (is_taken s bs ends) (records_of a.meaning) es))
   pieces_are =
-      let js = free_slots (is_used s bs) (records_of a.meaning) in
+      let js = free_slots (is_taken s bs ends) (records_of a.meaning) in
       let vs = news_of es in
-      let sound = news_sound s (is_used s bs) (reads_whole a.meaning) 0 (records_of a.meaning) es faultless in
-      ap₂ (λ (js : List ℕ) (vs : List Volume). laid_blocks s (finite.entries (placed empty js vs))) (fresh_are s bs a.meaning sizes)
+      let sound = news_sound s (is_taken s bs ends) (reads_whole a.meaning) 0 (records_of a.meaning) es faultless in
+      ap₂ (λ (js : List ℕ) (vs : List Volume). laid_blocks s (finite.entries (placed empty js vs))) (fresh_are s bs ends a.meaning sizes)
       (written_are s contents es)
       ∙ ap (laid_blocks s) (placed_entries s contents js vs (filter_rises _ (range_with_len 0 (slots a.meaning.sizes)) (range_rises 0 (slots a.meaning.sizes))))
       ∙ parts_laid s contents js vs (parts_sound s js vs sound) (parts_reach (length contents) js vs reach)
 
-  pub needs_are : commit_needs s bs a (all_asked s contents es)
-      ≡ length (all_layings s contents (edited_parts (is_used s bs) (records_of a.meaning) es)) + 2
-  needs_are = ap (λ n. n + 2) (ap length pieces_are ∙ length-map (all_layings s contents (edited_parts (is_used s bs) (records_of a.meaning) es)) (laid_as s contents))
+  pub needs_are : commit_needs s bs ends a (all_asked s contents es)
+      ≡ length (all_layings s contents (edited_parts (is_taken s bs ends) (records_of a.meaning) es)) + 2
+  needs_are = ap (λ n. n + 2) (ap length pieces_are ∙ length-map (all_layings s contents (edited_parts (is_taken s bs ends) (records_of a.meaning) es)) (laid_as s contents))

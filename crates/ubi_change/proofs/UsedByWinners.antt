@@ -1,6 +1,6 @@
 -- The winners tell from which number on the LEBs of a volume have members.
-use Rattle.ubi_change.proofs.Prelude.{◌≡◌, ℕ, ◌<◌, ◌≤◌, Bool, true, false, not, List, [], length, get_or, refl, ap, sym, ◌∙◌, subst, arith, nat_tests, None, Option, Some, option_map, option_map_or, ◌==◌, find, is_some, nat_lt, same_Some, none_passes, Sizes, VidHeader, block, Leb, NoMember, Wins, leb_of, member, get_or_default, MatchOption, IsMember, AreWinners, leb_cmp, is_at_least, is_used, TellsUsed, none_found}
-use Rattle.std.proofs.Common.{◌&&◌}
+use Rattle.ubi_change.proofs.Prelude.{◌≡◌, ℕ, ◌<◌, ◌≤◌, Bool, true, false, not, List, [], length, get_or, refl, ap, sym, ◌∙◌, subst, arith, nat_tests, None, Option, Some, option_map, option_map_or, ◌==◌, find, is_some, nat_lt, same_Some, none_passes, Sizes, VidHeader, block, Leb, NoMember, Wins, leb_of, member, get_or_default, MatchOption, IsMember, AreWinners, IsNextWinner, leb_cmp, is_at_least, is_hidden, is_taken, is_used, TellsUsed, none_found}
+use Rattle.std.proofs.Common.{◌&&◌, ◌||◌}
 use Rattle.std.specs.FinMap as finite
 use Rattle.ubi_change.proofs.Premises.{left_of, right_of}
 
@@ -55,17 +55,20 @@ module _ (s : Sizes) (bs : List (List ℕ)) (vol from : ℕ) where
           let same : h.vol_id ≡ vol = grind (arith, nat_tests, of) in
           none h.lnum above k (record { inside = l; named = ap (option_map leb_of) e ∙ ap (λ v. Some (v, h.lnum)) same })
 
--- so the winners tell it
-pub used_told : (s : Sizes) (bs : List (List ℕ)) (winners : finite.FinMap leb_cmp ℕ) → AreWinners s bs winners
-    → TellsUsed winners (is_used s bs)
-used_told s bs winners are vol from None next =
-    sym (none_unused s bs vol from (λ lnum above.
-    subst (λ (o : Option ℕ). MatchOption o (NoMember s bs (vol, lnum)) (Wins s bs (vol, lnum))) (next lnum above) (are (vol, lnum))))
-used_told s bs winners are vol from (Some e) next =
-    let won : Wins s bs (vol, e.0) e.1 =
-    subst (λ (o : Option ℕ). MatchOption o (NoMember s bs (vol, e.0)) (Wins s bs (vol, e.0))) next.1 (are (vol, e.0)) in
-    sym (by (is_used s bs vol from) (λ f. unused_none s bs vol from f e.0 next.0 e.1 won.member))
+-- so the winners tell it, with the ends of what is hidden
+pub used_told : (s : Sizes) (bs : List (List ℕ)) (ends : List ℕ) (winners : finite.FinMap leb_cmp ℕ) → AreWinners s bs winners
+    → TellsUsed winners ends (is_taken s bs ends)
+used_told s bs ends winners are vol from next is = ap (λ b. b || is_hidden ends vol from) (told next is)
   where
     by : (b : Bool) → (b ≡ false → ⊥) → b ≡ true
     by true h = refl
     by false h = absurd (h refl)
+
+    told : (next : Option (ℕ × ℕ)) → IsNextWinner winners vol from next → is_some next ≡ is_used s bs vol from
+    told None next =
+        sym (none_unused s bs vol from (λ lnum above.
+        subst (λ (o : Option ℕ). MatchOption o (NoMember s bs (vol, lnum)) (Wins s bs (vol, lnum))) (next lnum above) (are (vol, lnum))))
+    told (Some e) next =
+        let won : Wins s bs (vol, e.0) e.1 =
+        subst (λ (o : Option ℕ). MatchOption o (NoMember s bs (vol, e.0)) (Wins s bs (vol, e.0))) next.1 (are (vol, e.0)) in
+        sym (by (is_used s bs vol from) (λ f. unused_none s bs vol from f e.0 next.0 e.1 won.member))

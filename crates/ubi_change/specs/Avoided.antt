@@ -13,22 +13,23 @@ use Rattle.ubi_volume.specs.declared.attached.BlockState.TheVariants as state
 use Rattle.ubi_change.specs.Steps.{target}
 use Rattle.ubi_change.specs.declared.step.Step.{Step}
 
--- what a plan keeps off: the eraseblocks that it may not touch, whether each one is listed, and whether no Blank one may be touched; and the
--- sequence numbers up to one that it may not give out
+-- what a plan keeps off: the eraseblocks that it may not touch, whether each one is listed, and whether no Blank one may be touched; the
+-- sequence numbers up to one that it may not give out; and the LEBs of each volume below an end, which it may not bring to life
 pub record Avoided : Type 0 where
   pub marks : List Bool
   pub blank : Bool
   pub above : ℕ
+  pub ends : List ℕ
 
 -- what is avoided, as nested pairs
 abbrev pub avoided_code : Coded Avoided
 avoided_code =
-    code_by (List Bool × (Bool × ℕ)) (coded× (coded_list coded_bool) (coded× coded_bool coded_ℕ)) (λ e. (e.marks, (e.blank, e.above)))
-    (λ p. record { marks = p.0; blank = p.1.0; above = p.1.1 }) (λ _. refl)
+    code_by (List Bool × (Bool × (ℕ × List ℕ))) (coded× (coded_list coded_bool) (coded× coded_bool (coded× coded_ℕ (coded_list coded_ℕ))))
+    (λ e. (e.marks, (e.blank, (e.above, e.ends)))) (λ p. record { marks = p.0; blank = p.1.0; above = p.1.1.0; ends = p.1.1.1 }) (λ _. refl)
 
 -- nothing is avoided
 abbrev pub nothing : Avoided
-nothing = record { marks = []; blank = false; above = 0 }
+nothing = record { marks = []; blank = false; above = 0; ends = [] }
 
 -- what a scan found, as a plan sees it that may not give out the sequence numbers up to n: it counts on from there
 abbrev pub raised : ℕ → Found → Found

@@ -1,5 +1,5 @@
 -- When edits may be committed.
-use Rattle.std.specs.Prelude.{◌≡◌, ℕ, ◌+◌, ◌≤◌, ◌⊎◌, min, List, [], ◌∷◌, length, Some, None, IfSome}
+use Rattle.std.specs.Prelude.{◌≡◌, ℕ, ◌+◌, ◌≤◌, ◌⊎◌, min, slice_index, List, [], ◌∷◌, length, Some, None, IfSome}
 use Rattle.std.specs.FinMap.{entries, get}
 use Rattle.std.specs.List.{AllByRecursion}
 use Rattle.ubi_media.specs.Geometry.{Sizes}
@@ -28,26 +28,27 @@ AllThere vs [] = Unit {0}
 AllThere vs (e ∷ es) = IfSome (edits_volume e) (λ id. (v : Volume) × (get vs id ≡ Some v)) × AllThere (left_by vs e) es
 
 -- a volume that reserves another number then reads whole, and no eraseblock is a member of a LEB that it reserves only before
--- or only then
-abbrev pub MayBeSized : Sizes → List (List ℕ) → ℕ → Volume → Volume → Type 0
-MayBeSized s bs id v w =
+-- or only then, nor is such a LEB hidden
+abbrev pub MayBeSized : Sizes → List (List ℕ) → List ℕ → ℕ → Volume → Volume → Type 0
+MayBeSized s bs ends id v w =
     (w.entry.reserved ≡ v.entry.reserved)
-    ⊎ (IsWhole v.content × ((lnum : ℕ) → min v.entry.reserved w.entry.reserved ≤ lnum → NoMember s bs (id, lnum)))
+    ⊎ (IsWhole v.content × ((lnum : ℕ) → min v.entry.reserved w.entry.reserved ≤ lnum → NoMember s bs (id, lnum))
+    × (slice_index ends id ≤ min v.entry.reserved w.entry.reserved))
 
-module _ (s : Sizes) (bs : List (List ℕ)) (a : AttachValue) where
+module _ (s : Sizes) (bs : List (List ℕ)) (ends : List ℕ) (a : AttachValue) where
   -- how many eraseblocks and sequence numbers a commit needs: for each LEB that it writes, and for the copies of the table
   abbrev pub commit_needs : List Edit → ℕ
-  commit_needs es = length (laid_blocks s (entries (made_in s bs a.meaning es))) + 2
+  commit_needs es = length (laid_blocks s (entries (made_in s bs ends a.meaning es))) + 2
 
   -- nothing applies against a commit
   pub record MayBeCommitted (es : List Edit) : Type 0 where
     pub there : AllThere a.meaning.volumes es
-    pub room : length (written es) ≤ length (fresh s bs a.meaning)
+    pub room : length (written es) ≤ length (fresh s bs ends a.meaning)
     pub whole : AllByRecursion (λ v. IsWhole v.content) (written es)
     pub sized : (id : ℕ) (v w : Volume) → get a.meaning.volumes id ≡ Some v
-        → get (left_by_all a.meaning.volumes es) id ≡ Some w → MayBeSized s bs id v w
-    pub meaning : IsMeaning (edited_in s bs a.meaning es)
+        → get (left_by_all a.meaning.volumes es) id ≡ Some w → MayBeSized s bs ends id v w
+    pub meaning : IsMeaning (edited_in s bs ends a.meaning es)
     pub both : BothGood s bs (records_of a.meaning)
-    pub strong : weak_pages s (table_pages s (records_of (edited_in s bs a.meaning es))) ≡ None
+    pub strong : weak_pages s (table_pages s (records_of (edited_in s bs ends a.meaning es))) ≡ None
     pub few : a.scan.top_sqnum + commit_needs es ≤ 0xFFFFFFFFFFFFFFFF
     pub enough : commit_needs es ≤ length (takeable s bs a.states)

@@ -45,6 +45,6 @@ module _ (s : Sizes) (bs : List (List ℕ)) (a : AttachValue) where
   abbrev pub commit_plan : VolumeMap → Meant → List Step
   commit_plan new n = let ls = laid_blocks s (entries new) in lay_all 0 ls ++ table_plan (length ls) n
 
-  -- the plan of a commit of edits: the volumes that they write are written, and then the table of what they make of the meaning
-  abbrev pub edits_plan : List Edit → List Step
-  edits_plan es = commit_plan (made_in s bs a.meaning es) (edited_in s bs a.meaning es)
+-- the plan of a commit of edits: the volumes that they write are written, and then the table of what they make of the meaning
+abbrev pub edits_plan : Sizes → List (List ℕ) → List ℕ → AttachValue → List Edit → List Step
+edits_plan s bs ends a es = commit_plan s bs a (made_in s bs ends a.meaning es) (edited_in s bs ends a.meaning es)

@@ -47,18 +47,18 @@ pub record IsFrugalCommit (s : Sizes) (bs : List (List ℕ)) (a : AttachValue) (
   pub counts : CountsErases s bs a steps
 
 -- what a commit of edits writes is bytes: the texts of its volumes, and the pages of its table
-pub record WritesBytes (s : Sizes) (bs : List (List ℕ)) (a : AttachValue) (es : List Edit) : Type 0 where
-  pub texts : AllByRecursion (λ l. AreBytes l.text) (laid_blocks s (entries (made_in s bs a.meaning es)))
-  pub pages : AreBytes (table_pages s (records_of (edited_in s bs a.meaning es)))
+pub record WritesBytes (s : Sizes) (bs : List (List ℕ)) (ends : List ℕ) (a : AttachValue) (es : List Edit) : Type 0 where
+  pub texts : AllByRecursion (λ l. AreBytes l.text) (laid_blocks s (entries (made_in s bs ends a.meaning es)))
+  pub pages : AreBytes (table_pages s (records_of (edited_in s bs ends a.meaning es)))
 
 -- what holds for the plan of a commit of edits that avoids something, as it sees the image
 pub record CommitFacts (image : Image) (av : Avoided) (a : AttachValue) (es : List Edit) : Type 0 where
-  pub survives : of_blocks SurvivesCommit image a.meaning (of_blocks edited_in image a.meaning es) (of_blocks edits_plan image a es)
-  pub torn : of_blocks SurvivesTears image a.meaning (of_blocks edited_in image a.meaning es) (of_blocks edits_plan image a es)
-      (turn image.sizes (of_blocks edits_plan image a es) (table_pages image.sizes (records_of (of_blocks edited_in image a.meaning es))))
-  pub copies : of_blocks LeavesBoth image (of_blocks edited_in image a.meaning es) (of_blocks edits_plan image a es)
-  pub fits : of_blocks WritesBytes image a es → of_blocks AllFit image (of_blocks edits_plan image a es)
-  pub rises : of_blocks RisesBetweenErases image (of_blocks edits_plan image a es)
-  pub frugal : of_blocks IsFrugalCommit image a (of_blocks commit_needs image a es) (of_blocks edited_in image a.meaning es)
-      (of_blocks edits_plan image a es)
-  pub avoids : of_blocks Avoids image av (of_blocks edits_plan image a es)
+  pub survives : of_blocks SurvivesCommit image a.meaning (of_blocks edited_in image av.ends a.meaning es) (of_blocks edits_plan image av.ends a es)
+  pub torn : of_blocks SurvivesTears image a.meaning (of_blocks edited_in image av.ends a.meaning es) (of_blocks edits_plan image av.ends a es)
+      (turn image.sizes (of_blocks edits_plan image av.ends a es) (table_pages image.sizes (records_of (of_blocks edited_in image av.ends a.meaning es))))
+  pub copies : of_blocks LeavesBoth image (of_blocks edited_in image av.ends a.meaning es) (of_blocks edits_plan image av.ends a es)
+  pub fits : of_blocks WritesBytes image av.ends a es → of_blocks AllFit image (of_blocks edits_plan image av.ends a es)
+  pub rises : of_blocks RisesBetweenErases image (of_blocks edits_plan image av.ends a es)
+  pub frugal : of_blocks IsFrugalCommit image a (of_blocks commit_needs image av.ends a es) (of_blocks edited_in image av.ends a.meaning es)
+      (of_blocks edits_plan image av.ends a es)
+  pub avoids : of_blocks Avoids image av (of_blocks edits_plan image av.ends a es)

@@ -1,5 +1,5 @@
 -- Why an edit isn't made, and the records that edits leave.
-use Rattle.std.specs.Prelude.{ℕ, ◌+◌, ◌==◌, ◌&&◌, Bool, true, false, not, min, nat_lt, List, [], ◌∷◌, find, is_some, Option, Some, None, option_map}
+use Rattle.std.specs.Prelude.{ℕ, ◌+◌, ◌==◌, ◌&&◌, ◌||◌, Bool, true, false, not, min, nat_lt, List, [], ◌∷◌, find, is_some, Option, Some, None, option_map}
 use Rattle.std.specs.Bool.{then_some}
 use Rattle.std.specs.FinMap.{get}
 use Rattle.std.specs.Option.{option_map_or, option_or}
@@ -16,6 +16,7 @@ use Rattle.ubi_volume.specs.Meant.{Meant}
 use Rattle.ubi_volume.specs.declared.content.Content.{Content}
 use Rattle.ubi_volume.specs.declared.content.Content.TheVariants as content
 use Rattle.ubi_change.specs.EditsAsked.{part_in}
+use Rattle.ubi_change.specs.Listed.{is_hidden}
 use Rattle.ubi_change.specs.declared.edit.Edit.{Edit}
 use Rattle.ubi_change.specs.declared.edit.Edit.TheVariants as edit
 use Rattle.ubi_change.specs.declared.edit.NewVolume.{NewVolume}
@@ -51,6 +52,10 @@ is_at_least s vol from b = option_map_or (λ h. (h.vol_id == vol) && not (nat_lt
 abbrev pub is_used : Sizes → List (List ℕ) → ℕ → ℕ → Bool
 is_used s bs vol from = is_some (find (is_at_least s vol from) bs)
 
+-- whether some eraseblock is a member of such a LEB, or it is hidden
+abbrev pub is_taken : Sizes → List (List ℕ) → List ℕ → ℕ → ℕ → Bool
+is_taken s bs ends vol from = is_used s bs vol from || is_hidden ends vol from
+
 -- whether a content is neither updating nor damaged
 abbrev pub is_whole : Content → Bool
 is_whole content.Updating = false
@@ -74,7 +79,7 @@ is_too_large s v = is_long_part s (part_in v 0)
 abbrev pub writing_fault : Sizes → NewVolume → Option EditFault
 writing_fault s v = option_or (option_map fault.Record (rec_fault s (part_in v 0).entry)) (then_some (is_too_large s v) fault.TooLarge)
 
--- why a volume with this record doesn't get another size: by whether it reads whole, and from which number on its LEBs have members
+-- why a volume with this record doesn't get another size: by whether it reads whole, and from which number on its LEBs are taken
 abbrev pub sizing_fault : (ℕ → ℕ → Bool) → Bool → ℕ → VolumeRecord → ℕ → Option EditFault
 sizing_fault used whole id r n =
     option_or (then_some (not (n == r.reserved) && not whole) fault.NotWhole)

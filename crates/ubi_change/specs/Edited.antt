@@ -1,5 +1,5 @@
 -- Edits of volumes, and a meaning after them.
-use Rattle.std.specs.Prelude.{ℕ, ◌==◌, ◌&&◌, Bool, false, not, List, [], ◌∷◌, filter, filter_map, find, is_some, Option, Some, None}
+use Rattle.std.specs.Prelude.{ℕ, ◌==◌, ◌&&◌, ◌||◌, Bool, false, not, List, [], ◌∷◌, filter, filter_map, find, is_some, Option, Some, None}
 use Rattle.std.specs.FinMap.{empty, get, insert, remove}
 use Rattle.std.specs.List.{range_with_len}
 use Rattle.std.specs.Option.{option_map_or}
@@ -7,6 +7,7 @@ use Rattle.ubi_media.specs.Geometry.{Sizes, slots}
 use Rattle.ubi_scan.specs.Members.{member}
 use Rattle.ubi_volume.specs.Meant.{Meant, VolumeMap}
 use Rattle.ubi_volume.specs.declared.content.Volume.{Volume}
+use Rattle.ubi_change.specs.Listed.{is_hidden}
 use Rattle.ubi_change.specs.Renamed.{volume_named}
 
 -- an edit: a volume gets another name, or reserves another number of eraseblocks, or is removed; or a volume is written,
@@ -75,18 +76,19 @@ module _ (s : Sizes) (bs : List (List ℕ)) where
   abbrev pub is_of : ℕ → List ℕ → Bool
   is_of vol b = option_map_or (λ h. h.vol_id == vol) (member s b) false
 
-  -- whether a slot has no volume, and no eraseblock is a member of one with its number
-  abbrev pub is_fresh : Meant → ℕ → Bool
-  is_fresh m j = not (is_some (get m.volumes j)) && not (is_some (find (is_of j) bs))
+  -- whether a slot has no volume, no eraseblock is a member of one with its number, and no LEB of such a one is hidden, by the ends of
+  -- what is
+  abbrev pub is_fresh : List ℕ → Meant → ℕ → Bool
+  is_fresh ends m j = not (is_some (get m.volumes j)) && not (is_some (find (is_of j) bs) || is_hidden ends j 0)
 
   -- the fresh slots, in ascending order
-  abbrev pub fresh : Meant → List ℕ
-  fresh m = filter (is_fresh m) (range_with_len 0 (slots s))
+  abbrev pub fresh : List ℕ → Meant → List ℕ
+  fresh ends m = filter (is_fresh ends m) (range_with_len 0 (slots s))
 
   -- what the eraseblocks mean after edits of what they mean
-  abbrev pub edited_in : Meant → List Edit → Meant
-  edited_in m es = edited m (fresh m) es
+  abbrev pub edited_in : List ℕ → Meant → List Edit → Meant
+  edited_in ends m es = edited m (fresh ends m) es
 
   -- the volumes that are written
-  abbrev pub made_in : Meant → List Edit → VolumeMap
-  made_in m es = made (fresh m) es
+  abbrev pub made_in : List ℕ → Meant → List Edit → VolumeMap
+  made_in ends m es = made (fresh ends m) es

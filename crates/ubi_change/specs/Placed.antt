@@ -13,7 +13,7 @@ use Rattle.ubi_change.specs.declared.edit.Edit.{Edit}
 use Rattle.ubi_change.specs.declared.edit.NewVolume.{NewVolume}
 
 module _ (used : ℕ → ℕ → Bool) (t : Records) where
-  -- whether a slot has no volume, and no eraseblock is a member of one with its number
+  -- whether a slot has no volume, and no LEB of one with its number is taken
   abbrev pub is_free : ℕ → Bool
   is_free j = not (is_some (get t.of j)) && not (used j 0)
 

@@ -32,12 +32,12 @@ pub record IsUpdateFor (image : Image) (av : Avoided) (contents : List ℕ) (es 
   pub from : AttachValue
   pub attached : IsAttached image from
   pub blank : of_blocks ReadBlank image av
-  pub none : (c : UpdateRefusal) → of_blocks UpdateStands image (avoiding av from) contents (touchable av from.states) es c → ⊥
-  pub allowed : of_blocks MayBeCommitted image (avoiding av from) (all_asked image.sizes contents es)
-  pub parts : p.parts.items ≡ of_blocks asked_parts image from es
-  pub pages : p.pages.items ≡ table_pages image.sizes (of_blocks asked_records image from es)
-  pub layings : p.layings.items ≡ all_layings image.sizes contents (of_blocks asked_parts image from es)
-  pub plan : in_order (plan_groups image.sizes p contents) ≡ of_blocks edits_plan image (avoiding av from) (all_asked image.sizes contents es)
+  pub none : (c : UpdateRefusal) → of_blocks UpdateStands image av.ends (avoiding av from) contents (touchable av from.states) es c → ⊥
+  pub allowed : of_blocks MayBeCommitted image av.ends (avoiding av from) (all_asked image.sizes contents es)
+  pub parts : p.parts.items ≡ of_blocks asked_parts image av.ends from es
+  pub pages : p.pages.items ≡ table_pages image.sizes (of_blocks asked_records image av.ends from es)
+  pub layings : p.layings.items ≡ all_layings image.sizes contents (of_blocks asked_parts image av.ends from es)
+  pub plan : in_order (plan_groups image.sizes p contents) ≡ of_blocks edits_plan image av.ends (avoiding av from) (all_asked image.sizes contents es)
   pub facts : CommitFacts image av (avoiding av from) (all_asked image.sizes contents es)
 
 -- the same for whatever two sources may hold
@@ -51,9 +51,9 @@ pub record IsUpdateCause (image : Image) (av : Avoided) (contents : List ℕ) (e
   pub from : AttachValue
   pub attached : IsAttached image from
   pub blank : of_blocks ReadBlank image av
-  pub stands : of_blocks UpdateStands image (avoiding av from) contents (touchable av from.states) es c
+  pub stands : of_blocks UpdateStands image av.ends (avoiding av from) contents (touchable av from.states) es c
   pub first : (d : UpdateRefusal) → update_rank d < update_rank c
-      → of_blocks UpdateStands image (avoiding av from) contents (touchable av from.states) es d → ⊥
+      → of_blocks UpdateStands image av.ends (avoiding av from) contents (touchable av from.states) es d → ⊥
 
 -- edits that only give volumes other names are stopped by what can stop these, whatever the sources hold
 abbrev pub StopsIfRenames : List Edit → UpdateError → Type 0
@@ -61,11 +61,11 @@ StopsIfRenames es (error.Refused c) = AllByRecursion IsRename es → StopsRename
 StopsIfRenames es _ = Unit {0}
 
 -- a place in the source of contents lies in the bytes of the i-th of the volumes that edits of an image write
-pub record IsAskedAt (image : Image) (es : List Edit) (i at : ℕ) : Type 0 where
+pub record IsAskedAt (image : Image) (av : Avoided) (es : List Edit) (i at : ℕ) : Type 0 where
   pub from : AttachValue
   pub attached : IsAttached image from
   pub part : Part
-  pub asked : slice_get (of_blocks asked_parts image from es) i ≡ Some part
+  pub asked : slice_get (of_blocks asked_parts image av.ends from es) i ≡ Some part
   pub begins : part.start ≤ at
   pub ends : at < part.start + part.len
 
@@ -76,7 +76,7 @@ IsUpdateError s k agrees size at agreed av es (error.Beyond i) = first_beyond si
 IsUpdateError s k agrees size at agreed av es (error.Read p) = IsWholeSize s k.size × (p < blocks_in s k)
 IsUpdateError s k agrees size at agreed av es (error.NotBlank p) =
     IsWholeSize s k.size × WhereHeld agrees (λ bytes. of_blocks IsNotBlank (image_of s bytes) av p)
-IsUpdateError s k agrees size at agreed av es (error.Contents i) = WhereHeld agrees (λ bytes. IsAskedAt (image_of s bytes) es i at)
+IsUpdateError s k agrees size at agreed av es (error.Contents i) = WhereHeld agrees (λ bytes. IsAskedAt (image_of s bytes) av es i at)
 IsUpdateError s k agrees size at agreed av es (error.Refused refusal.Memory) = Unit {0}
 IsUpdateError s k agrees size at agreed av es (error.Refused (refusal.Attach c)) = ArePlacesError s k agrees (stream.Refused c)
 IsUpdateError s k agrees size at agreed av es (error.Refused c) =
@@ -89,8 +89,8 @@ pub record AreUpdateSteps (image : Image) (av : Avoided) (contents : List ℕ) (
   pub from : AttachValue
   pub attached : IsAttached image from
   pub blank : of_blocks ReadBlank image av
-  pub allowed : of_blocks MayBeCommitted image (avoiding av from) (all_asked image.sizes contents es)
-  pub plan : steps ≡ of_blocks edits_plan image (avoiding av from) (all_asked image.sizes contents es)
+  pub allowed : of_blocks MayBeCommitted image av.ends (avoiding av from) (all_asked image.sizes contents es)
+  pub plan : steps ≡ of_blocks edits_plan image av.ends (avoiding av from) (all_asked image.sizes contents es)
   pub facts : CommitFacts image av (avoiding av from) (all_asked image.sizes contents es)
 
 -- the steps for the image of a source: each works within one of its eraseblocks, and on none that is listed, and they are right for

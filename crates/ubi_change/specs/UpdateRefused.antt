@@ -6,7 +6,7 @@ use Rattle.ubi_table.specs.Records.{Records, space, twice}
 use Rattle.ubi_volume.specs.Attached.{AttachValue}
 use Rattle.ubi_volume.specs.Meant.{records_of}
 use Rattle.ubi_change.specs.CommitAllowed.{commit_needs}
-use Rattle.ubi_change.specs.EditFaults.{first_edit_fault, is_used, reads_whole}
+use Rattle.ubi_change.specs.EditFaults.{first_edit_fault, is_taken, reads_whole}
 use Rattle.ubi_change.specs.EditsAsked.{all_asked, news_of}
 use Rattle.ubi_change.specs.Placed.{autoresized_twice, edited_parts, edited_records, free_slots}
 use Rattle.ubi_change.specs.RenamePlan.{table_pages}
@@ -54,7 +54,7 @@ StopsRenames (refusal.Autoresize i j) = ⊥
 StopsRenames _ = Unit {0}
 
 module _ (s : Sizes) (used : ℕ → ℕ → Bool) (whole : Edit → Bool) (t : Records) (room : ℕ) (es : List Edit) where
-  -- a cause that the records and the members say applies: from which number on the LEBs of each volume have members, whether the
+  -- a cause that the records and the members say applies: from which number on the LEBs of each volume are taken, whether the
   -- volume that an edit gives another size reads whole, and how many eraseblocks may be touched
   abbrev pub RecordsStand : UpdateRefusal → Type 0
   RecordsStand (refusal.Edit i f) = first_edit_fault s used whole 0 t es ≡ Some (i, f)
@@ -66,22 +66,22 @@ module _ (s : Sizes) (used : ℕ → ℕ → Bool) (whole : Edit → Bool) (t : 
   RecordsStand _ = ⊥
 
 -- the volumes that edits of an attached image write, each in its slot
-abbrev pub asked_parts : Sizes → List (List ℕ) → AttachValue → List Edit → List Part
-asked_parts s bs a es = edited_parts (is_used s bs) (records_of a.meaning) es
+abbrev pub asked_parts : Sizes → List (List ℕ) → List ℕ → AttachValue → List Edit → List Part
+asked_parts s bs ends a es = edited_parts (is_taken s bs ends) (records_of a.meaning) es
 
 -- the records that edits make of an attached image
-abbrev pub asked_records : Sizes → List (List ℕ) → AttachValue → List Edit → Records
-asked_records s bs a es = edited_records (is_used s bs) (records_of a.meaning) es
+abbrev pub asked_records : Sizes → List (List ℕ) → List ℕ → AttachValue → List Edit → Records
+asked_records s bs ends a es = edited_records (is_taken s bs ends) (records_of a.meaning) es
 
-module _ (s : Sizes) (bs : List (List ℕ)) (a : AttachValue) (contents : List ℕ) (room : ℕ) (es : List Edit) where
+module _ (s : Sizes) (bs : List (List ℕ)) (ends : List ℕ) (a : AttachValue) (contents : List ℕ) (room : ℕ) (es : List Edit) where
   -- how many eraseblocks and sequence numbers they need, by the bytes of the source of contents
   abbrev asked_needs : ℕ
-  asked_needs = commit_needs s bs a (all_asked s contents es)
+  asked_needs = commit_needs s bs ends a (all_asked s contents es)
 
   -- a cause applies, if so many eraseblocks may be touched
   abbrev pub UpdateStands : UpdateRefusal → Type 0
   UpdateStands refusal.NeedsRepair = (t : Records) → BothGood s bs t → ⊥
-  UpdateStands (refusal.WeakCheck k) = weak_pages s (table_pages s (asked_records s bs a es)) ≡ Some k
+  UpdateStands (refusal.WeakCheck k) = weak_pages s (table_pages s (asked_records s bs ends a es)) ≡ Some k
   UpdateStands refusal.Exhausted = 0xFFFFFFFFFFFFFFFF < a.scan.top_sqnum + asked_needs
   UpdateStands (refusal.NoFree n k) = (n ≡ asked_needs) × (k ≡ length (takeable s bs a.states)) × (k < n)
-  UpdateStands c = RecordsStand s (is_used s bs) (reads_whole a.meaning) (records_of a.meaning) room es c
+  UpdateStands c = RecordsStand s (is_taken s bs ends) (reads_whole a.meaning) (records_of a.meaning) room es c

@@ -13,8 +13,8 @@ use ubi_media::Geometry;
 use ubi_scan::Scan;
 use ubi_volume::{BlockState, Surveyed};
 
-/// What a plan keeps off: eraseblocks that it may not touch, such as the bad ones of a flash device, and sequence numbers that it may not
-/// give out.
+/// What a plan keeps off: eraseblocks that it may not touch, such as the bad ones of a flash device; sequence numbers that it may not give
+/// out; and logical eraseblocks that it may not bring to life.
 #[derive(Drop)]
 pub struct Avoided<'a> {
     /// Whether each eraseblock is listed, by its number. One that has no mark isn't.
@@ -23,6 +23,8 @@ pub struct Avoided<'a> {
     blank: bool,
     /// The sequence number that those of the plan have to be above.
     above: u64,
+    /// By the number of each volume one more than the greatest logical eraseblock that is hidden. One that has no number has none.
+    ends: &'a [u64],
 }
 
 impl<'a> Model for Avoided<'a> {
@@ -32,7 +34,7 @@ impl<'a> Model for Avoided<'a> {
 
     ghost coded = { avoided_code };
 
-    ghost view = { λ a. record { marks = a.marks.now; blank = a.blank; above = a.above } };
+    ghost view = { λ a. record { marks = a.marks.now; blank = a.blank; above = a.above; ends = a.ends.now } };
 }
 
 /// Whether an eraseblock in this state is Blank.
@@ -81,15 +83,16 @@ fn listed(marks: &[bool], steps: &[Step]) -> Option<u32>
 }
 
 impl<'a> Avoided<'a> {
-    /// The eraseblocks whose marks say so, and if `blank`, the Blank ones; and the sequence numbers up to `above`, which is that of a header
-    /// that a kernel may still read in one of these eraseblocks.
-    pub fn new(marks: &'a [bool], blank: bool, above: u64) -> Avoided<'a>
-        ensures { result ≡ record { marks = marks.now; blank = blank; above = above } }
+    /// The eraseblocks whose marks say so, and if `blank`, the Blank ones; and what headers in these eraseblocks name that a kernel may still
+    /// read: the sequence numbers up to `above`, and the logical eraseblocks of each volume below its number in `ends` ([`crate::Hidden`]).
+    pub fn new(marks: &'a [bool], blank: bool, above: u64, ends: &'a [u64]) -> Avoided<'a>
+        ensures { result ≡ record { marks = marks.now; blank = blank; above = above; ends = ends.now } }
     {
         Avoided {
             marks,
             blank,
             above,
+            ends,
         }
     }
 
@@ -97,7 +100,7 @@ impl<'a> Avoided<'a> {
     pub fn nothing() -> Avoided<'a>
         ensures { result ≡ nothing }
     {
-        Avoided::new(&[], false, 0)
+        Avoided::new(&[], false, 0, &[])
     }
 
     /// The sequence number that those of a plan have to be above.
@@ -105,6 +108,13 @@ impl<'a> Avoided<'a> {
         ensures { result ≡ self.now.above }
     {
         self.above
+    }
+
+    /// By the number of each volume one more than the greatest logical eraseblock that is hidden.
+    pub(crate) fn ends(&self) -> &[u64]
+        ensures { result.now ≡ self.now.ends }
+    {
+        self.ends
     }
 
     /// What the headers of a plan are made from that avoids this, by what a scan found.

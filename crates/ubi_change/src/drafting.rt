@@ -6,6 +6,7 @@ ghost use Rattle.std.specs.Option.{option_or};
 ghost use Rattle.std.specs.Prelude.{◌≡◌, ℕ, Bool, IfErr, IfOk, IfSome, None, OnOk, length, not, option_map};
 ghost use Rattle.ubi_change.specs.EditFaults.{all_records_left, fault_of, fault_on, records_left, sizing_fault, with_changed, with_size, writing_fault};
 ghost use Rattle.ubi_change.specs.EditsAsked.{new_of, news_of};
+ghost use Rattle.ubi_change.specs.Listed.{is_hidden};
 ghost use Rattle.ubi_change.specs.declared.errors.EditFault.TheVariants as fault;
 ghost use Rattle.ubi_change.specs.inner.Drafting.{IsFirstEditFault, IsUndrafted, TellsUsed};
 ghost use Rattle.ubi_media.specs.Name.{is_name};
@@ -23,11 +24,21 @@ use ubi_media::{Geometry, VolName, VolumeRecord, rec_fault};
 use ubi_scan::Scan;
 use ubi_table::Draft;
 
-/// Whether an eraseblock is a member of a logical eraseblock of a volume, at or above a number.
-pub fn is_used(scan: &Scan, id: u32, from: u32) -> bool
-    ensures { (used : ℕ → ℕ → Bool) → TellsUsed scan.now.winners used → result ≡ used id from }
+/// Whether a logical eraseblock of a volume, at or above a number, is hidden.
+fn is_hidden(ends: &[u64], id: u32, from: u32) -> bool
+    ensures { result ≡ is_hidden ends.now id from }
 {
-    scan.next_winner(id, from).is_some()
+    match ends.get(id as usize) {
+        Some(end) => u64::from(from) < *end,
+        None => false,
+    }
+}
+
+/// Whether such a logical eraseblock is taken: an eraseblock is a member of it, or it is hidden.
+pub fn is_taken(scan: &Scan, ends: &[u64], id: u32, from: u32) -> bool
+    ensures { (used : ℕ → ℕ → Bool) → TellsUsed scan.now.winners ends.now used → result ≡ used id from }
+{
+    scan.next_winner(id, from).is_some() || is_hidden(ends, id, from)
 }
 
 /// Why a volume isn't written.
@@ -42,15 +53,22 @@ fn writing_fault(geometry: &Geometry, volume: &NewVolume) -> Option<EditFault>
 }
 
 /// Why a volume doesn't get another size, if its record then breaks no rule. `whole` says whether it isn't updating or damaged.
-fn sizing_fault(scan: &Scan, whole: bool, id: u32, old: u32, new: u32) -> Option<EditFault>
-    ensures { (used : ℕ → ℕ → Bool) → TellsUsed scan.now.winners used → (r : VolumeRecord) → r.reserved ≡ old → result ≡ sizing_fault used whole id r new }
+fn sizing_fault(
+    scan: &Scan,
+    ends: &[u64],
+    whole: bool,
+    id: u32,
+    old: u32,
+    new: u32,
+) -> Option<EditFault>
+    ensures { (used : ℕ → ℕ → Bool) → TellsUsed scan.now.winners ends.now used → (r : VolumeRecord) → r.reserved ≡ old → result ≡ sizing_fault used whole id r new }
 {
     if new == old {
         None
     } else if !whole {
         Some(EditFault::NotWhole)
     } else {
-        is_used(scan, id, old.min(new)).then_some(EditFault::InUse)
+        is_taken(scan, ends, id, old.min(new)).then_some(EditFault::InUse)
     }
 }
 
@@ -81,13 +99,14 @@ fn rename(draft: &mut Draft, id: u32, name: &[u8]) -> Result<Option<EditFault>, 
 fn resize(
     geometry: &Geometry,
     scan: &Scan,
+    ends: &[u64],
     whole: bool,
     draft: &mut Draft,
     id: u32,
     reserved: u32,
 ) -> Result<Option<EditFault>, AllocError>
     requires { draft.old.sizes ≡ geometry.now }
-    ensures fault { IfOk result (λ f. (used : ℕ → ℕ → Bool) → TellsUsed scan.now.winners used → f ≡ fault_on draft.old id
+    ensures fault { IfOk result (λ f. (used : ℕ → ℕ → Bool) → TellsUsed scan.now.winners ends.now used → f ≡ fault_on draft.old id
         (λ r. option_or (option_map fault.Record (rec_fault geometry.now (with_size r reserved))) (sizing_fault used whole id r reserved))) }
     ensures left { IfOk result (λ f. f ≡ None → draft.new ≡ with_changed draft.old id (λ r. with_size r reserved)) }
 {
@@ -98,7 +117,7 @@ fn resize(
     if let Some(fault) = rec_fault(geometry, &sized) {
         return Ok(Some(EditFault::Record(fault)));
     }
-    if let Some(fault) = sizing_fault(scan, whole, id, entry.reserved, reserved) {
+    if let Some(fault) = sizing_fault(scan, ends, whole, id, entry.reserved, reserved) {
         return Ok(Some(fault));
     }
     draft.set(id, sized)?;
@@ -141,26 +160,28 @@ fn replace(geometry: &Geometry, draft: &mut Draft, id: u32, volume: &NewVolume) 
 fn make(
     geometry: &Geometry,
     scan: &Scan,
+    ends: &[u64],
     whole: bool,
     draft: &mut Draft,
     edit: &Edit,
 ) -> Result<Option<EditFault>, AllocError>
     requires { draft.old.sizes ≡ geometry.now }
-    ensures fault { IfOk result (λ f. (used : ℕ → ℕ → Bool) → TellsUsed scan.now.winners used → f ≡ fault_of geometry.now used whole draft.old edit.now) }
+    ensures fault { IfOk result (λ f. (used : ℕ → ℕ → Bool) → TellsUsed scan.now.winners ends.now used → f ≡ fault_of geometry.now used whole draft.old edit.now) }
     ensures left { IfOk result (λ f. f ≡ None → draft.new ≡ records_left draft.old edit.now) }
     ensures sound { IfOk result (λ f. f ≡ None → IfSome (new_of edit.now) (λ v. writing_fault geometry.now v ≡ None)) }
     ensures renames { IfOk result (λ f. IsRename edit.now → IfSome f IsNamingFault) }
 {
     match edit {
         Edit::Rename(id, name) => rename(draft, *id, name.as_slice()),
-        Edit::Resize(id, reserved) => resize(geometry, scan, whole, draft, *id, *reserved),
+        Edit::Resize(id, reserved) => resize(geometry, scan, ends, whole, draft, *id, *reserved),
         Edit::Remove(id) => Ok(remove(draft, *id)),
         Edit::Replace(id, volume) => Ok(replace(geometry, draft, *id, volume)),
         Edit::Create(volume) => Ok(writing_fault(geometry, volume)),
     }
 }
 
-/// Makes edits, one after the other. `wholes` says of each whether the volume that it gives another size isn't updating or damaged.
+/// Makes edits, one after the other. `ends` says what is hidden, and `wholes` of each edit whether the volume that it gives another size
+/// isn't updating or damaged.
 ///
 /// # Errors
 ///
@@ -168,6 +189,7 @@ fn make(
 pub fn drafted(
     geometry: &Geometry,
     scan: &Scan,
+    ends: &[u64],
     wholes: &[bool],
     draft: &mut Draft,
     edits: &[Edit],
@@ -175,14 +197,14 @@ pub fn drafted(
     requires sizes { draft.old.sizes ≡ geometry.now }
     requires each { length wholes.now ≡ length edits.now }
     ensures sizes { OnOk result (draft.new.sizes ≡ geometry.now) }
-    ensures made { OnOk result (IsFirstEditFault geometry.now scan.now.winners wholes.now draft.old edits.now None) }
+    ensures made { OnOk result (IsFirstEditFault geometry.now scan.now.winners ends.now wholes.now draft.old edits.now None) }
     ensures left { OnOk result (draft.new ≡ all_records_left draft.old edits.now) }
     ensures sound { OnOk result (AllByRecursion (λ v. writing_fault geometry.now v ≡ None) (news_of edits.now)) }
-    ensures refused { IfErr result (IsUndrafted geometry.now scan.now.winners wholes.now draft.old edits.now) }
+    ensures refused { IfErr result (IsUndrafted geometry.now scan.now.winners ends.now wholes.now draft.old edits.now) }
     ensures renames { IfErr result (λ c. AllByRecursion IsRename edits.now → StopsRenames c) }
 {
     for i in 0..edits.len() {
-        if let Some(fault) = make(geometry, scan, wholes[i], draft, &edits[i])? {
+        if let Some(fault) = make(geometry, scan, ends, wholes[i], draft, &edits[i])? {
             return Err(UpdateRefusal::Edit(i, fault));
         }
     }

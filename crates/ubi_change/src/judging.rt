@@ -47,22 +47,23 @@ fn with_new_volumes(
     alloc: Global,
     geometry: &Geometry,
     surveyed: &Surveyed,
+    ends: &[u64],
     wholes: &[bool],
     edits: &[Edit],
 ) -> Result<Placed, UpdateRefusal>
     requires sizes { surveyed.now.records.sizes ≡ geometry.now }
     requires each { length wholes.now ≡ length edits.now }
-    ensures placed { IfOk result (IsPlaced geometry.now surveyed.now wholes.now edits.now) }
+    ensures placed { IfOk result (IsPlaced geometry.now surveyed.now ends.now wholes.now edits.now) }
     ensures sizes { IfOk result (λ placed. placed.draft.sizes ≡ geometry.now) }
     ensures readable { IfOk result (λ placed. AreReadable geometry.now edits.now placed.parts.items) }
-    ensures refused { IfErr result (IsUndrafted geometry.now surveyed.now.scan.winners wholes.now surveyed.now.records edits.now) }
+    ensures refused { IfErr result (IsUndrafted geometry.now surveyed.now.scan.winners ends.now wholes.now surveyed.now.records edits.now) }
     ensures renamed { IfOk result (λ placed. AllByRecursion IsRename edits.now → IsRenamedAlone surveyed.now.records placed) }
     ensures renames { IfErr result (λ c. AllByRecursion IsRename edits.now → StopsRenames c) }
 {
     let (scan, table) = (surveyed.scan(), surveyed.table());
     let mut draft = Draft::of(alloc, table)?;
-    drafted(geometry, scan, wholes, &mut draft, edits)?;
-    let free = free_slots(alloc, scan, table)?;
+    drafted(geometry, scan, ends, wholes, &mut draft, edits)?;
+    let free = free_slots(alloc, scan, ends, table)?;
     let written = new_volumes(alloc, edits)?;
     let (slots, volumes) = (free.as_slice(), written.as_slice());
     let parts = parts_of(alloc, slots, volumes)?;
@@ -131,7 +132,7 @@ pub struct Judged {
     pub parts: Vec<Part>,
 }
 
-/// What edits make of the volumes of a survey. `room` is how many eraseblocks may be touched.
+/// What edits make of the volumes of a survey. `ends` says what is hidden, and `room` is how many eraseblocks may be touched.
 ///
 /// # Errors
 ///
@@ -140,17 +141,18 @@ pub fn judge(
     alloc: Global,
     geometry: &Geometry,
     surveyed: &Surveyed,
+    ends: &[u64],
     wholes: &[bool],
     edits: &[Edit],
     room: usize,
 ) -> Result<Judged, UpdateRefusal>
     requires sizes { surveyed.now.records.sizes ≡ geometry.now }
     requires each { length wholes.now ≡ length edits.now }
-    ensures judged { IfOk result (IsJudged geometry.now surveyed.now wholes.now edits.now room) }
+    ensures judged { IfOk result (IsJudged geometry.now surveyed.now ends.now wholes.now edits.now room) }
     ensures records { IfOk result (λ judged. AreRecords judged.table) }
     ensures sizes { IfOk result (λ judged. judged.table.sizes ≡ geometry.now) }
     ensures readable { IfOk result (λ judged. AreReadable geometry.now edits.now judged.parts.items) }
-    ensures refused { IfErr result (IsUnjudged geometry.now surveyed.now wholes.now edits.now room) }
+    ensures refused { IfErr result (IsUnjudged geometry.now surveyed.now ends.now wholes.now edits.now room) }
     ensures renames { IfErr result (λ c. AllByRecursion IsRename edits.now → StopsRenames c) }
 {
     let Placed {
@@ -158,7 +160,7 @@ pub fn judge(
         parts,
         needs,
         has,
-    } = with_new_volumes(alloc, geometry, surveyed, wholes, edits)?;
+    } = with_new_volumes(alloc, geometry, surveyed, ends, wholes, edits)?;
     let table = match draft.table(alloc) {
         Ok(table) => table,
         Err(DraftError::Twice(first, next)) => return Err(UpdateRefusal::SameName(first, next)),

@@ -67,7 +67,7 @@ pub use errors::{
     ChangeRefusal, ContentsError, EditFault, PlanError, RenameRefusal, UpdateError, UpdateRefusal,
 };
 pub use first_steps::FirstSteps;
-pub use hidden::listed_top;
+pub use hidden::{Hidden, find_hidden};
 pub use image_after::{apply, step_fits, write_after};
 pub use rename::{plan_rename, plan_rename_from};
 pub use step::Step;

@@ -9,32 +9,37 @@ ghost use Rattle.ubi_change.specs.inner.Drafting.{TellsUsed};
 ghost use Rattle.ubi_media.specs.Geometry.{slots};
 ghost use Rattle.ubi_media.specs.Record.{rec_fault};
 
-use crate::drafting::is_used;
+use crate::drafting::is_taken;
 use crate::edit::{Edit, NewVolume};
 use std::alloc::{AllocError, Global};
 use ubi_laid::Part;
 use ubi_scan::Scan;
 use ubi_table::{Draft, Table};
 
-/// Whether a slot has no volume, and no eraseblock is a member of one with its number.
-fn is_free(scan: &Scan, table: &Table, slot: u32) -> bool
-    ensures { (used : ℕ → ℕ → Bool) → TellsUsed scan.now.winners used → result ≡ is_free used table.now slot }
+/// Whether a slot has no volume, and no logical eraseblock of one with its number is taken.
+fn is_free(scan: &Scan, ends: &[u64], table: &Table, slot: u32) -> bool
+    ensures { (used : ℕ → ℕ → Bool) → TellsUsed scan.now.winners ends.now used → result ≡ is_free used table.now slot }
 {
-    table.get(slot).is_none() && !is_used(scan, slot, 0)
+    table.get(slot).is_none() && !is_taken(scan, ends, slot, 0)
 }
 
-/// The free slots, in ascending order.
+/// The free slots, in ascending order. `ends` says what is hidden ([`crate::Hidden`]).
 ///
 /// # Errors
 ///
 /// Memory ran out.
-pub fn free_slots(alloc: Global, scan: &Scan, table: &Table) -> Result<Vec<u32>, AllocError>
-    ensures free { IfOk result (λ free. (used : ℕ → ℕ → Bool) → TellsUsed scan.now.winners used → free.items ≡ free_slots used table.now) }
+pub fn free_slots(
+    alloc: Global,
+    scan: &Scan,
+    ends: &[u64],
+    table: &Table,
+) -> Result<Vec<u32>, AllocError>
+    ensures free { IfOk result (λ free. (used : ℕ → ℕ → Bool) → TellsUsed scan.now.winners ends.now used → free.items ≡ free_slots used table.now) }
     ensures below { IfOk result (λ free. AllByRecursion (λ slot. slot < slots table.now.sizes) free.items) }
 {
     let mut free = Vec::new(alloc);
     for slot in 0..table.geometry().slots() {
-        if is_free(scan, table, slot) {
+        if is_free(scan, ends, table, slot) {
             free.push(slot)?;
         }
     }

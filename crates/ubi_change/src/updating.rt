@@ -95,7 +95,10 @@ fn based_on<S: BlockSource>(
             }
             let room = avoided.touchable(geometry, &surveyed);
             let wholes = wholes.as_slice();
-            let ready = make_ready(alloc, geometry, &surveyed, wholes, holders, edits, room)?;
+            let ends = avoided.ends();
+            let ready = make_ready(
+                alloc, geometry, &surveyed, ends, wholes, holders, edits, room,
+            )?;
             Ok(Based { surveyed, ready })
         }
         Err(error) => Err(unread(error)),

@@ -37,7 +37,7 @@ pub struct Ready {
     pub holders: Holders,
 }
 
-/// What edits write. `wholes`, `holders` and `room` are what [`judge`] and the survey say of the image.
+/// What edits write. `wholes`, `holders` and `room` are what the survey says of the image, and `ends` says what is hidden.
 ///
 /// # Errors
 ///
@@ -46,6 +46,7 @@ pub fn make_ready(
     alloc: Global,
     geometry: &Geometry,
     surveyed: &Surveyed,
+    ends: &[u64],
     wholes: &[bool],
     holders: Option<Holders>,
     edits: &[Edit],
@@ -53,16 +54,16 @@ pub fn make_ready(
 ) -> Result<Ready, UpdateRefusal>
     requires sizes { surveyed.now.records.sizes ≡ geometry.now }
     requires each { length wholes.now ≡ length edits.now }
-    ensures ready { IfOk result (IsReady geometry.now surveyed.now wholes.now holders edits.now room) }
+    ensures ready { IfOk result (IsReady geometry.now surveyed.now ends.now wholes.now holders edits.now room) }
     ensures readable { IfOk result (λ ready. AreReadable geometry.now edits.now ready.parts.items) }
     ensures paged { IfOk result (λ ready. length ready.pages.items % geometry.now.page ≡ 0) }
     ensures short { IfOk result (λ ready. length ready.pages.items < 2 ^ 31) }
     ensures fits { IfOk result (λ ready. length ready.pages.items ≤ leb_size geometry.now) }
     ensures bytes { IfOk result (λ ready. AreBytes ready.pages.items) }
-    ensures refused { IfErr result (IsUnready geometry.now surveyed.now wholes.now holders edits.now room) }
+    ensures refused { IfErr result (IsUnready geometry.now surveyed.now ends.now wholes.now holders edits.now room) }
     ensures renames { IfErr result (λ c. AllByRecursion IsRename edits.now → StopsRenames c) }
 {
-    let Judged { table, parts } = judge(alloc, geometry, surveyed, wholes, edits, room)?;
+    let Judged { table, parts } = judge(alloc, geometry, surveyed, ends, wholes, edits, room)?;
     let pages = table_pages(alloc, geometry, &table)?;
     let Some(holders) = holders else {
         return Err(UpdateRefusal::NeedsRepair);

@@ -14,12 +14,12 @@ use Rattle.ubi_change.specs.declared.judging.Judged.{Judged}
 use Rattle.ubi_change.specs.declared.judging.Placed.{Placed}
 
 -- the records with those of the new volumes, in as many slots as are free
-pub record IsPlaced (s : Sizes) (v : Seen) (wholes : List Bool) (es : List Edit) (p : Placed) : Type 0 where
-  pub faultless : IsFirstEditFault s v.scan.winners wholes v.records es None
+pub record IsPlaced (s : Sizes) (v : Seen) (ends : List ℕ) (wholes : List Bool) (es : List Edit) (p : Placed) : Type 0 where
+  pub faultless : IsFirstEditFault s v.scan.winners ends wholes v.records es None
   pub needs : p.needs ≡ length (news_of es)
-  pub has : (used : ℕ → ℕ → Bool) → TellsUsed v.scan.winners used → p.has ≡ length (free_slots used v.records)
-  pub parts : (used : ℕ → ℕ → Bool) → TellsUsed v.scan.winners used → p.parts.items ≡ edited_parts used v.records es
-  pub draft : (used : ℕ → ℕ → Bool) → TellsUsed v.scan.winners used → p.draft ≡ edited_records used v.records es
+  pub has : (used : ℕ → ℕ → Bool) → TellsUsed v.scan.winners ends used → p.has ≡ length (free_slots used v.records)
+  pub parts : (used : ℕ → ℕ → Bool) → TellsUsed v.scan.winners ends used → p.parts.items ≡ edited_parts used v.records es
+  pub draft : (used : ℕ → ℕ → Bool) → TellsUsed v.scan.winners ends used → p.draft ≡ edited_records used v.records es
 
 -- the records reserve as much as before, and no volume is written
 pub record IsRenamedAlone (t : Records) (p : Placed) : Type 0 where
@@ -39,17 +39,17 @@ pub record IsFirstJudged (s : Sizes) (v : Seen) (used : ℕ → ℕ → Bool) (w
   pub first : (d : UpdateRefusal) → update_rank d < update_rank c → RecordsStand s used whole v.records room es d → ⊥
 
 -- what edits make of a survey, by what is known of each volume that gets another size
-abbrev pub IsJudged : Sizes → Seen → List Bool → List Edit → ℕ → Judged → Type 0
-IsJudged s v wholes es room j = (used : ℕ → ℕ → Bool) (whole : Edit → Bool) → TellsUsed v.scan.winners used → wholes ≡ map whole es
+abbrev pub IsJudged : Sizes → Seen → List ℕ → List Bool → List Edit → ℕ → Judged → Type 0
+IsJudged s v ends wholes es room j = (used : ℕ → ℕ → Bool) (whole : Edit → Bool) → TellsUsed v.scan.winners ends used → wholes ≡ map whole es
     → IsMade s v used whole es room j
 
 -- why they make nothing: the first cause that applies; or memory ran out
-abbrev pub IsUnjudged : Sizes → Seen → List Bool → List Edit → ℕ → UpdateRefusal → Type 0
-IsUnjudged s v wholes es room refusal.Memory = Unit {0}
-IsUnjudged s v wholes es room (refusal.Attach _) = ⊥
-IsUnjudged s v wholes es room refusal.NeedsRepair = ⊥
-IsUnjudged s v wholes es room (refusal.WeakCheck _) = ⊥
-IsUnjudged s v wholes es room refusal.Exhausted = ⊥
-IsUnjudged s v wholes es room (refusal.NoFree _ _) = ⊥
-IsUnjudged s v wholes es room c = (used : ℕ → ℕ → Bool) (whole : Edit → Bool) → TellsUsed v.scan.winners used → wholes ≡ map whole es
+abbrev pub IsUnjudged : Sizes → Seen → List ℕ → List Bool → List Edit → ℕ → UpdateRefusal → Type 0
+IsUnjudged s v ends wholes es room refusal.Memory = Unit {0}
+IsUnjudged s v ends wholes es room (refusal.Attach _) = ⊥
+IsUnjudged s v ends wholes es room refusal.NeedsRepair = ⊥
+IsUnjudged s v ends wholes es room (refusal.WeakCheck _) = ⊥
+IsUnjudged s v ends wholes es room refusal.Exhausted = ⊥
+IsUnjudged s v ends wholes es room (refusal.NoFree _ _) = ⊥
+IsUnjudged s v ends wholes es room c = (used : ℕ → ℕ → Bool) (whole : Edit → Bool) → TellsUsed v.scan.winners ends used → wholes ≡ map whole es
     → IsFirstJudged s v used whole es room c

@@ -20,11 +20,11 @@ use Rattle.ubi_change.specs.declared.judging.Judged.{Judged}
 use Rattle.ubi_change.specs.declared.written_out.Ready.{Ready}
 use Rattle.ubi_change.specs.declared.sites.Site.{Site}
 
-module _ (s : Sizes) (seen : Seen) (wholes : List Bool) (holders : Option Holders) (es : List Edit) (room : ℕ) where
+module _ (s : Sizes) (seen : Seen) (ends : List ℕ) (wholes : List Bool) (holders : Option Holders) (es : List Edit) (room : ℕ) where
   -- no cause applies up to the CRC of the new table, and this is what the edits write
   pub record IsReady (r : Ready) : Type 0 where
     pub table : Records
-    pub judged : IsJudged s seen wholes es room (record { table = table; parts = r.parts })
+    pub judged : IsJudged s seen ends wholes es room (record { table = table; parts = r.parts })
     pub records : AreRecords table
     pub pages : r.pages.items ≡ table_pages s table
     pub both : holders ≡ Some r.holders
@@ -33,10 +33,10 @@ module _ (s : Sizes) (seen : Seen) (wholes : List Bool) (holders : Option Holder
   -- why they write nothing: a cause that the records and the members say; or none does, and the copies of the table aren't both good, or
   -- the CRC of the new table doesn't show each cut; or memory ran out
   abbrev pub IsUnready : UpdateRefusal → Type 0
-  IsUnready refusal.NeedsRepair = (j : Judged) × IsJudged s seen wholes es room j × (holders ≡ None)
+  IsUnready refusal.NeedsRepair = (j : Judged) × IsJudged s seen ends wholes es room j × (holders ≡ None)
   IsUnready (refusal.WeakCheck k) =
-      (j : Judged) × IsJudged s seen wholes es room j × IsSome holders × (weak_pages s (table_pages s j.table) ≡ Some k)
-  IsUnready c = IsUnjudged s seen wholes es room c
+      (j : Judged) × IsJudged s seen ends wholes es room j × IsSome holders × (weak_pages s (table_pages s j.table) ≡ Some k)
+  IsUnready c = IsUnjudged s seen ends wholes es room c
 
 module _ (s : Sizes) (k : Source) (agrees : Agreed) (av : Avoided) (seen : Seen) (needs : ℕ) where
   -- as many eraseblocks are taken as are needed, and there are as many sequence numbers

@@ -46,7 +46,7 @@ pub record IsBased (s : Sizes) (k : Source) (agrees : Agreed) (av : Avoided) (es
   pub wholes : List Bool
   pub read : WhereHeld agrees (λ bytes. AreWholes (image_of s bytes) b.surveyed es wholes)
   pub holders : AreHoldersOf s k agrees av b.surveyed (Some b.ready.holders)
-  pub ready : IsReady s b.surveyed wholes (Some b.ready.holders) es (touchable av b.surveyed.states) b.ready
+  pub ready : IsReady s b.surveyed av.ends wholes (Some b.ready.holders) es (touchable av b.surveyed.states) b.ready
   pub readable : AreReadable s es b.ready.parts.items
   pub pages : HasPages s b.ready
   pub most : touchable av b.surveyed.states ≤ s.pebs

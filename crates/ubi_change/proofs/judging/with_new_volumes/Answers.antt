@@ -32,15 +32,15 @@ returns-clause-placed c =
     let free = c.in_ok-free.free.items in
     let volumes = c.in_ok-written.written.items in
     let before = c.in_ok-draft.ensures ∙ c.table-table.ensures in
-    let free_is : (used : ℕ → ℕ → Bool) → TellsUsed c.args.surveyed.now.scan.winners used → free ≡ free_slots used t =
-    λ used tells. c.in_ok-free.ensures.free used (subst (λ (f : Found). TellsUsed f.winners used) (sym c.scan-scan.ensures) tells)
+    let free_is : (used : ℕ → ℕ → Bool) → TellsUsed c.args.surveyed.now.scan.winners c.args.ends.now used → free ≡ free_slots used t =
+    λ used tells. c.in_ok-free.ensures.free used (subst (λ (f : Found). TellsUsed f.winners c.args.ends.now used) (sym c.scan-scan.ensures) tells)
     ∙ ap (λ (t : Records). free_slots used t) c.table-table.ensures in
     let parts_is = c.in_ok-parts.ensures
     ∙ ap₂ (λ (js : List ℕ) (vs : List NewVolume). parts_of js vs) c.as_slice-slots.ensures.value
     (c.as_slice-volumes.ensures.value ∙ c.in_ok-written.ensures) in
     record {
       faultless = λ used whole tells each. ap (λ (t : Records). first_edit_fault c.args.geometry.now used whole 0 t es) (sym before)
-          ∙ c.in_ok-drafted.ensures.made used whole (subst (λ (f : Found). TellsUsed f.winners used) (sym c.scan-scan.ensures) tells) each;
+          ∙ c.in_ok-drafted.ensures.made used whole (subst (λ (f : Found). TellsUsed f.winners c.args.ends.now used) (sym c.scan-scan.ensures) tells) each;
       needs = ap length (c.as_slice-volumes.ensures.value) ∙ ap length c.in_ok-written.ensures;
       has = λ used tells. ap length c.as_slice-slots.ensures.value ∙ ap length (free_is used tells);
       parts = λ used tells. parts_is ∙ ap (λ (js : List ℕ). parts_of js (news_of es)) (free_is used tells);

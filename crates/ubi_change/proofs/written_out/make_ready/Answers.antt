@@ -6,7 +6,7 @@ pub returns-in_err-table-clause-refused : goal.returns-in_err-table-clause-refus
 returns-in_err-table-clause-refused c =
     let from = err_from_is_err_and c.from_residual.result c.from_residual.ensures.1 in
     rw (from.1, from.2)
-    (unready_from c.args.geometry.now c.args.surveyed.now c.args.wholes.now c.args.holders c.args.edits.now c.args.room
+    (unready_from c.args.geometry.now c.args.surveyed.now c.args.ends.now c.args.wholes.now c.args.holders c.args.edits.now c.args.room
     c.in_err-table.field-0.0 c.in_err-table.ensures.refused)
 
 pub returns-in-Some-weak_place-clause-refused : goal.returns-in-Some-weak_place-clause-refused
