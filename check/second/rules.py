@@ -405,16 +405,16 @@ class Meaning:
         return b"".join(content.get(lnum, blank) for lnum in range(record.reserved))
 
 
-def listed_sqnum(geometry, image, is_bad):
-    """The greatest sequence number that a valid header in a listed eraseblock names, 0 if none does."""
+def listed_headers(geometry, image, is_bad):
+    """The valid volume-identifier headers in the listed eraseblocks of an image."""
     starts = [p * geometry.peb for p in range(len(image) // geometry.peb) if is_bad(p)]
     read = [read_vid(geometry, image[at + geometry.vid : at + geometry.vid + 64]) for at in starts]
-    return max((vid.sqnum for state, vid in read if state == "valid"), default=0)
+    return [vid for state, vid in read if state == "valid"]
 
 
 class Image(Meaning):
     """An accepted image, some of whose eraseblocks may be listed as bad: what it means, the states of its
-    eraseblocks, and the last sequence number before those of a plan.
+    eraseblocks, the headers that are hidden in listed ones, and the last sequence number before those of a plan.
 
     It also says whether plans keep blank eraseblocks.
     """
@@ -431,7 +431,8 @@ class Image(Meaning):
         self.states = [self.state(p) for p in range(len(self.found.blocks))]
         counted = self.found.members.keys() | self.found.dropped
         self.top_sqnum = max((self.found.vids[p][1].sqnum for p in counted), default=0)
-        self.last = max(self.top_sqnum, listed_sqnum(geometry, image, is_bad))
+        self.hidden = listed_headers(geometry, image, is_bad)
+        self.last = max(self.top_sqnum, *(vid.sqnum for vid in self.hidden), 0)
         counters = [ec.counter for state, ec in self.found.ecs if state == "valid"]
         self.mean_counter = sum(counters) // len(counters) if counters else 0
 

@@ -143,9 +143,14 @@ def sections_of(words):
 # What the edits make of the image.
 
 
+def named_headers(image):
+    """The headers of the members, and those that are hidden in listed eraseblocks."""
+    return [*image.found.members.values(), *image.hidden]
+
+
 def fresh_slots(image):
-    """The slots without a record and without a member, by rising number."""
-    taken = image.records.keys() | {header.volume for header in image.found.members.values()}
+    """The slots without a record, without a member, and with no hidden header, by rising number."""
+    taken = image.records.keys() | {header.volume for header in named_headers(image)}
     return [slot for slot in range(image.geometry.slots) if slot not in taken]
 
 
@@ -222,8 +227,8 @@ class Edited:
         """Whether a volume may get another size: the lesser of the old and the new is given."""
         if isinstance(self.image.contents[edit.number], str):
             raise Refused(f"U4 NotWhole name={edit.word.name}")
-        members = self.image.found.members.values()
-        if any(header.volume == edit.number and header.lnum >= lesser for header in members):
+        headers = named_headers(self.image)
+        if any(header.volume == edit.number and header.lnum >= lesser for header in headers):
             raise Refused(f"U5 InUse name={edit.word.name}")
 
     def placed(self):
