@@ -17,7 +17,7 @@ pub use Rattle.std.specs.Prelude.{Err, IfErr, IfOk, None, Ok, OnOk, Option, Resu
 pub use Rattle.std.specs.declared.alloc.AllocError.{AllocError}
 pub use Rattle.ubi_change.specs.Avoided.{Avoided, IsNotBlank, ReadBlank}
 pub use Rattle.ubi_change.specs.EditsAsked.{first_beyond, is_beyond}
-pub use Rattle.ubi_change.specs.Listed.{listed_top}
+pub use Rattle.ubi_change.specs.Listed.{Hidden, hidden_in}
 pub use Rattle.ubi_change.specs.Pages.{programmed}
 pub use Rattle.ubi_change.specs.UpdatePlanned.{IsUpdateCause, IsUpdateErrorIn}
 pub use Rattle.ubi_change.specs.declared.edit.Edit.{Edit}

@@ -6,7 +6,7 @@ use Rattle.ubi_scan.specs.Image.{Image, image_of}
 use Rattle.ubi_scan.specs.Source.{blocks_of}
 use Rattle.ubi_change.specs.Avoided.{Avoided}
 use Rattle.ubi_change.specs.ErrorTexts.{rename_refusal_text}
-use Rattle.ubi_change.specs.Listed.{listed_top}
+use Rattle.ubi_change.specs.Listed.{hidden_in}
 use Rattle.ubi_change.specs.Pages.{programmed}
 use Rattle.ubi_change.specs.Planned.{IsChangeRefusalAvoiding, PlanFacts}
 use Rattle.ubi_change.specs.RenamePlanned.{RenameFacts, IsRenameRefusalAvoiding}
@@ -28,12 +28,13 @@ use Rattle.ubi_writing.specs.Update.{AreEditsOf, AreLinesOf, IsNoEditOf, update_
 use Rattle.ubi_writing.specs.declared.asks.Ask.{Ask}
 use Rattle.ubi_calls.specs.EditLines.{AreAsksOf, IsWrongLine, by_words}
 
--- what a plan for a chip that holds these bytes avoids: its bad eraseblocks, by their numbers, and Blank ones if they are kept; and the
--- sequence numbers up to the greatest one that a header in a bad eraseblock names
+-- what a plan for a chip that holds these bytes avoids: its bad eraseblocks, by their numbers, and Blank ones if they are kept; and what
+-- headers in bad eraseblocks name
 abbrev pub spared : Sizes → List ℕ → Bool → List ℕ → Avoided
 spared s bad keeps_blank bytes =
     let marks = marks_by_number s.pebs bad in
-    record { marks = marks; blank = keeps_blank; above = listed_top s (blocks_of s bytes) marks }
+    let hidden = hidden_in s (blocks_of s bytes) marks in
+    record { marks = marks; blank = keeps_blank; above = hidden.above; ends = hidden.ends }
 
 -- the image of these bytes, in which bad eraseblocks read 0xFF
 abbrev pub image_without : Sizes → List ℕ → List ℕ → Image
@@ -64,7 +65,7 @@ wrong_line n = refused_line (codes "E1 BadEdit line=" ++ decimal n)
 -- which there is no plan
 pub data PlansUpdate (image : Image) (av : Avoided) (text contents pages bytes : List ℕ) (status : ℕ) : Type 0 where
   update : (asks : List Ask) (es : List Edit) (steps : List Step) (lines : List ℕ) → AreAsksOf text (length contents) asks
-      → AreEditsOf image (by_words asks) es → AreUpdateSteps image av contents es steps → AreLinesOf image contents es lines
+      → AreEditsOf image (by_words asks) es → AreUpdateSteps image av contents es steps → AreLinesOf image av contents es lines
       → bytes ≡ lines ++ plan_lines steps → pages ≡ programmed steps → status ≡ 0 → PlansUpdate image av text contents pages bytes status
   no_text : (n : ℕ) → IsWrongLine text (length contents) n → bytes ≡ wrong_line n → status ≡ 1
       → PlansUpdate image av text contents pages bytes status

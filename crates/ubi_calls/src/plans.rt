@@ -4,7 +4,7 @@ ghost use Rattle.std.specs.Prelude.{◌≡◌, ◌≢◌, ◌++◌, [], IfErr, I
 ghost use Rattle.ubi_files.specs.Answer.{Gives, says};
 ghost use Rattle.ubi_scan.specs.Image.{image_of, of_blocks};
 ghost use Rattle.ubi_change.specs.Avoided.{ReadBlank};
-ghost use Rattle.ubi_change.specs.Listed.{listed_top};
+ghost use Rattle.ubi_change.specs.Listed.{hidden_in};
 ghost use Rattle.ubi_scan.specs.Source.{blocks_of};
 ghost use Rattle.ubi_calls.specs.Calls.{FillsBoth, Under};
 ghost use Rattle.ubi_calls.specs.EditLines.{AreAsksOf};
@@ -16,7 +16,7 @@ use crate::edit_lines::{NoEdits, asks_in};
 use crate::numbers::{DeviceSizes, geometry_of};
 use std::alloc::{AllocError, Global};
 use std::io;
-use ubi_change::{Avoided, listed_top};
+use ubi_change::{Avoided, Hidden, find_hidden};
 use ubi_files::{DONE, FAILED, Outcome, ToolError, marks_by_number, mask, put_number, put_word};
 use ubi_media::Geometry;
 use ubi_scan::MemorySource;
@@ -249,21 +249,21 @@ fn hand_plan(
     }
 }
 
-/// The greatest sequence number that a header in a listed eraseblock of an image names, 0 if none does.
+/// What headers in listed eraseblocks of an image name.
 ///
 /// # Errors
 ///
 /// Memory ran out.
-fn top_of(
+fn hidden_of(
     alloc: Global,
     geometry: &Geometry,
     image: &[u8],
     marks: &[bool],
-) -> Result<u64, AllocError>
-    ensures { IfOk result (λ n. n ≡ listed_top geometry.now (blocks_of geometry.now image.now) marks.now) }
+) -> Result<Hidden, AllocError>
+    ensures { IfOk result (λ h. h ≡ hidden_in geometry.now (blocks_of geometry.now image.now) marks.now) }
 {
-    match listed_top(alloc, geometry, &mut MemorySource::new(image), marks) {
-        Ok(top) => Ok(top),
+    match find_hidden(alloc, geometry, &mut MemorySource::new(image), marks) {
+        Ok(hidden) => Ok(hidden),
         // Reading memory doesn't fail.
         Err(_) => Err(AllocError),
     }
@@ -317,8 +317,8 @@ impl Edit<'_> {
     {
         let marks = marks_by_number(alloc, geometry.pebs(), spared.bad)?;
         let marks = marks.as_slice();
-        let above = top_of(alloc, geometry, image, marks)?;
-        let avoided = Avoided::new(marks, spared.keeps_blank, above);
+        let hidden = hidden_of(alloc, geometry, image, marks)?;
+        let avoided = Avoided::new(marks, spared.keeps_blank, hidden.above(), hidden.ends());
         if marks.is_empty() {
             return self.plan(alloc, geometry, image, &avoided, pages);
         }

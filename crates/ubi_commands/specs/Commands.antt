@@ -18,7 +18,7 @@ use Rattle.ubi_reading.specs.Geometry.{DetectsOf}
 use Rattle.ubi_reading.specs.Map.{AnswersMap, LeavesMap}
 use Rattle.ubi_writing.specs.Normalise.{HasMeaning, NormalisesOf}
 use Rattle.ubi_dumps.specs.Asked.{OfAsked}
-use Rattle.ubi_writing.specs.PlanImage.{AboveListed}
+use Rattle.ubi_writing.specs.PlanImage.{WithHidden}
 use Rattle.ubi_writing.specs.Outputs.{KeepsImage, KeepsPart, OfText, OnGrid, PlanStays, WithList, WritesInto, WritesPlan, avoided}
 use Rattle.ubi_files.specs.OverFile.{OfFile, OfImage}
 use Rattle.ubi_reading.specs.InFormat.{OfAskedIn, OfBothIn, OfFileIn}
@@ -212,11 +212,11 @@ said_of (request.Change dump change_it) =
     record {
       command = change;
       asks = λ words. AsksDump words dump × AsksChange words change_it;
-      answers = λ d e o. WithList d e dump.bad image (OnGrid d e dump image (AboveListed d dump image
-          (λ above. OfFile d dump image (λ s k agrees. OfImage d dump.numbers change_it.from.now
+      answers = λ d e o. WithList d e dump.bad image (OnGrid d e dump image (WithHidden d dump image
+          (λ hidden. OfFile d dump image (λ s k agrees. OfImage d dump.numbers change_it.from.now
           (λ f. WritesPlan out plan.pages d e
-          (ChangesFrom (avoided dump plan above) change_it.id change_it.lnum f.bytes plan.stop s k agrees)
-          (HasPlan (avoided dump plan above) change_it.id change_it.lnum f.bytes s k agrees)))))) o × KeepsImage d e image o;
+          (ChangesFrom (avoided dump plan hidden) change_it.id change_it.lnum f.bytes plan.stop s k agrees)
+          (HasPlan (avoided dump plan hidden) change_it.id change_it.lnum f.bytes s k agrees)))))) o × KeepsImage d e image o;
       leaves = λ d e. PlanStays d e plan × Stays d e change_it.from.now × KeepsPart d e dump image;
     }
 said_of (request.Rename dump rename_it) =
@@ -226,10 +226,10 @@ said_of (request.Rename dump rename_it) =
     record {
       command = rename;
       asks = λ words. AsksDump words dump × AsksRename words rename_it;
-      answers = λ d e o. WithList d e dump.bad image (OnGrid d e dump image (AboveListed d dump image
-          (λ above. OfFile d dump image (λ s k agrees. WritesPlan out plan.pages d e
-          (RenamesFrom (avoided dump plan above) rename_it.id rename_it.name.now plan.stop s k agrees)
-          (HasRename (avoided dump plan above) rename_it.id rename_it.name.now s k agrees))))) o × KeepsImage d e image o;
+      answers = λ d e o. WithList d e dump.bad image (OnGrid d e dump image (WithHidden d dump image
+          (λ hidden. OfFile d dump image (λ s k agrees. WritesPlan out plan.pages d e
+          (RenamesFrom (avoided dump plan hidden) rename_it.id rename_it.name.now plan.stop s k agrees)
+          (HasRename (avoided dump plan hidden) rename_it.id rename_it.name.now s k agrees))))) o × KeepsImage d e image o;
       leaves = λ d e. PlanStays d e plan × KeepsPart d e dump image;
     }
 said_of (request.Update dump update_it) =
@@ -239,12 +239,12 @@ said_of (request.Update dump update_it) =
     record {
       command = update;
       asks = λ words. AsksDump words dump × AsksUpdate words update_it;
-      answers = λ d e o. WithList d e dump.bad image (OnGrid d e dump image (AboveListed d dump image
-          (λ above. OfFile d dump image (λ s k agrees. OfConfig d dump.numbers update_it.config
+      answers = λ d e o. WithList d e dump.bad image (OnGrid d e dump image (WithHidden d dump image
+          (λ hidden. OfFile d dump image (λ s k agrees. OfConfig d dump.numbers update_it.config
           (λ xs. OfContents d dump.numbers update_it.contents.now (config_path update_it.config) xs
           (λ fs gs bytes. WritesPlan out plan.pages d e
-          (UpdatesFrom (avoided dump plan above) (all_asked_edits update_it xs fs gs) bytes plan.stop s k agrees)
-          (HasUpdate (avoided dump plan above) (all_asked_edits update_it xs fs gs) bytes s k agrees))))))) o × KeepsImage d e image o;
+          (UpdatesFrom (avoided dump plan hidden) (all_asked_edits update_it xs fs gs) bytes plan.stop s k agrees)
+          (HasUpdate (avoided dump plan hidden) (all_asked_edits update_it xs fs gs) bytes s k agrees))))))) o × KeepsImage d e image o;
       leaves = λ d e. PlanStays d e plan × All (λ word. Stays d e (value_in word.now)) update_it.contents.now
           × IfSome update_it.config (λ path. Stays d e path.now) × KeepsPart d e dump image;
     }

@@ -1,13 +1,5 @@
 -- What is known of the bad eraseblocks of an image that is opened for a plan.
-use Rattle.ubi_writing.proofs.Prelude.{AboveListed, Sizes, [], false, true, ◌+◌, ◌++◌, ◌<◌, ◌≡◌, ◌∙◌, ◌∷◌, ◌*◌, ◌/◌, Bool, Dump, Files, IfSome, IsListedTop, IsTopOf, None, Option, Some, Outcome, ap, arith, bare, cond, drop, get_or, length, masked, min, option_map, option_map_or, refl, sizes_of, subst, suc, sym, take, zero, ℕ, List, replicate, IfSome_then, listed_top, same_lists, take_all, get_or-masked, length-masked, masked-take, bad_marks, IsJudgedOf, before, blocks_before, marks_of, seen, viewed, IsRead, IsUnseen, unfit, unfit_whole, unreadable, pages_of, part_of, seen_of, is_listed, blocks_of}
-
--- there always is such a number
-pub some_top : (d : Files) (dump : Dump) (path : List ℕ) → (n : ℕ) × IsListedTop d dump path n
-some_top d dump path = by ((seen (bare dump) d).holds path)
-  where
-    by : (o : Option (List ℕ)) → (n : ℕ) × IfSome o (λ bytes. IsTopOf dump bytes n)
-    by None = (0, tt)
-    by (Some bytes) = (listed_top (sizes_of dump.numbers) (blocks_of (sizes_of dump.numbers) bytes) (marks_of dump), λ few. refl)
+use Rattle.ubi_writing.proofs.Prelude.{FitsWhole, Hidden, Sizes, whole, [], false, true, ◌+◌, ◌++◌, ◌<◌, ◌≡◌, ◌∙◌, ◌∷◌, ◌*◌, ◌/◌, Bool, Dump, Files, IfSome, IsHiddenAt, None, Option, Some, Outcome, ap, arith, bare, cond, drop, get_or, length, masked, min, option_map, option_map_or, refl, sizes_of, subst, suc, sym, take, zero, ℕ, List, replicate, hidden_in, same_lists, get_or-masked, length-masked, masked-take, bad_marks, IsJudgedOf, before, blocks_before, marks_of, seen, viewed, IsRead, IsUnseen, unfit, unfit_whole, unreadable, pages_of, part_of, seen_of, is_listed, blocks_of}
 
 -- why a dump can't be opened doesn't depend on its bad eraseblocks
 pub unseen_bare : (d : Files) (dump : Dump) (path : List ℕ) (o : Outcome) → IsUnseen d (bare dump) path o → IsUnseen d dump path o
@@ -69,15 +61,12 @@ masked_judged d dump path bytes judged = by (d.holds path) judged
         ∙ masked_again s.peb_size (marks_of (bare dump)) (marks_of dump) (more_listed dump) (take n xs)
         ∙ masked-take s.peb_size (marks_of dump) n xs
 
--- the number of the judged bytes of a file is that of what it holds
-pub top_judged : (d : Files) (dump : Dump) (path bytes : List ℕ) (n : ℕ) → IsJudgedOf (seen (bare dump) d) path (sizes_of dump.numbers) bytes
-    → n ≡ listed_top (sizes_of dump.numbers) (blocks_of (sizes_of dump.numbers) bytes) (marks_of dump) → IsListedTop d dump path n
-top_judged d dump path bytes n judged top =
-    IfSome_then ((seen (bare dump) d).holds path) judged
-    (λ all is few. top ∙ ap (λ xs. listed_top s (blocks_of s xs) (marks_of dump)) (is ∙ take_all (s.pebs * s.peb_size + 1) all (omega (arith, few))))
-  where
-    s : Sizes
-    s = sizes_of dump.numbers
+-- what the bytes of an image name that was read whole is hidden
+pub hidden_whole : (d : Files) (dump : Dump) (path bytes : List ℕ) (h : Hidden) → IsRead (sizes_of dump.numbers) bytes
+    → IsJudgedOf (seen (bare dump) d) path (sizes_of dump.numbers) bytes → FitsWhole d (bare dump) path
+    → h ≡ hidden_in (sizes_of dump.numbers) (blocks_of (sizes_of dump.numbers) bytes) (marks_of dump) → IsHiddenAt d dump path h
+hidden_whole d dump path bytes h read judged fits found = whole bytes read judged fits (λ held is few.
+    found ∙ ap (λ xs. hidden_in (sizes_of dump.numbers) (blocks_of (sizes_of dump.numbers) xs) (marks_of dump)) (sym is))
 
 -- an image that was read whole, once it is masked, is that of the dump
 pub whole_masked : (d : Files) (dump : Dump) (path bytes now : List ℕ) → IsRead (sizes_of dump.numbers) bytes
@@ -90,14 +79,3 @@ whole_masked d dump path bytes now read judged are =
       record { limits = read.limits; few = (let few = read.few in omega (arith, few, long)) },
       subst (IsJudgedOf (seen dump d) path s) (sym are) (masked_judged d dump path bytes judged),
     )
-
--- what is answered whatever the number
-pub above_any : (d : Files) (dump : Dump) (path : List ℕ) (answers : ℕ → Outcome → Type 0) {o : Outcome} → ((n : ℕ) → answers n o)
-    → AboveListed d dump path answers o
-above_any d dump path answers all =
-    let some = some_top d dump path in record { above = some.0; top = some.1; answered = all some.0 }
-
--- and for the number that was found
-pub above_as : (d : Files) (dump : Dump) (path : List ℕ) (answers : ℕ → Outcome → Type 0) {o : Outcome} (n : ℕ) → IsListedTop d dump path n
-    → answers n o → AboveListed d dump path answers o
-above_as d dump path answers n top answered = record { above = n; top = top; answered = answered }

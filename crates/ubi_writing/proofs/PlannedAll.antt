@@ -24,7 +24,7 @@ module _ (s : Sizes) (k : Source) (agrees agreed : Agreed) (av : Avoided) (conte
   }
 
   pub lines_planned : (lines : List ℕ) → lines ≡ written_lines p.layings.items p.parts.items (all_replaced es)
-      → WhereHeld agrees (λ bytes. AreLinesOf (image_of s bytes) contents es lines)
+      → WhereHeld agrees (λ bytes. AreLinesOf (image_of s bytes) av contents es lines)
   lines_planned lines are bytes agree =
       let is : IsUpdateFor (image_of s bytes) av contents es p = planned bytes agree contents holds in
       record {
@@ -32,7 +32,7 @@ module _ (s : Sizes) (k : Source) (agrees agreed : Agreed) (av : Avoided) (conte
         attached = is.attached;
         are = are
             ∙ ap (λ (ls : List Laying). written_lines ls p.parts.items (all_replaced es)) is.layings
-            ∙ ap (λ (ps : List Part). written_lines (all_layings s contents (of_blocks asked_parts (image_of s bytes) is.from es)) ps (all_replaced es)) is.parts;
+            ∙ ap (λ (ps : List Part). written_lines (all_layings s contents (of_blocks asked_parts (image_of s bytes) av.ends is.from es)) ps (all_replaced es)) is.parts;
       }
 
 -- the first steps of a plan that is held

@@ -8,7 +8,7 @@ pub use Rattle.std.proofs.lemmas.List.{at_drop_more, length-append, length-map, 
 pub use Rattle.std.proofs.lemmas.List.Elements.{All-cons, All-contains_itself, All-head, All-map, All-nil, All-tail, filter_map-append}
 pub use Rattle.std.proofs.lemmas.List.Folds.{list_all_more}
 pub use Rattle.std.proofs.lemmas.List.Sums.{fold-append, fold_more, sum_by-append}
-pub use Rattle.std.proofs.lemmas.Option.{IfSome_then, get_or_from_slice_get, same_Some, slice_get-get_or, slice_get_cases, slice_get_read, slice_get_within}
+pub use Rattle.std.proofs.lemmas.Option.{get_or_from_slice_get, same_Some, slice_get-get_or, slice_get_cases, slice_get_read, slice_get_within}
 pub use Rattle.std.proofs.lemmas.Result.{IfErr-at_err, IfErr-weaker, IfOk-at_ok, IfOk-weaker, err_from_is_err_and, on_ok_weaker}
 pub use Rattle.std.specs.Bool.{then_some}
 pub use Rattle.std.specs.Borrow.{Bor}
@@ -34,7 +34,7 @@ pub use Rattle.ubi_change.specs.Edited.{edited_in}
 pub use Rattle.ubi_change.specs.EditsAsked.{all_asked, first_beyond}
 pub use Rattle.ubi_change.specs.Fitting.{AllWithin}
 pub use Rattle.ubi_change.specs.Laying.{StaysOpen, after_contents, all_layings}
-pub use Rattle.ubi_change.specs.Listed.{listed_top}
+pub use Rattle.ubi_change.specs.Listed.{Hidden, hidden_in}
 pub use Rattle.ubi_change.specs.Pages.{line_of, programmed}
 pub use Rattle.ubi_change.specs.Planned.{IsChangeError, PlanFactsOfSource}
 pub use Rattle.ubi_change.specs.RenamePlan.{renamed_pages, table_pages}
@@ -69,7 +69,7 @@ pub use Rattle.ubi_config.specs.Written.{config_text}
 pub use Rattle.ubi_config.specs.declared.errors.ConfigCause.{ConfigCause}
 pub use Rattle.ubi_config.specs.declared.section.Section.{Section}
 pub use Rattle.ubi_config.specs.declared.volume.ConfigVolume.{ConfigVolume}
-pub use Rattle.ubi_dumps.proofs.Ended.{OfFile-weaker, after_error, after_outcome, at_places, both, by_bytes, ends, is_open, of_any, told_at_places, told_by_bytes}
+pub use Rattle.ubi_dumps.proofs.Ended.{OfFile-weaker, after_error, after_outcome, at_places, both, by_bytes, ends, is_open, of_any, read_at_places, told_at_places, told_by_bytes}
 pub use Rattle.ubi_dumps.proofs.Outcomes.{holds_received, kept_after, kept_since, not_both, others_stay, told}
 pub use Rattle.ubi_dumps.specs.Asked.{of_dump, untold}
 pub use Rattle.ubi_dumps.specs.Ended.{IsEnded, Works, answered, no_read, no_source, no_write, outcome, read_failed, unopened}
@@ -81,7 +81,7 @@ pub use Rattle.ubi_files.specs.AfterRun.{WhereNotDone, after_run}
 pub use Rattle.ubi_files.specs.Answer.{Gives, says}
 pub use Rattle.ubi_files.specs.BadBlocks.{bad_marks, masked}
 pub use Rattle.ubi_files.specs.Disk.{AllStay, Files, Holds, IsJudgedOf, IsKept, IsLeft, IsTextOf, OthersStay, OutsideStay, Receives, Stays, fresh, full_of}
-pub use Rattle.ubi_files.specs.Dump.{before, blocks_before, marks_of, seen, viewed}
+pub use Rattle.ubi_files.specs.Dump.{FitsWhole, before, blocks_before, marks_of, seen, viewed}
 pub use Rattle.ubi_files.specs.Late.{contents_of}
 pub use Rattle.ubi_files.specs.Lines.{file_line, refused_line}
 pub use Rattle.ubi_files.specs.Numbers.{sizes_of}
@@ -137,7 +137,7 @@ pub use Rattle.ubi_writing.specs.Normalise.{HasMeaning, IsNormaliseError, Normal
 pub use Rattle.ubi_writing.specs.Outputs.{OfText, OnGrid, WithList, WritesInto, WritesPlan, avoided, no_bytes, no_first_pages, no_last_image, no_list, no_pages, no_sizes, no_text, off_grid, on_grid, planned, text_limit, unwritten, with_list, written}
 pub use Rattle.ubi_writing.specs.Pages.{IsReadyFor, IsSoundPlan, made_steps, pages_made}
 pub use Rattle.ubi_writing.specs.Plan.{CutAccepts, IsCarryFault, IsWriteFault, cut_bytes, cut_text, plan_answer, plan_lines, step_line, steps_done}
-pub use Rattle.ubi_writing.specs.PlanImage.{AboveListed, IsListedTop, IsTopOf, bare}
+pub use Rattle.ubi_writing.specs.PlanImage.{IsHiddenAt, bare, hiding, no_dump}
 pub use Rattle.ubi_writing.specs.Rename.{CutIsNamed, HasRename, IsRenameFault, Renames, RenamesFrom, nameless_from}
 pub use Rattle.ubi_writing.specs.Unpack.{AreUnpacked, AreUnpackedUntil, IsNewFile, IsUnpacked, Listed, Unpacks, UnpacksOf, all_described, described, file_byte, file_path, folder_config, listed, no_config, no_folder, unpacked, unpacked_line, unpacked_lines, unpacked_status}
 unfoldable pub use Rattle.ubi_writing.specs.Unpack.{file_name}

@@ -17,7 +17,7 @@ module _ (av : Avoided) (w : AskedEdits) (contents : List ℕ) (stop : Option �
         let image = image_of s bytes in
         let is : AreUpdateSteps image av contents es steps = plan.plan.held bytes agreed in
         let a = avoiding av is.from in
-        let n = of_blocks edited_in image a.meaning (all_asked s contents es) in
+        let n = of_blocks edited_in image av.ends a.meaning (all_asked s contents es) in
         let survives : of_blocks SurvivesCommit image a.meaning n steps =
         subst (λ (xs : List Step). of_blocks SurvivesCommit image a.meaning n xs) (sym is.plan) is.facts.survives in
         let j = steps_done steps stop in (
@@ -30,7 +30,7 @@ module _ (av : Avoided) (w : AskedEdits) (contents : List ℕ) (stop : Option �
     abbrev pub done_firsts : List Step
     done_firsts = take (steps_done steps stop) steps
 
-    pub update_done : (lines : List ℕ) → WhereHeld agrees (λ bytes. AreLinesOf (image_of s bytes) contents es lines)
+    pub update_done : (lines : List ℕ) → WhereHeld agrees (λ bytes. AreLinesOf (image_of s bytes) av contents es lines)
         → (r : Result Outcome ToolError) (pages : List ℕ) (old now : Option (List ℕ)) (text : List ℕ) → text ≡ lines ++ plan_lines steps
         → IfOk r (λ o. Gives o (says text 0)) → pages ≡ programmed done_firsts → AreCut s agrees steps (steps_done steps stop)
         → IfOk r (λ _. Wrote agrees old now (after_text s done_firsts) All 0 k.size)
@@ -65,7 +65,7 @@ module _ (av : Avoided) (w : AskedEdits) (contents : List ℕ) (stop : Option �
 
   -- where contents can't be read
   pub unread_told : (k : Source) (agrees : Agreed) (pages : List ℕ) (old : Option (List ℕ)) (es : List Edit) (i at : ℕ)
-      → WhereHeld agrees (λ bytes. AreEditsOf (image_of s bytes) w es) → WhereHeld agrees (λ bytes. IsAskedAt (image_of s bytes) es i at)
+      → WhereHeld agrees (λ bytes. AreEditsOf (image_of s bytes) w es) → WhereHeld agrees (λ bytes. IsAskedAt (image_of s bytes) av es i at)
       → (r : Result Outcome ToolError) → IfOk r (IsToldOf w (error.Contents i)) → IfOk r (UpdatesFrom av w contents stop s k agrees pages old old)
   unread_told k agrees pages old es i at are asked (Ok o) (line, is, gives) =
       update.unread_from es i at are asked (subst (λ (xs : List ℕ). Gives o (says xs 1)) (sym (same_Some _ line is)) gives) (Keeps-refl _)

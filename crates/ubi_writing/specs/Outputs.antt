@@ -5,6 +5,7 @@ use Rattle.std.specs.Prelude.{◌≡◌, ◌≢◌, ℕ, ◌*◌, ◌+◌, ◌�
 use Rattle.ubi_media.specs.Geometry.{Sizes}
 use Rattle.ubi_media.specs.Limits.{first_broken}
 use Rattle.ubi_change.specs.Avoided.{Avoided}
+use Rattle.ubi_change.specs.Listed.{Hidden}
 use Rattle.ubi_files.specs.Answer.{Gives, says}
 use Rattle.ubi_files.specs.Disk.{AllStay, Files, IsLeft, IsTextOf, OthersStayBeside, Receives, Stays, fresh}
 use Rattle.ubi_files.specs.Dump.{begins_with_block, marks_of, raw_size}
@@ -84,10 +85,9 @@ pub data OnGrid (d e : Files) (dump : Dump) (path : List ℕ) (answers : Outcome
       → Gives o (says (start_line dump) 1) → AllStay d e → OnGrid d e dump path answers o
   on_grid : {o : Outcome} → IsTrue (begins_with_block dump) → answers o → OnGrid d e dump path answers o
 
--- what a plan avoids in a dump: its bad eraseblocks, those before its part, and Blank ones if they are kept; and the sequence numbers up to
--- one
-abbrev pub avoided : Dump → Plan → ℕ → Avoided
-avoided dump plan above = record { marks = marks_of dump; blank = plan.keeps_blank; above = above }
+-- what a plan avoids in a dump: its bad eraseblocks, those before its part, and Blank ones if they are kept; and what is hidden from it
+abbrev pub avoided : Dump → Plan → Hidden → Avoided
+avoided dump plan h = record { marks = marks_of dump; blank = plan.keeps_blank; above = h.above; ends = h.ends }
 
 -- each file holds what it held, except those that a plan writes; and the image does, unless it is itself the file that the
 -- changed image is written to

@@ -4,7 +4,7 @@ use Rattle.std.specs.Io.KnownBytes.{Keeps}
 use Rattle.std.specs.Option.{option_map_or}
 use Rattle.ubi_media.specs.Geometry.{Sizes}
 use Rattle.ubi_media.specs.declared.refusal.Refusal.{Refusal}
-use Rattle.ubi_change.specs.Avoided.{Avoided, avoiding}
+use Rattle.ubi_change.specs.Avoided.{Avoided}
 use Rattle.ubi_change.specs.Cuts.{turn}
 use Rattle.ubi_change.specs.Edited.{edited_in}
 use Rattle.ubi_change.specs.EditsAsked.{all_asked}
@@ -118,10 +118,10 @@ pub record IsNoEditOf (image : Image) (w : AskedEdits) (line : List ℕ) : Type 
   pub said : line ≡ no_edit_line (records_of from.meaning) w at no_edit.ask
 
 -- the lines of the volumes that edits of an image write
-pub record AreLinesOf (image : Image) (contents : List ℕ) (es : List Edit) (lines : List ℕ) : Type 0 where
+pub record AreLinesOf (image : Image) (av : Avoided) (contents : List ℕ) (es : List Edit) (lines : List ℕ) : Type 0 where
   pub from : AttachValue
   pub attached : IsAttached image from
-  pub are : let parts = of_blocks asked_parts image from es in
+  pub are : let parts = of_blocks asked_parts image av.ends from es in
       lines ≡ written_lines (all_layings image.sizes contents parts) parts (all_replaced es)
 
 -- the image after the first k steps is accepted: before the commit point it means what it meant at first, and from it on what the
@@ -129,7 +129,7 @@ pub record AreLinesOf (image : Image) (contents : List ℕ) (es : List Edit) (li
 abbrev pub CutIsEdited : Image → Avoided → List ℕ → List Edit → List Step → ℕ → Type 0
 CutIsEdited image av contents es steps k =
     (a : AttachValue) × IsAttached image a
-    × (let n = of_blocks edited_in image (avoiding av a).meaning (all_asked image.sizes contents es) in
+    × (let n = of_blocks edited_in image av.ends a.meaning (all_asked image.sizes contents es) in
     CutAccepts image steps (turn image.sizes steps (table_pages image.sizes (records_of n))) a.meaning n k)
 
 -- the steps that are planned for what is asked
@@ -149,7 +149,7 @@ module _ (av : Avoided) (w : AskedEdits) (contents : List ℕ) (stop : Option �
   -- nothing
   pub data UpdatesFrom (pages : List ℕ) (old now : Option (List ℕ)) : Outcome → Type 0 where
     planned_from : {o : Outcome} (es : List Edit) (steps : List Step) (lines : List ℕ) → ArePlanned av w contents s k agrees es steps
-        → WhereHeld agrees (λ bytes. AreLinesOf (image_of s bytes) contents es lines)
+        → WhereHeld agrees (λ bytes. AreLinesOf (image_of s bytes) av contents es lines)
         → Gives o (says (lines ++ plan_lines steps) 0) → pages ≡ programmed (take (steps_done steps stop) steps)
         → Wrote agrees old now (cut_text s steps (steps_done steps stop)) All 0 k.size
         → WhereHeld agrees (λ bytes. CutIsEdited (image_of s bytes) av contents es steps (steps_done steps stop)) → UpdatesFrom pages old now o
@@ -161,7 +161,7 @@ module _ (av : Avoided) (w : AskedEdits) (contents : List ℕ) (stop : Option �
         → WhereHeld agrees (λ bytes. AreEditsOf (image_of s bytes) w es) → IsUpdateErrorIn s k agrees av contents es e
         → error_line w e ≡ Some line → Gives o (says line 1) → Keeps old now → UpdatesFrom pages old now o
     unread_from : {o : Outcome} (es : List Edit) (i at : ℕ) → WhereHeld agrees (λ bytes. AreEditsOf (image_of s bytes) w es)
-        → WhereHeld agrees (λ bytes. IsAskedAt (image_of s bytes) es i at) → Gives o (says (unread_contents_line w.paths i) 1) → Keeps old now
+        → WhereHeld agrees (λ bytes. IsAskedAt (image_of s bytes) av es i at) → Gives o (says (unread_contents_line w.paths i) 1) → Keeps old now
         → UpdatesFrom pages old now o
 
   -- why there is no answer: memory ran out, and the writer received nothing; or a read or a write failed, and it received

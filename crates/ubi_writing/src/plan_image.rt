@@ -1,18 +1,18 @@
-//! The image of a plan, and the sequence numbers that stand in its bad eraseblocks.
+//! The image of a plan, and what headers in its bad eraseblocks name.
 
-ghost use Rattle.std.specs.Prelude.{◌≡◌, ◌≢◌, ◌<◌, ◌≤◌, IfErr, IfOk, IfSome, codes, length};
-ghost use Rattle.ubi_change.specs.Listed.{listed_top};
+ghost use Rattle.std.specs.Prelude.{◌≡◌, ◌≢◌, ◌<◌, ◌≤◌, IfErr, IfOk, codes, length};
+ghost use Rattle.ubi_change.specs.Listed.{hidden_in};
 ghost use Rattle.ubi_files.specs.Answer.{Gives, says};
 ghost use Rattle.ubi_files.specs.Dump.{seen};
 ghost use Rattle.ubi_files.specs.Lines.{file_line};
 ghost use Rattle.ubi_files.specs.Opened.{IsOpened, IsUnreadOf, WhereAtPlaces};
 ghost use Rattle.ubi_files.specs.OverFile.{IsUnseen};
 ghost use Rattle.ubi_files.specs.Told.{Tells};
-ghost use Rattle.ubi_scan.specs.Source.{blocks_in, blocks_of};
-ghost use Rattle.ubi_writing.specs.PlanImage.{IsListedTop, bare};
+ghost use Rattle.ubi_scan.specs.Source.{Narrows, WhereHeld, blocks_in, blocks_of};
+ghost use Rattle.ubi_writing.specs.PlanImage.{IsHiddenAt, bare};
 
 use std::alloc::Global;
-use ubi_change::listed_top;
+use ubi_change::{Hidden, find_hidden};
 use ubi_files::{
     Disk, Dump, DumpSource, Frame, OpenImage, Seen, ToolError, Unread, mask, open_beside,
     unread_file,
@@ -26,9 +26,8 @@ use ubi_volume::is_blank_part;
 pub struct PlanImage<S> {
     /// The image, in which bad eraseblocks read 0xFF.
     pub image: OpenImage<S>,
-    /// The greatest sequence number that a header in a bad eraseblock names, 0 if none does. A kernel that doesn't know that the eraseblock
-    /// is bad reads the header.
-    pub above: u64,
+    /// What headers in bad eraseblocks name. A kernel that doesn't know that these eraseblocks are bad reads them.
+    pub hidden: Hidden,
 }
 
 /// A dump whose bad eraseblocks are read as they are.
@@ -85,49 +84,50 @@ fn remark_listed<R: Eprint, S: BlockSource>(
     }
 }
 
-/// The greatest sequence number that a header in a bad eraseblock of a source names.
+/// What headers in bad eraseblocks of a source name.
 ///
 /// # Errors
 ///
 /// The line of a file that can't be read, or that memory ran out.
-fn top_in<S: BlockSource>(
+fn hidden_from<S: BlockSource>(
     alloc: Global,
     geometry: &Geometry,
     source: &mut S,
     marks: &[bool],
     path: &str,
-) -> Result<u64, Unread>
+) -> Result<Hidden, Unread>
     ensures known { IfOk result (λ _. S.known source.new ≡ S.known source.old) }
-    ensures top { IfOk result (λ n. IfSome (S.known source.old).held (λ bytes. n ≡ listed_top geometry.now (blocks_of geometry.now bytes) marks.now)) }
+    ensures narrows { Narrows (S.agrees source.old) (S.agrees source.new) }
+    ensures hidden { IfOk result (λ h. WhereHeld (S.agrees source.new) (λ bytes. h ≡ hidden_in geometry.now (blocks_of geometry.now bytes) marks.now)) }
     ensures unread { IfErr result (Tells (λ o. Gives o (says (file_line (codes "cannot read ") path.now) 1))) }
 {
-    match listed_top(alloc, geometry, source, marks) {
-        Ok(top) => Ok(top),
+    match find_hidden(alloc, geometry, source, marks) {
+        Ok(hidden) => Ok(hidden),
         Err(StreamError::Memory) => Err(Unread::Memory),
         Err(_) => Err(unread_file(alloc, path, ToolError::Read)),
     }
 }
 
-/// The greatest sequence number that a header in a bad eraseblock of an image in memory names.
+/// What headers in bad eraseblocks of an image in memory name.
 ///
 /// # Errors
 ///
-/// As [`top_in`].
-fn top_whole<D: Disk + Eprint>(
+/// As [`hidden_from`].
+fn hidden_whole<D: Disk + Eprint>(
     disk: &D,
     alloc: Global,
     geometry: &Geometry,
     image: &[u8],
     marks: &[bool],
     path: &str,
-) -> Result<u64, Unread>
-    ensures top { IfOk result (λ n. n ≡ listed_top geometry.now (blocks_of geometry.now image.now) marks.now) }
+) -> Result<Hidden, Unread>
+    ensures hidden { IfOk result (λ h. h ≡ hidden_in geometry.now (blocks_of geometry.now image.now) marks.now) }
     ensures unread { IfErr result (Tells (λ o. Gives o (says (file_line (codes "cannot read ") path.now) 1))) }
 {
     let mut source = MemorySource::new(image);
-    let above = top_in(alloc, geometry, &mut source, marks, path)?;
+    let hidden = hidden_from(alloc, geometry, &mut source, marks, path)?;
     remark_listed(disk, alloc, geometry, &mut source, marks, path);
-    Ok(above)
+    Ok(hidden)
 }
 
 /// What is known of a dump before its image is opened for a plan.
@@ -154,7 +154,7 @@ pub fn open_plan_image<'f, D: Disk + Eprint>(
     requires { plan.now.bare.dump ≡ bare plan.now.frame.dump }
     ensures opened { IfOk result (λ opened. IsOpened (λ s. IsUnreadOf (seen plan.now.frame.dump (D.files disk.now)) path.now (⟦<Seen<'static, D::Placed> as PlacedFile>⟧.bytes s.file) s.failures) (D.files disk.now) path.now plan.now.frame.dump opened.image) }
     ensures apart { IfOk result (λ opened. WhereAtPlaces (path.now ≢ out.now) opened.image) }
-    ensures top { IfOk result (λ opened. IsListedTop (D.files disk.now) plan.now.frame.dump path.now opened.above) }
+    ensures hidden { IfOk result (λ opened. IsHiddenAt (D.files disk.now) plan.now.frame.dump path.now opened.hidden) }
     ensures unread { IfErr result (Tells (IsUnseen (D.files disk.now) plan.now.frame.dump path.now)) }
 {
     let PlanFrame { frame, bare } = plan;
@@ -162,18 +162,18 @@ pub fn open_plan_image<'f, D: Disk + Eprint>(
     let geometry = frame.geometry;
     match open_beside(disk, alloc, bare, path, out)? {
         OpenImage::AtPlaces(mut file) => {
-            let above = top_in(alloc, &geometry, &mut file.source, marks, path)?;
+            let hidden = hidden_from(alloc, &geometry, &mut file.source, marks, path)?;
             remark_listed(disk, alloc, &geometry, &mut file.source, marks, path);
             let image = open_beside(disk, alloc, frame, path, out)?;
-            Ok(PlanImage { image, above })
+            Ok(PlanImage { image, hidden })
         }
         OpenImage::Whole(file) => {
             let mut file = file;
-            let above = top_whole(disk, alloc, &geometry, file.bytes.as_slice(), marks, path)?;
+            let hidden = hidden_whole(disk, alloc, &geometry, file.bytes.as_slice(), marks, path)?;
             mask(file.bytes.as_mut_slice(), geometry.peb_size(), marks);
             Ok(PlanImage {
                 image: OpenImage::Whole(file),
-                above,
+                hidden,
             })
         }
     }

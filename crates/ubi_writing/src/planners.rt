@@ -14,7 +14,7 @@ ghost use Rattle.ubi_writing.specs.Rename.{HasRename, RenamesFrom};
 ghost use Rattle.ubi_dumps.specs.Ended.{Works};
 ghost use Rattle.ubi_writing.specs.inner.Replaced.{FinishesAtOnce};
 ghost use Rattle.ubi_change.specs.Laying.{StaysOpen};
-ghost use Rattle.ubi_writing.specs.PlanImage.{AboveListed, bare};
+ghost use Rattle.ubi_writing.specs.PlanImage.{WithHidden, bare};
 ghost use Rattle.ubi_writing.specs.Pages.{IsSoundPages, pages_made};
 ghost use Rattle.ubi_writing.specs.declared.pages.Made.{Made};
 ghost use Rattle.ubi_files.specs.Lines.{file_line};
@@ -32,7 +32,7 @@ use crate::contents::Contents;
 use crate::orders::{Change, Plan, Rename, Update};
 use crate::pages::Pages;
 use crate::pages_file::write_pages_file;
-use crate::plan_image::{PlanFrame, bare, open_plan_image};
+use crate::plan_image::{PlanFrame, PlanImage, bare, open_plan_image};
 use crate::writers::{Way, Writing, replaced, write_opened};
 use std::alloc::{AllocError, Global};
 use std::marker::Brand;
@@ -496,7 +496,7 @@ pub fn change_file<D: Disk + Eprint>(
     dump: &Dump<'_>,
     asked: &Change<'_>,
 ) -> Result<Outcome, AllocError>
-    ensures answer { IfOk result (WithList (D.files disk.old) (D.files disk.new) dump.now.bad asked.now.plan.paths.image.now (OnGrid (D.files disk.old) (D.files disk.new) dump.now asked.now.plan.paths.image.now (AboveListed (D.files disk.old) dump.now asked.now.plan.paths.image.now (λ above. OfFile (D.files disk.old) dump.now asked.now.plan.paths.image.now (λ s k agrees. OfImage (D.files disk.old) dump.now.numbers asked.now.from.now (λ f. WritesPlan asked.now.plan.paths.out.now asked.now.plan.pages (D.files disk.old) (D.files disk.new) (ChangesFrom (avoided dump.now asked.now.plan above) asked.now.id asked.now.lnum f.bytes asked.now.plan.stop s k agrees) (HasPlan (avoided dump.now asked.now.plan above) asked.now.id asked.now.lnum f.bytes s k agrees))))))) }
+    ensures answer { IfOk result (WithList (D.files disk.old) (D.files disk.new) dump.now.bad asked.now.plan.paths.image.now (OnGrid (D.files disk.old) (D.files disk.new) dump.now asked.now.plan.paths.image.now (WithHidden (D.files disk.old) dump.now asked.now.plan.paths.image.now (λ hidden. OfFile (D.files disk.old) dump.now asked.now.plan.paths.image.now (λ s k agrees. OfImage (D.files disk.old) dump.now.numbers asked.now.from.now (λ f. WritesPlan asked.now.plan.paths.out.now asked.now.plan.pages (D.files disk.old) (D.files disk.new) (ChangesFrom (avoided dump.now asked.now.plan hidden) asked.now.id asked.now.lnum f.bytes asked.now.plan.stop s k agrees) (HasPlan (avoided dump.now asked.now.plan hidden) asked.now.id asked.now.lnum f.bytes s k agrees))))))) }
     ensures stays { PlanStays (D.files disk.old) (D.files disk.new) asked.now.plan }
     ensures image { IfOk result (KeepsImage (D.files disk.old) (D.files disk.new) asked.now.plan.paths.image.now) }
     ensures part { KeepsPart (D.files disk.old) (D.files disk.new) dump.now asked.now.plan.paths.image.now }
@@ -508,7 +508,10 @@ pub fn change_file<D: Disk + Eprint>(
         Ok(frame) => frame,
         Err(unplanned) => return unplanned.answer(),
     };
-    let opened = match open_plan_image(disk, alloc, &frame, image, out) {
+    let PlanImage {
+        image: opened,
+        hidden,
+    } = match open_plan_image(disk, alloc, &frame, image, out) {
         Ok(opened) => opened,
         Err(unread) => return unread.answer(),
     };
@@ -519,7 +522,8 @@ pub fn change_file<D: Disk + Eprint>(
     let avoided = Avoided::new(
         frame.frame.marks.as_slice(),
         asked.plan.keeps_blank,
-        opened.above,
+        hidden.above(),
+        hidden.ends(),
     );
     let new = NewBytes {
         id: asked.id,
@@ -533,7 +537,7 @@ pub fn change_file<D: Disk + Eprint>(
         disk,
         alloc,
         dump,
-        opened.image,
+        opened,
         &asked.plan,
         &reads,
         &command,
@@ -548,7 +552,7 @@ pub fn rename_file<D: Disk + Eprint>(
     dump: &Dump<'_>,
     asked: &Rename<'_>,
 ) -> Result<Outcome, AllocError>
-    ensures answer { IfOk result (WithList (D.files disk.old) (D.files disk.new) dump.now.bad asked.now.plan.paths.image.now (OnGrid (D.files disk.old) (D.files disk.new) dump.now asked.now.plan.paths.image.now (AboveListed (D.files disk.old) dump.now asked.now.plan.paths.image.now (λ above. OfFile (D.files disk.old) dump.now asked.now.plan.paths.image.now (λ s k agrees. WritesPlan asked.now.plan.paths.out.now asked.now.plan.pages (D.files disk.old) (D.files disk.new) (RenamesFrom (avoided dump.now asked.now.plan above) asked.now.id asked.now.name.now asked.now.plan.stop s k agrees) (HasRename (avoided dump.now asked.now.plan above) asked.now.id asked.now.name.now s k agrees)))))) }
+    ensures answer { IfOk result (WithList (D.files disk.old) (D.files disk.new) dump.now.bad asked.now.plan.paths.image.now (OnGrid (D.files disk.old) (D.files disk.new) dump.now asked.now.plan.paths.image.now (WithHidden (D.files disk.old) dump.now asked.now.plan.paths.image.now (λ hidden. OfFile (D.files disk.old) dump.now asked.now.plan.paths.image.now (λ s k agrees. WritesPlan asked.now.plan.paths.out.now asked.now.plan.pages (D.files disk.old) (D.files disk.new) (RenamesFrom (avoided dump.now asked.now.plan hidden) asked.now.id asked.now.name.now asked.now.plan.stop s k agrees) (HasRename (avoided dump.now asked.now.plan hidden) asked.now.id asked.now.name.now s k agrees)))))) }
     ensures stays { PlanStays (D.files disk.old) (D.files disk.new) asked.now.plan }
     ensures image { IfOk result (KeepsImage (D.files disk.old) (D.files disk.new) asked.now.plan.paths.image.now) }
     ensures part { KeepsPart (D.files disk.old) (D.files disk.new) dump.now asked.now.plan.paths.image.now }
@@ -559,14 +563,18 @@ pub fn rename_file<D: Disk + Eprint>(
         Ok(frame) => frame,
         Err(unplanned) => return unplanned.answer(),
     };
-    let opened = match open_plan_image(disk, alloc, &frame, image, out) {
+    let PlanImage {
+        image: opened,
+        hidden,
+    } = match open_plan_image(disk, alloc, &frame, image, out) {
         Ok(opened) => opened,
         Err(unread) => return unread.answer(),
     };
     let avoided = Avoided::new(
         frame.frame.marks.as_slice(),
         asked.plan.keeps_blank,
-        opened.above,
+        hidden.above(),
+        hidden.ends(),
     );
     let word = asked.name.as_bytes();
     let command = Writing::Rename(asked.id, word, &avoided, asked.plan.stop);
@@ -575,7 +583,7 @@ pub fn rename_file<D: Disk + Eprint>(
         disk,
         alloc,
         dump,
-        opened.image,
+        opened,
         &asked.plan,
         &[],
         &command,
@@ -623,7 +631,7 @@ pub fn update_file<D: Disk + Eprint>(
     dump: &Dump<'_>,
     asked: &Update<'_>,
 ) -> Result<Outcome, AllocError>
-    ensures answer { IfOk result (WithList (D.files disk.old) (D.files disk.new) dump.now.bad asked.now.plan.paths.image.now (OnGrid (D.files disk.old) (D.files disk.new) dump.now asked.now.plan.paths.image.now (AboveListed (D.files disk.old) dump.now asked.now.plan.paths.image.now (λ above. OfFile (D.files disk.old) dump.now asked.now.plan.paths.image.now (λ s k agrees. OfConfig (D.files disk.old) dump.now.numbers asked.now.config (λ xs. OfContents (D.files disk.old) dump.now.numbers asked.now.contents.now (config_path asked.now.config) xs (λ fs gs bytes. WritesPlan asked.now.plan.paths.out.now asked.now.plan.pages (D.files disk.old) (D.files disk.new) (UpdatesFrom (avoided dump.now asked.now.plan above) (all_asked_edits asked.now xs fs gs) bytes asked.now.plan.stop s k agrees) (HasUpdate (avoided dump.now asked.now.plan above) (all_asked_edits asked.now xs fs gs) bytes s k agrees)))))))) }
+    ensures answer { IfOk result (WithList (D.files disk.old) (D.files disk.new) dump.now.bad asked.now.plan.paths.image.now (OnGrid (D.files disk.old) (D.files disk.new) dump.now asked.now.plan.paths.image.now (WithHidden (D.files disk.old) dump.now asked.now.plan.paths.image.now (λ hidden. OfFile (D.files disk.old) dump.now asked.now.plan.paths.image.now (λ s k agrees. OfConfig (D.files disk.old) dump.now.numbers asked.now.config (λ xs. OfContents (D.files disk.old) dump.now.numbers asked.now.contents.now (config_path asked.now.config) xs (λ fs gs bytes. WritesPlan asked.now.plan.paths.out.now asked.now.plan.pages (D.files disk.old) (D.files disk.new) (UpdatesFrom (avoided dump.now asked.now.plan hidden) (all_asked_edits asked.now xs fs gs) bytes asked.now.plan.stop s k agrees) (HasUpdate (avoided dump.now asked.now.plan hidden) (all_asked_edits asked.now xs fs gs) bytes s k agrees)))))))) }
     ensures stays { PlanStays (D.files disk.old) (D.files disk.new) asked.now.plan }
     ensures image { IfOk result (KeepsImage (D.files disk.old) (D.files disk.new) asked.now.plan.paths.image.now) }
     ensures part { KeepsPart (D.files disk.old) (D.files disk.new) dump.now asked.now.plan.paths.image.now }
@@ -636,7 +644,10 @@ pub fn update_file<D: Disk + Eprint>(
         Ok(frame) => frame,
         Err(unplanned) => return unplanned.answer(),
     };
-    let opened = match open_plan_image(disk, alloc, &frame, image, out) {
+    let PlanImage {
+        image: opened,
+        hidden,
+    } = match open_plan_image(disk, alloc, &frame, image, out) {
         Ok(opened) => opened,
         Err(unread) => return unread.answer(),
     };
@@ -659,7 +670,8 @@ pub fn update_file<D: Disk + Eprint>(
     let avoided = Avoided::new(
         frame.frame.marks.as_slice(),
         asked.plan.keeps_blank,
-        opened.above,
+        hidden.above(),
+        hidden.ends(),
     );
     let command = Writing::Update(&edits, &avoided, asked.plan.stop);
     let mut pages = Pages::of(alloc, FileSource::of(FileRow::new(files), total));
@@ -667,7 +679,7 @@ pub fn update_file<D: Disk + Eprint>(
         disk,
         alloc,
         dump,
-        opened.image,
+        opened,
         &asked.plan,
         reads.as_slice(),
         &command,

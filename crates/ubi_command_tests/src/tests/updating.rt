@@ -60,7 +60,7 @@ fn answer_with<S: BlockSource, T: BlockSource + Drop>(
         alloc,
         geometry,
         source,
-        &Avoided::new(&LISTED, false, 0),
+        &Avoided::new(&LISTED, false, 0, &[]),
         &asked,
         stop,
         writer,

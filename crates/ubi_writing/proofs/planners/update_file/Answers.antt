@@ -1,7 +1,6 @@
-use Rattle.ubi_writing.proofs.Prelude.{AskedEdits, HasUpdate, IfOk-weaker, IsAllAsked, OfFile-weaker, TheseStay, UpdatesFrom, WritesPlan, all_asked_edits, all_bytes, ap, asked_edits, avoided, blank, bytes_in, drop, keeps_promise, known_by, map, masked, no_file, of_any, on_grid, option_map, pages_of, row_bytes, row_sized, subst, sym, take, told, with_list, ◌++◌, ◌∙◌, ◌≡◌, all_reads}
+use Rattle.ubi_writing.proofs.Prelude.{AskedEdits, HasUpdate, IfOk-weaker, IsAllAsked, OfFile-weaker, TheseStay, UpdatesFrom, WritesPlan, all_asked_edits, all_bytes, ap, asked_edits, avoided, blank, bytes_in, drop, keeps_promise, known_by, map, masked, of_any, on_grid, option_map, pages_of, row_bytes, row_sized, subst, sym, take, told, with_list, ◌++◌, ◌∙◌, ◌≡◌, all_reads, hiding, no_dump}
 use Rattle.ubi_writing.proofs.FilledContents.{promise_kept}
 use Rattle.ubi_writing.proofs.KeptReads.{config_kept, words_kept}
-use Rattle.ubi_writing.proofs.PlanImages.{above_any, above_as}
 use Rattle.ubi_writing.proofs.Planned.{unplanned_any}
 use Rattle.ubi_writing.specs.Contents as contents
 use Rattle.ubi_writing.proofs.AskedVolumes.{same_edits, unasked_told}
@@ -15,7 +14,7 @@ returns-in-Err-clause-answer g c =
 
 pub returns-in-Err-open_plan_image-clause-answer : goal.returns-in-Err-open_plan_image-clause-answer
 returns-in-Err-open_plan_image-clause-answer g c =
-    IfOk-weaker c.answer-in-Err-open_plan_image.result _ _ (λ o h. with_list (on_grid c.in-Ok.ensures.grid (above_any _ c.args.dump.now c.args.asked.now.plan.paths.image.now _ (λ n. no_file h))))
+    IfOk-weaker c.answer-in-Err-open_plan_image.result _ _ (λ o h. with_list (on_grid c.in-Ok.ensures.grid (no_dump h)))
     (told _ c.in-Err-open_plan_image.unread c.answer-in-Err-open_plan_image.result
     (rw c.in-Ok.ensures.dump at c.in-Err-open_plan_image.ensures.unread) c.answer-in-Err-open_plan_image.ensures)
 
@@ -23,8 +22,8 @@ pub returns-in-Err-gather_asked-clause-answer : goal.returns-in-Err-gather_asked
 returns-in-Err-gather_asked-clause-answer g c =
     let dump = c.args.dump.now in
     IfOk-weaker c.answer-in-Err-gather_asked.result _ _
-    (λ o h. with_list (on_grid c.in-Ok.ensures.grid (above_as _ _ _ _ c.in-Ok-open_plan_image.opened.above
-    (rw c.in-Ok.ensures.dump at c.in-Ok-open_plan_image.ensures.top) (of_any
+    (λ o h. with_list (on_grid c.in-Ok.ensures.grid (hiding c.in-Ok-open_plan_image.opened.hidden
+    (rw c.in-Ok.ensures.dump at c.in-Ok-open_plan_image.ensures.hidden) (of_any
     (λ s. record { size = s.len; failures = s.failures; held = option_map (masked s.file.size s.file.marks.now) (option_map (λ all. blank s.file.file.file.before ++ all) (option_map (pages_of s.file.file.file.file.file.page s.file.file.file.file.file.oob) (option_map (λ all. take s.file.file.file.file.file.file.file.len (drop s.file.file.file.file.file.file.file.start all)) (g.D.Placed.PlacedFile.bytes s.file.file.file.file.file.file.file.file.file)))) })
     (λ s. s.trace.reads) _
     (g.D.Disk.files c.args.disk.now) dump c.args.asked.now.plan.paths.image.now _ o (λ s. keeps_promise _ _ _ s.told) (λ s is. is)
@@ -60,7 +59,7 @@ returns-clause-answer g c =
     let u = c.args.asked.now in
     let d = g.D.Disk.files c.args.disk.now in
     let e = g.D.Disk.files c.write_plan-work.new.disk in
-    let av = avoided dump u.plan c.in-Ok-open_plan_image.opened.above in
+    let av = avoided dump u.plan c.in-Ok-open_plan_image.opened.hidden in
     let all = by g c in
     let left = c.write_plan-work.new.pages.contents in
     let reads = left.trace.reads in
@@ -68,11 +67,11 @@ returns-clause-answer g c =
     (rw (c.of-pages.ensures.contents, c.of.ensures.len) at c.write_plan-work.ensures.contents.size) ∙ all.total in
     let held = (rw (c.of-pages.ensures.contents, c.of.ensures.file, c.new.ensures) at c.write_plan-work.ensures.contents.held) ∙ ap row_bytes all.held in
     let promise = keeps_promise _ left.len reads left.told in
-    let given : c.new-avoided.result ≡ avoided dump u.plan c.in-Ok-open_plan_image.opened.above =
-    rw (c.as_slice-5.ensures.value, c.in-Ok.frame.frame.marked, c.in-Ok.ensures.dump) at c.new-avoided.ensures in
+    let given : c.new-avoided.result ≡ avoided dump u.plan c.in-Ok-open_plan_image.opened.hidden =
+    rw (c.as_slice-5.ensures.value, c.in-Ok.frame.frame.marked, c.in-Ok.ensures.dump, c.above.ensures, c.ends.ensures) at c.new-avoided.ensures in
     IfOk-weaker c.write_plan-work.result _ _
-    (λ o h. with_list (on_grid c.in-Ok.ensures.grid (above_as _ _ _ _ c.in-Ok-open_plan_image.opened.above
-    (rw c.in-Ok.ensures.dump at c.in-Ok-open_plan_image.ensures.top) (OfFile-weaker d dump u.plan.paths.image.now _ _
+    (λ o h. with_list (on_grid c.in-Ok.ensures.grid (hiding c.in-Ok-open_plan_image.opened.hidden
+    (rw c.in-Ok.ensures.dump at c.in-Ok-open_plan_image.ensures.hidden) (OfFile-weaker d dump u.plan.paths.image.now _ _
     (λ s k agrees o a. contents.sections all.sections all.config (contents.contents all.filled all.imaged reads all.are all.are_imaged
     (promise_kept _ _ left.len _ reads held size promise)
     (λ bytes known. subst (λ (w : AskedEdits). WritesPlan u.plan.paths.out.now u.plan.pages d e (UpdatesFrom av w bytes u.plan.stop s k agrees)

@@ -1,4 +1,4 @@
-use Rattle.ubi_calls.proofs.Prelude.{ap₂, blocks_of, listed_top, ◌≡◌, ◌∙◌, ap, length, subst, sym, Avoided, Bool, IfOk-weaker, List, ReadBlank, image_of, masked, of_blocks, ℕ, eqb-true, with_items_is}
+use Rattle.ubi_calls.proofs.Prelude.{Hidden, ap₂, blocks_of, hidden_in, ◌≡◌, ◌∙◌, ap, length, subst, sym, Avoided, Bool, IfOk-weaker, List, ReadBlank, image_of, masked, of_blocks, ℕ, eqb-true, with_items_is}
 use Rattle.ubi_calls.proofs.MaskedBlocks.{none_held}
 use Rattle.ubi_calls.proofs.Spared.{for_chip, unmarked}
 use Rattle.ubi_calls.proofs.plans.Edit.plan_sparing.Goals as goal
@@ -12,8 +12,10 @@ returns-then-is_empty c =
     (λ o is. for_chip c.args.self.now chip s c.args.image.now _ _
     (unmarked s chip.bad.now c.args.image.now (sym (ap length marked) ∙ eqb-true _ _ (sym c.if-is_empty.ensures)))
     (c.new-avoided.ensures
-    ∙ ap₂ (λ (m : List Bool) (n : ℕ). record { marks = m; blank = chip.keeps_blank; above = n }) marked
-    (c.in_ok-above.ensures ∙ ap (λ (m : List Bool). listed_top s (blocks_of s c.args.image.now) m) marked)) _ _ _ is)
+    ∙ ap₂ (λ (n : ℕ) (ends : List ℕ). record { marks = c.as_slice-marks.result.now; blank = chip.keeps_blank; above = n; ends = ends })
+    c.above.ensures c.ends.ensures
+    ∙ ap₂ (λ (m : List Bool) (h : Hidden). record { marks = m; blank = chip.keeps_blank; above = h.above; ends = h.ends }) marked
+    (c.in_ok-hidden.ensures ∙ ap (λ (m : List Bool). hidden_in s (blocks_of s c.args.image.now) m) marked)) _ _ _ is)
     c.plan.ensures
 
 pub plan-requires-2-clause-blank : goal.plan-requires-2-clause-blank
