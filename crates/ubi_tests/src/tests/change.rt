@@ -1,4 +1,5 @@
 mod changes;
+mod hidden;
 mod images;
 mod memory;
 mod places;
