@@ -4,7 +4,7 @@ use super::images::{LARGE, LARGE_SHARED, SMALL, Sizes};
 use std::alloc::Global;
 use std::process::Abort;
 use std::test::Fail;
-use ubi_change::find_hidden;
+use ubi_change::{Hidden, find_hidden};
 use ubi_probe::pebs::{ERASED, FIRST, FREE, NAMED, NO_DATA, Peb, TORN, Vid, image_of};
 use ubi_scan::MemorySource;
 
@@ -30,6 +30,14 @@ static CASES: [(&[bool], u64, (u64, u64)); 5] = [
     (&[true; 64], u64::MAX, (7, 0x8000_0000)),
 ];
 
+/// The end of a volume, 0 if there is none.
+fn end_of(hidden: &Hidden, volume: usize) -> u64 {
+    match hidden.ends().get(volume) {
+        Some(end) => *end,
+        None => 0,
+    }
+}
+
 /// Asserts what is found in eraseblocks of these sizes.
 fn assert_found(rt: &impl Abort, alloc: Global, sizes: &Sizes) -> Result<(), Fail> {
     let geometry = sizes.geometry()?;
@@ -41,7 +49,7 @@ fn assert_found(rt: &impl Abort, alloc: Global, sizes: &Sizes) -> Result<(), Fai
         };
         assert_eq!(rt; hidden.above(), *above);
         assert_eq!(rt; hidden.ends().len(), geometry.slots() as usize);
-        assert_eq!(rt; (hidden.ends()[0], hidden.ends()[1]), *ends);
+        assert_eq!(rt; (end_of(&hidden, 0), end_of(&hidden, 1)), *ends);
     }
     Ok(())
 }
