@@ -10,11 +10,12 @@ fastmap; then the chip is dumped. Of the dump a change of a LEB that is mapped o
 planned. The command has to name the eraseblock in which the fastmap begins, and carry_out.sh has to refuse the plan,
 with nothing written. The eraseblock is erased by the words of its line, and the same is planned on a new dump. The image
 after many numbers of steps is written to the chip, and the kernel attaches it: the volumes have to read all the old, or
-from some number on all the new, and so they do when it attaches the chip again, by the fastmap that it has written
-meanwhile. The whole plan is carried out by carry_out.sh.
+from some number on all the new, and the same when it attaches the chip again, after it has detached it and so may have
+written a fastmap. The whole plan is carried out by carry_out.sh.
 
-For each plan a line also tells what the kernel reads after a plan that leaves the fastmap: if it never reads anything
-but the new, it hasn't used the fastmap, and the script says so and fails.
+For each plan a line also tells what the kernel reads after a plan that leaves the fastmap. That may be the new, since
+it looks at some eraseblocks again; but if it never reads anything else, nothing shows that it uses fastmaps, and the
+script says so and fails.
 
 By default there are 20 plans (--plans) of the seed 1 (--seed), with 10 cuts (--cuts) each. The last line is 'N passed, M
 failed', and the exit status is 0 if none failed. The other options are those of cuts.py.

@@ -41,6 +41,7 @@ pub mod Grounded
 pub mod GroupPlaces
 pub mod GroupsApart
 pub mod HeadersKept
+pub mod HiddenVectors
 pub mod JudgedFirst
 pub mod KnownEdits
 pub mod Laid

@@ -64,7 +64,7 @@ pub use Rattle.ubi_media.specs.Geometry.{IsGeometry, Sizes, leb_size, slots}
 pub use Rattle.ubi_media.specs.Kind.{is_static}
 pub use Rattle.ubi_media.specs.Name.{is_name}
 pub use Rattle.ubi_media.specs.Record.{data_pad, rec_fault, usable}
-pub use Rattle.ubi_media.specs.Vid.{kind_number, vid_bytes, vid_fault, vid_front}
+pub use Rattle.ubi_media.specs.Vid.{kind_number, plain, vid_bytes, vid_fault, vid_front}
 unfoldable pub use Rattle.ubi_media.specs.Vid.{breaks, fields_from, first_fault, vid_fields, vid_reading}
 pub use Rattle.ubi_media.specs.Widths.{VidFits}
 pub use Rattle.ubi_media.specs.declared.ec.EcFault.{EcFault}

@@ -136,7 +136,7 @@ pub enum EditFault {
     /// The volume would get another size, but its update didn't end, or it is damaged.
     NotWhole,
     /// The volume would get another size, but an eraseblock is a member of one of its logical eraseblocks at or above the
-    /// lesser of the two sizes.
+    /// lesser of the two sizes, or a header in a listed eraseblock names one.
     InUse,
 }
 
@@ -167,8 +167,8 @@ pub enum UpdateRefusal {
     Edit(usize, EditFault),
     /// Two volumes would have one name: their slots.
     SameName(u32, u32),
-    /// More volumes are written than slots are free, without a volume and without a member of one with its number: how many are needed,
-    /// and how many there are.
+    /// More volumes are written than slots are free, without a volume, without a member of one with its number, and without such a number
+    /// in a header of a listed eraseblock: how many are needed, and how many there are.
     NoSlot(usize, usize),
     /// The volumes would reserve more eraseblocks than before, and with the four that UBI needs more than there are that may be touched: how
     /// many are needed, and how many there are.
